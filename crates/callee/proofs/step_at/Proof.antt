@@ -1,0 +1,115 @@
+-- `callee::step_at` meets its contract. Assumes nothing.
+use borrow.Author.Needs.{needs}
+use mathlib.Core.Path.{_≡_, sym, _∙_, ap}
+use mathlib.Core.Bool.{Bool, true, false}
+use mathlib.Core.List.{List}
+use Prim.Native.Nat.{ℕ, _<_, _≤_}
+use native.Mathlib.Omega.{arith}
+use borrow.Author.Tests.{eq-eqb, ne-eqb}
+use Rattle.code.specs.Op.{StoreTopR, LoadGlobalR}
+use Rattle.code.specs.Ins.{insAt, count}
+use Rattle.code.specs.Check.{Valid}
+use Rattle.code.specs.declared.Ins.{Ins}
+use Rattle.callee.specs.declared.Place.{Place}
+use Rattle.callee.specs.declared.Place.the-variants.{At, Nowhere}
+use Rattle.callee.specs.declared.Step.the-variants.{Pass, Back, Tell}
+use Rattle.callee.specs.declared.Callee.the-variants.{Bound, Unknown}
+use Rattle.callee.specs.Trace.{pushedBack, setsIt, passesBy, stepAt}
+use Rattle.callee.proofs.Tracing.{pushed-falls}
+use Rattle.callee.proofs.step_at.Statement.{statement}
+use Rattle.callee.proofs.step_at.Tie as tie
+
+module _ (w : List ℕ) (d a : ℕ) (i : Ins) (e : i ≡ insAt w d) (b : Bool) (f : b ≡ setsIt i a) where
+  module _ (t : b ≡ true) where
+    sets : setsIt (insAt w d) a ≡ true
+    sets = sym (ap (λ (x : Ins). setsIt x a) e) ∙ sym f ∙ t
+
+    module _ (o : i .op ≡ StoreTopR) (v : Place) (g : v ≡ pushedBack w d a) where
+      to-push : (p : ℕ) → v ≡ At p → Back p ≡ stepAt w d a
+      unfolding stepAt
+      to-push p h = rw (sets, eq-eqb (insAt w d .op) StoreTopR (rw e at o), sym g ∙ h)
+
+      to-none : v ≡ Nowhere → Tell Unknown ≡ stepAt w d a
+      unfolding stepAt
+      to-none h = rw (sets, eq-eqb (insAt w d .op) StoreTopR (rw e at o), sym g ∙ h)
+
+    module _ (o : i .op ≡ StoreTopR → ⊥) where
+      loaded : i .op ≡ LoadGlobalR → Tell (Bound (i .b)) ≡ stepAt w d a
+      unfolding stepAt
+      loaded h = rw (sets, ne-eqb (insAt w d .op) StoreTopR (rw e at o), eq-eqb (insAt w d .op) LoadGlobalR (rw e at h), e)
+
+      written : (i .op ≡ LoadGlobalR → ⊥) → Tell Unknown ≡ stepAt w d a
+      unfolding stepAt
+      written h = rw (sets, ne-eqb (insAt w d .op) StoreTopR (rw e at o), ne-eqb (insAt w d .op) LoadGlobalR (rw e at h))
+
+  module _ (t : b ≡ false) (p : Bool) (g : p ≡ passesBy i) where
+    quiet : setsIt (insAt w d) a ≡ false
+    quiet = sym (ap (λ (x : Ins). setsIt x a) e) ∙ sym f ∙ t
+
+    passes : p ≡ true → Pass ≡ stepAt w d a
+    unfolding stepAt
+    passes h = rw (quiet, sym (ap passesBy e) ∙ sym g ∙ h)
+
+    lost : p ≡ false → Tell Unknown ≡ stepAt w d a
+    unfolding stepAt
+    lost h = rw (quiet, sym (ap passesBy e) ∙ sym g ∙ h)
+
+fits : (w : List ℕ) (d a p : ℕ) (v : Place) → Valid w → d < count w → v ≡ pushedBack w d a → v ≡ At p → p < 65536
+fits w d a p v k l g h = let few : count w ≤ 65535 = k .few in omega (arith, pushed-falls w d a p (sym h ∙ g))
+
+ins-at-requires : tie.Need-ins-at-requires
+ins-at-requires c κs = search needs
+
+sets-it-requires : tie.Need-sets-it-requires
+sets-it-requires c κs = search needs
+
+pushed-back-of-requires : tie.Need-pushed-back-of-requires
+pushed-back-of-requires c κs = search needs
+
+enum-known-p : tie.Need-enum-known-p
+enum-known-p c = search needs
+
+cast-t9 : tie.Need-cast-t9
+cast-t9 c = search (needs, fits)
+
+returns : tie.Need-returns
+returns c = search (to-push, to-none, loaded, written, passes, lost)
+
+enum-told : tie.Need-enum-told
+enum-told c = search needs
+
+returns-2 : tie.Need-returns-2
+returns-2 c = search (to-push, to-none, loaded, written, passes, lost)
+
+returns-3 : tie.Need-returns-3
+returns-3 c = search (to-push, to-none, loaded, written, passes, lost)
+
+returns-4 : tie.Need-returns-4
+returns-4 c = search (to-push, to-none, loaded, written, passes, lost)
+
+passes-by-requires : tie.Need-passes-by-requires
+passes-by-requires c κs = search needs
+
+returns-5 : tie.Need-returns-5
+returns-5 c = search (to-push, to-none, loaded, written, passes, lost)
+
+returns-6 : tie.Need-returns-6
+returns-6 c = search (to-push, to-none, loaded, written, passes, lost)
+
+pub step-at-spec : {M : Type 1} → statement M
+step-at-spec =
+    tie.close
+    (tie.spec
+    ins-at-requires
+    sets-it-requires
+    pushed-back-of-requires
+    enum-known-p
+    cast-t9
+    returns
+    enum-told
+    returns-2
+    returns-3
+    returns-4
+    passes-by-requires
+    returns-5
+    returns-6)

@@ -1,0 +1,33 @@
+-- `chunk::to_val` meets its contract: by its kind. Assumes nothing.
+use borrow.Author.Needs.{needs}
+use Rattle.laws.proofs.Branch.{branch}
+use Rattle.chunk.specs.Pool.{toVal}
+use Rattle.chunk.proofs.to_val.Statement.{statement}
+use Rattle.chunk.proofs.to_val.Tie as tie
+
+int-val-requires : tie.Need-int-val-requires
+int-val-requires c κs = search needs
+
+returns : tie.Need-returns
+unfolding toVal
+returns c = search (needs, branch)
+
+word-to-float-requires : tie.Need-word-to-float-requires
+word-to-float-requires c κs = search needs
+
+returns-2 : tie.Need-returns-2
+unfolding toVal
+returns-2 c = search (needs, branch)
+
+returns-3 : tie.Need-returns-3
+unfolding toVal
+returns-3 c = search (needs, branch)
+
+returns-4 : tie.Need-returns-4
+unfolding toVal
+returns-4 c = search (needs, branch)
+
+pub to-val-spec : {M : Type 1} → statement M
+to-val-spec =
+    tie.close
+    (tie.spec int-val-requires returns word-to-float-requires returns-2 returns-3 returns-4)

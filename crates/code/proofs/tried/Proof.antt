@@ -1,0 +1,53 @@
+-- `code::tried` meets its contract: it tests a count and passes a refusal on. Assumes nothing.
+use mathlib.Core.Path.{_≡_}
+use mathlib.Core.List.{List}
+use Prim.Native.Nat.{ℕ, _<_, _≤_}
+use borrow.Author.Tests.{lt-ltb, le-ltb}
+use Rattle.code.specs.Check.{pairs, firstBadTry, triedOf}
+use Rattle.code.specs.declared.Refusal.the-variants.{Try}
+use Rattle.code.specs.declared.Checked.{Checked}
+use Rattle.code.specs.declared.Checked.the-variants.{Count, No}
+use Rattle.code.proofs.Stages.{passed-on}
+use borrow.Author.Needs.{needs}
+use Rattle.code.proofs.tried.Statement.{statement}
+use Rattle.code.proofs.tried.Tie as tie
+
+module _ (v : Checked) (t : List ℕ) (n i : ℕ) (e : v ≡ Count n) (f : i ≡ firstBadTry t n) where
+  bad : i < pairs t → No (Try i) ≡ triedOf v t
+  bad h = rw (e, ← f, lt-ltb i (pairs t) h)
+
+  good : pairs t ≤ i → Count n ≡ triedOf v t
+  good h = rw (e, ← f, le-ltb i (pairs t) h)
+
+enum-known-v : tie.Need-enum-known-v
+enum-known-v c = search needs
+
+enum-known-v-2 : tie.Need-enum-known-v-2
+enum-known-v-2 c = search needs
+
+first-bad-try-requires : tie.Need-first-bad-try-requires
+first-bad-try-requires c κs = search needs
+
+add-if1 : tie.Need-add-if1
+add-if1 c = search needs
+
+returns : tie.Need-returns
+returns c = search (passed-on, bad, good)
+
+returns-2 : tie.Need-returns-2
+returns-2 c = search (passed-on, bad, good)
+
+returns-3 : tie.Need-returns-3
+returns-3 c = search (passed-on, bad, good)
+
+pub tried-spec : {M : Type 1} → statement M
+tried-spec =
+    tie.close
+    (tie.spec
+    enum-known-v
+    enum-known-v-2
+    first-bad-try-requires
+    add-if1
+    returns
+    returns-2
+    returns-3)

@@ -1,0 +1,5 @@
+pub mod Answers
+pub mod Check
+pub mod Ins
+pub mod Op
+pub mod Rules

@@ -1,0 +1,40 @@
+-- What the code and the position tables become: document 01, 'Folding'. Assumes nothing.
+use Prim.Native.Nat.{ℕ, _+_, _-_, _*_, _/_}
+use mathlib.Core.Path.{_≡_}
+use mathlib.Core.Bool.{cond}
+use mathlib.Core.List.{List, [], _∷_, _++_}
+use lib.ListN.{length, getD, replicate}
+use Rattle.laws.specs.Each.{each}
+use Rattle.lent.specs.Chunk.{opAt, markAt, operandAt, jumps}
+use Rattle.compact.specs.Remap.{alive, live, remapOf, mapped}
+
+-- a jump operand maps
+unfoldable pub operandOf : List ℕ → List ℕ → ℕ → ℕ
+operandOf dead w i = cond (jumps w i) (mapped dead (operandAt w i)) (operandAt w i)
+
+-- what is left of instruction i: nothing of a dead one
+abbrev pub leftAt : List ℕ → List ℕ → ℕ → List ℕ
+leftAt dead w i = cond (alive dead i) (opAt w i ∷ markAt w i ∷ operandOf dead w i ∷ []) []
+
+-- the live instructions, in order
+unfoldable pub left : List ℕ → List ℕ → List ℕ
+left dead w = each (leftAt dead w) (length dead)
+
+-- words past the new count are 0
+unfoldable pub compacted : List ℕ → List ℕ → List ℕ
+compacted dead w = left dead w ++ replicate (length w - length (left dead w)) 0
+
+-- the first word of each position pair maps
+abbrev pub pairAt : List ℕ → List ℕ → ℕ → List ℕ
+pairAt dead t k = mapped dead (getD t (2 * k) 0) ∷ getD t (2 * k + 1) 0 ∷ []
+
+unfoldable pub placed : List ℕ → List ℕ → List ℕ
+placed dead t = each (pairAt dead t) (length t / 2)
+
+-- all of it, from n dead marks
+pub record Compacted (dead w stmts calls : List ℕ) (r : ℕ) (w′ remap′ stmts′ calls′ : List ℕ) : Type 0 where
+  pub count : r ≡ live dead (length dead)
+  pub code : w′ ≡ compacted dead w
+  pub remap : remap′ ≡ remapOf dead
+  pub stmt : stmts′ ≡ placed dead stmts
+  pub call : calls′ ≡ placed dead calls

@@ -1,0 +1,91 @@
+-- The tries around a level, pair by pair, and what their handlers add. Assumes nothing.
+use mathlib.Core.Path.{_≡_, refl, sym, ap, ap₂, _∙_, subst}
+use mathlib.Core.Logic.{⊎-elim}
+use mathlib.Core.List.{List, [], _∷_, _++_, List·Memᴰ, List·Memᴰ·cases-cons, List·Memᴰ·not-nil, List·Memᴰ·head, List·Memᴰ·tail}
+use mathlib.Core.Bool.{Bool, true, false, cond, _&&_}
+use Prim.Native.Nat.{ℕ, suc, _+_, _≤_, _<_, min}
+use native.Mathlib.Decide.{decLt}
+use native.Mathlib.Numerals.{add-one}
+use native.Mathlib.Omega.{arith}
+use borrow.Author.Tests.{lt-ltb, le-ltb}
+use lib.Bits.{bitOr}
+use lib.Dec.{ltb}
+use lib.ListN.{length, getD, drop}
+use lib.Seq.{drop-cons}
+use Rattle.flow.specs.Set.{minus}
+use Rattle.flow.specs.Listed.{listed}
+use Rattle.flow.specs.Kept.{Level, handlersOf, added, kept, resumed}
+use Rattle.flow.proofs.Rows.{In}
+
+module _ (n k : ℕ) where
+  -- the handler of a try around k lies past k, and at n at most
+  pub handlers-past : k < n → (tries : List ℕ) (h : ℕ) → In h (handlersOf n k tries) → (k < h) × (h ≤ n)
+  unfolding handlersOf
+  handlers-past l [] h m = absurd (List·Memᴰ·not-nil m)
+  handlers-past l (s ∷ []) h m = absurd (List·Memᴰ·not-nil m)
+  handlers-past l (s ∷ (t ∷ tries)) h m = go (decLt s k) (decLt k t) (λ m′. handlers-past l tries h m′)
+    where
+      all : List ℕ
+      all = handlersOf n k tries
+
+      out : (ltb s k && ltb k t) ≡ false → In h all
+      out e = subst (λ (b : Bool). In h (cond b (min t n ∷ all) all)) e m
+
+      go : Dec (s < k) → Dec (k < t) → (In h all → (k < h) × (h ≤ n)) → (k < h) × (h ≤ n)
+      go (yes a) (yes b) rec = ⊎-elim (λ e. (omega arith, omega arith)) rec
+          (List·Memᴰ·cases-cons (subst (λ (c : Bool). In h (cond c (min t n ∷ all) all)) (ap₂ _&&_ (lt-ltb s k a) (lt-ltb k t b)) m))
+      go (no a) q rec = rec (out (ap (λ (c : Bool). c && ltb k t) (le-ltb s k (omega arith))))
+      go (yes a) (no b) rec = rec (out (ap₂ _&&_ (lt-ltb s k a) (le-ltb k t (omega arith))))
+
+  pub handlers-none : (l : List ℕ) → length l ≤ 1 → handlersOf n k l ≡ []
+  unfolding handlersOf
+  handlers-none [] h = refl
+  handlers-none (x ∷ []) h = refl
+  handlers-none (x ∷ (y ∷ l)) h = absurd (omega arith)
+
+  -- one try more
+  module _ (tries : List ℕ) (i : ℕ) (l : i + 1 < length tries) where
+    next : (b : Bool) → (ltb (getD tries i 0) k && ltb k (getD tries (i + 1) 0)) ≡ b
+        → handlersOf n k (drop i tries) ≡ cond b (min (getD tries (i + 1) 0) n ∷ handlersOf n k (drop (i + 2) tries)) (handlersOf n k (drop (i + 2) tries))
+    unfolding handlersOf
+    next b e = ap (handlersOf n k) split ∙ ap (λ (c : Bool). cond c (min (getD tries (i + 1) 0) n ∷ handlersOf n k (drop (i + 2) tries)) (handlersOf n k (drop (i + 2) tries))) e
+      where
+        two : suc (i + 1) ≡ i + 2
+        two = omega arith
+
+        split : drop i tries ≡ getD tries i 0 ∷ (getD tries (i + 1) 0 ∷ drop (i + 2) tries)
+        split = drop-cons tries i 0 (omega arith)
+            ∙ ap (λ (x : ℕ). getD tries i 0 ∷ drop x tries) (sym (add-one i))
+            ∙ ap (λ (x : List ℕ). getD tries i 0 ∷ x) (drop-cons tries (i + 1) 0 l ∙ ap (λ (x : ℕ). getD tries (i + 1) 0 ∷ drop x tries) two)
+
+    pub handlers-in : getD tries i 0 < k → k < getD tries (i + 1) 0 → handlersOf n k (drop i tries) ≡ min (getD tries (i + 1) 0) n ∷ handlersOf n k (drop (i + 2) tries)
+    handlers-in a b = next true (ap₂ _&&_ (lt-ltb (getD tries i 0) k a) (lt-ltb k (getD tries (i + 1) 0) b))
+
+    pub handlers-before : k ≤ getD tries i 0 → handlersOf n k (drop i tries) ≡ handlersOf n k (drop (i + 2) tries)
+    handlers-before a = next false (ap (λ (c : Bool). c && ltb k (getD tries (i + 1) 0)) (le-ltb (getD tries i 0) k a))
+
+    pub handlers-after : getD tries i 0 < k → getD tries (i + 1) 0 ≤ k → handlersOf n k (drop i tries) ≡ handlersOf n k (drop (i + 2) tries)
+    handlers-after a b = next false (ap₂ _&&_ (lt-ltb (getD tries i 0) k a) (le-ltb k (getD tries (i + 1) 0) b))
+
+module _ (regs : ℕ) (R : ℕ → ℕ) (seen : ℕ) where
+  pub added-none : added regs R seen [] ≡ []
+  unfolding added
+  added-none = refl
+
+  pub added-next : (h : ℕ) (hs : List ℕ) → added regs R seen (h ∷ hs) ≡ listed regs 0 (minus (R h) seen) ++ added regs R (bitOr seen (R h)) hs
+  unfolding added
+  added-next h hs = refl
+
+-- rows that are the same where a level goes on have the same kept list
+module _ (regs : ℕ) (R S : ℕ → ℕ) where
+  added-cong : (hs : List ℕ) (seen : ℕ) → ((h : ℕ) → In h hs → R h ≡ S h) → added regs R seen hs ≡ added regs S seen hs
+  unfolding added
+  added-cong [] seen e = refl
+  added-cong (h ∷ hs) seen e =
+      ap₂ _++_ (ap (λ (x : ℕ). listed regs 0 (minus x seen)) (e h (List·Memᴰ·head refl)))
+      (ap (λ (x : ℕ). added regs R (bitOr seen x) hs) (e h (List·Memᴰ·head refl)) ∙ added-cong hs (bitOr seen (S h)) (λ t m. e t (List·Memᴰ·tail m)))
+
+  pub kept-cong : (v : Level) → R (v .resume) ≡ S (v .resume) → ((h : ℕ) → In h (v .handlers) → R h ≡ S h) → kept regs R v ≡ kept regs S v
+  kept-cong v e es =
+      ap (λ (x : ℕ). listed regs 0 (minus x (v .result)) ++ added regs R (minus x (v .result)) (v .handlers)) e
+      ∙ ap (λ (l : List ℕ). listed regs 0 (resumed S v) ++ l) (added-cong (v .handlers) (resumed S v) es)

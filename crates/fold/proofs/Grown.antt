@@ -1,0 +1,186 @@
+-- An attempt at i writes before i alone, and the constants grow by one at most, at a folding operator; so there is room for all. Assumes nothing.
+use Prim.Native.Nat.{ℕ, zero, suc, _+_, _-_, _*_, _≤_, _<_, min, max}
+use native.Mathlib.Omega.{arith}
+use native.Mathlib.Numerals.{add-one}
+use mathlib.Core.Path.{_≡_, refl, sym, ap, _∙_}
+use mathlib.Core.Bool.{Bool, true, false, cond}
+use mathlib.Core.List.{List}
+use lib.Dec.{eqb}
+use lib.ListN.{length, getD, set, length-set}
+use lib.Seq.{getD-set-same, getD-set-other}
+use mir.Val.{boolByte}
+use Rattle.laws.specs.All.{many}
+use Rattle.lent.specs.Chunk.{stride, count, opAt, folds}
+use Rattle.lent.specs.Check.{constantRoom}
+use Rattle.values.specs.declared.Val.{Val}
+use Rattle.values.specs.declared.Val.the-variants.{Int, Float as Real, Bool as Truth}
+use Rattle.chunk.specs.Pool.{Room, Stored, findOrPushConst}
+use Rattle.chunk.specs.declared.Kept.{Kept}
+use Rattle.chunk.specs.declared.Kept.the-variants.{At, Full}
+use Rattle.chunk.proofs.Store.{kept-few}
+use Rattle.fold.specs.Plan.{Chunk, planAt}
+use Rattle.fold.specs.Pass.{Loading, loadOf, constLoad, put, landed, applied, tryFold, folded, foldAll, Readable, Ready, Lent}
+use Rattle.fold.specs.declared.Loaded.{Loaded}
+use Rattle.fold.specs.declared.Loaded.the-variants.{As, No}
+use Rattle.fold.specs.declared.Plan.{Plan}
+use Rattle.fold.specs.declared.Plan.the-variants.{Stay, Put}
+use Rattle.fold.proofs.Planned.{Planned, planned}
+
+-- ---- one attempt
+
+pub record Grown (s t : Chunk) (i : ℕ) : Type 0 where
+  pub later : (k : ℕ) → i ≤ k → opAt (t .code) k ≡ opAt (s .code) k
+  pub few : t .constants ≤ constantRoom (s .constants) (boolByte (folds (opAt (s .code) i)))
+
+-- an instruction put elsewhere, and here
+pub put-other : (w : List ℕ) (p o x k : ℕ) → (k ≡ p → ⊥) → opAt (put w p o x) k ≡ opAt w k
+unfolding put
+put-other w p o x k h =
+    getD-set-other (set (set w (stride * p) o) (stride * p + 1) 0) (stride * p + 2) (stride * k) x 0 (λ e. omega arith)
+    ∙ getD-set-other (set w (stride * p) o) (stride * p + 1) (stride * k) 0 0 (λ e. omega arith)
+    ∙ getD-set-other w (stride * p) (stride * k) o 0 (λ e. h (omega arith))
+
+pub put-here : (w : List ℕ) (p o x : ℕ) → p < count w → opAt (put w p o x) p ≡ o
+unfolding put
+put-here w p o x h =
+    getD-set-other (set (set w (stride * p) o) (stride * p + 1) 0) (stride * p + 2) (stride * p) x 0 (λ e. omega arith)
+    ∙ getD-set-other (set w (stride * p) o) (stride * p + 1) (stride * p) 0 0 (λ e. omega arith)
+    ∙ getD-set-same w (stride * p) o 0 (omega arith)
+
+pub put-long : (w : List ℕ) (p o x : ℕ) → length (put w p o x) ≡ length w
+unfolding put
+put-long w p o x = simp length-set
+
+abbrev countOf : Loaded → ℕ → ℕ
+countOf (As o x m) n = m
+countOf No n = n
+
+pool-few : (s : Stored) (kinds words : List ℕ) (n : ℕ) (v : Val) → s ≡ findOrPushConst kinds words n v → countOf (loadOf (s .kept)) n ≤ max n (min 65535 (n + 1))
+pool-few s kinds words n v e = go (s .kept) refl
+  where
+    go : (k : Kept) → s .kept ≡ k → countOf (loadOf k) n ≤ max n (min 65535 (n + 1))
+    go (At i m) h = kept-few {k = s .kept} {ks = s .kinds} {ws = s .words} kinds words n v e h
+    go Full h = omega arith
+
+load-few : (v : Val) (kinds words : List ℕ) (n : ℕ) → countOf (constLoad v kinds words n .load) n ≤ max n (min 65535 (n + 1))
+unfolding constLoad
+load-few (Int z) kinds words n = pool-few (findOrPushConst kinds words n (Int z)) kinds words n (Int z) refl
+load-few (Real x) kinds words n = pool-few (findOrPushConst kinds words n (Real x)) kinds words n (Real x) refl
+load-few (Truth b) kinds words n = omega arith
+
+module _ (i : ℕ) (s : Chunk) where
+  idle : Grown s s i
+  idle = record { later = λ k h. refl; few = omega arith }
+
+  put-grown : (p q : ℕ) (v : Val) → Planned s i p q → Grown s (applied (Put p q v) i s) i
+  unfolding applied landed
+  put-grown p q v h = go (constLoad v (s .kinds) (s .words) (s .constants)) (load-few v (s .kinds) (s .words) (s .constants))
+    where
+      go : (l : Loading) → countOf (l .load) (s .constants) ≤ max (s .constants) (min 65535 (s .constants + 1))
+          → Grown s (landed (l .load) (l .kinds) (l .words) p q i s) i
+      go l b = by (l .load) b
+        where
+          by : (a : Loaded) → countOf a (s .constants) ≤ max (s .constants) (min 65535 (s .constants + 1)) → Grown s (landed a (l .kinds) (l .words) p q i s) i
+          by (As o x m) b =
+              record {
+                later = λ k g. put-other (s .code) p o x k (λ e. omega (arith, h .first));
+                few = rw (h .operator) b;
+              }
+          by No b = record { later = λ k g. refl; few = omega arith }
+
+  pub try-grown : (strict : Bool) → Grown s (tryFold strict i s) i
+  unfolding tryFold applied
+  try-grown strict = go (eqb (getD (s .dead) i 0) 0)
+    where
+      by : (plan : Plan) → planAt strict i s ≡ plan → Grown s (applied plan i s) i
+      by Stay e = idle
+      by (Put p q v) e = put-grown p q v (planned strict i s e)
+
+      go : (t : Bool) → Grown s (cond t (applied (planAt strict i s) i s) s) i
+      go true = by (planAt strict i s) refl
+      go false = idle
+
+-- ---- the pass
+
+abbrev operators : Chunk → ℕ → ℕ
+operators s k = many (λ j. folds (opAt (s .code) j)) k
+
+pub record Held (strict : Bool) (s t : Chunk) (i : ℕ) : Type 0 where
+  pub is : t ≡ folded strict i s
+  pub later : (k : ℕ) → i ≤ k → opAt (t .code) k ≡ opAt (s .code) k
+  pub few : t .constants ≤ constantRoom (s .constants) (operators s i)
+  pub code-long : length (t .code) ≡ length (s .code)
+  pub dead-long : length (t .dead) ≡ length (s .dead)
+  pub kinds-long : length (t .kinds) ≡ length (s .kinds)
+  pub words-long : length (t .words) ≡ length (s .words)
+
+pub held-none : (strict : Bool) (s : Chunk) → Held strict s s 0
+unfolding folded many
+held-none strict s =
+    record { is = refl; later = λ k h. refl; few = omega arith; code-long = refl; dead-long = refl; kinds-long = refl; words-long = refl }
+
+many-here : (f : ℕ → Bool) (k : ℕ) → many f (suc k) ≡ many f k + boolByte (f k)
+unfolding many
+many-here f k = refl
+
+many-on : (f : ℕ → Bool) (d k : ℕ) → many f k ≤ many f (d + k)
+unfolding many
+many-on f zero k = let e : 0 + k ≡ k = omega arith in rw e (omega arith)
+many-on f (suc d) k =
+    let e : suc d + k ≡ suc (d + k) = omega arith in
+    rw e (omega (arith, many-on f d k))
+
+many-le : (f : ℕ → Bool) (k n : ℕ) → k ≤ n → many f k ≤ many f n
+many-le f k n h = let e : (n - k) + k ≡ n = omega arith in rw e at (many-on f (n - k) k)
+
+module _ {strict : Bool} {s t : Chunk} {i n : ℕ} (h : Held strict s t i) (z : n ≡ count (s .code)) (l′ : i < n) (b : Lent s) where
+  l : i < count (s .code)
+  l = omega arith
+
+  one : many (λ j. folds (opAt (s .code) j)) (suc i) ≤ operators s (count (s .code))
+  one = many-le (λ j. folds (opAt (s .code) j)) (suc i) (count (s .code)) l
+
+  here : operators s (suc i) ≡ operators s i + boolByte (folds (opAt (s .code) i))
+  here = many-here (λ j. folds (opAt (s .code) j)) i
+
+  pub held-ready : Ready t i
+  held-ready =
+      record {
+        readable =
+            record {
+              here = rw (h .code-long) l;
+              marked = omega (arith, h .dead-long, b .marks);
+              kinds-there = omega (arith, h .kinds-long, h .few, b .kinds-room, one, here);
+              words-there = omega (arith, h .words-long, h .few, b .words-room, one, here);
+            };
+        room = λ o.
+            let y : folds (opAt (s .code) i) ≡ true = sym (ap folds (h .later i (omega arith))) ∙ o in
+            let g : operators s (suc i) ≡ operators s i + 1 = here ∙ ap (λ (x : Bool). operators s i + boolByte x) y in
+            record {
+              few = omega (arith, h .few, b .few);
+              kinds-there = omega (arith, h .kinds-long, h .few, b .kinds-room, one, here);
+              words-there = omega (arith, h .words-long, h .few, b .words-room, one, here);
+              kinds-more = λ m. omega (arith, h .kinds-long, h .few, b .kinds-room, one, g);
+              words-more = λ m. omega (arith, h .words-long, h .few, b .words-room, one, g);
+            };
+      }
+
+  pub held-more : (u : Chunk) → u ≡ tryFold strict i t → length (u .code) ≡ length (t .code) → length (u .dead) ≡ length (t .dead) → length (u .kinds) ≡ length (t .kinds)
+      → length (u .words) ≡ length (t .words) → Held strict s u (i + 1)
+  unfolding folded
+  held-more u e c d k w =
+      let g : Grown t u i = rw e (try-grown i t strict) in
+      record {
+        is = rw (add-one i) (e ∙ ap (tryFold strict i) (h .is));
+        later = λ j m. g .later j (omega arith) ∙ h .later j (omega arith);
+        few = rw (add-one i) (omega (arith, g .few, h .few, here, ap (λ (o : ℕ). boolByte (folds o)) (h .later i (omega arith))));
+        code-long = c ∙ h .code-long;
+        dead-long = d ∙ h .dead-long;
+        kinds-long = k ∙ h .kinds-long;
+        words-long = w ∙ h .words-long;
+      }
+
+-- all n of them
+pub held-all : {strict : Bool} {s t : Chunk} {i n : ℕ} → Held strict s t i → n ≡ count (s .code) → n ≤ i → i ≤ n → t ≡ foldAll strict s
+unfolding foldAll
+held-all {s = s} {i = i} h z a b = let e : count (s .code) ≡ i = omega arith in rw e (h .is)

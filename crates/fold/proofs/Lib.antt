@@ -1,0 +1,7 @@
+-- The laws that several proofs cite.
+pub mod Parts
+pub mod Ways
+pub mod Planned
+pub mod Grown
+pub mod Passed
+pub mod Marked

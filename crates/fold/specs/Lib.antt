@@ -1,0 +1,3 @@
+-- One attempt to fold, and the pass over a chunk.
+pub mod Plan
+pub mod Pass

@@ -1,0 +1,95 @@
+-- What a fold does to a chunk, and the pass over it: document 01, 'Folding'.
+use Prim.Native.Nat.{ℕ, zero, suc, _+_, _*_, _≤_, _<_}
+use mathlib.Core.Path.{_≡_}
+use mathlib.Core.Bool.{Bool, true, cond}
+use mathlib.Core.List.{List}
+use lib.Dec.{eqb}
+use lib.ListN.{length, getD, set}
+use Rattle.laws.specs.All.{many}
+use Rattle.code.specs.Op.{LoadConst, LoadTrue, LoadFalse}
+use Rattle.lent.specs.Chunk.{stride, count, opAt, folds}
+use Rattle.lent.specs.Check.{constantRoom}
+use Rattle.values.specs.declared.Val.{Val}
+use Rattle.values.specs.declared.Val.the-variants.{Int, Float as Real, Bool as Truth}
+use Rattle.chunk.specs.Pool.{Room, Stored, findOrPushConst}
+use Rattle.chunk.specs.declared.Kept.{Kept}
+use Rattle.chunk.specs.declared.Kept.the-variants.{At, Full}
+use Rattle.fold.specs.Plan.{Chunk, chunk, planAt}
+use Rattle.fold.specs.declared.Loaded.{Loaded}
+use Rattle.fold.specs.declared.Loaded.the-variants.{As, No}
+use Rattle.fold.specs.declared.Plan.{Plan}
+use Rattle.fold.specs.declared.Plan.the-variants.{Stay, Put}
+
+-- a result as a load, and the pool with it
+pub record Loading : Type 0 where
+  pub load : Loaded
+  pub kinds : List ℕ
+  pub words : List ℕ
+
+abbrev pub loading : Loaded → List ℕ → List ℕ → Loading
+loading l kinds words = record { load = l; kinds = kinds; words = words }
+
+-- a LoadConst of where it is kept; no room, no fold
+abbrev pub loadOf : Kept → Loaded
+loadOf (At i m) = As LoadConst i m
+loadOf Full = No
+
+abbrev pub fromPool : Stored → Loading
+fromPool s = loading (loadOf (s .kept)) (s .kinds) (s .words)
+
+-- a result bool becomes LoadTrue or LoadFalse with operand 0; an int or float is a LoadConst
+unfoldable pub constLoad : Val → List ℕ → List ℕ → ℕ → Loading
+constLoad (Int z) kinds words n = fromPool (findOrPushConst kinds words n (Int z))
+constLoad (Real x) kinds words n = fromPool (findOrPushConst kinds words n (Real x))
+constLoad (Truth b) kinds words n = loading (As (cond b LoadTrue LoadFalse) 0 n) kinds words
+
+-- an instruction with no mark, at p
+unfoldable pub put : List ℕ → ℕ → ℕ → ℕ → List ℕ
+put w p o x = set (set (set w (stride * p) o) (stride * p + 1) 0) (stride * p + 2) x
+
+-- the result stands in the first operand's place; the operator and any second operand die
+unfoldable pub landed : Loaded → List ℕ → List ℕ → ℕ → ℕ → ℕ → Chunk → Chunk
+unfolding put
+landed (As o x m) kinds words p q i s = chunk (put (s .code) p o x) (set (set (s .dead) q 1) i 1) kinds words m
+landed No kinds words p q i s = chunk (s .code) (s .dead) kinds words (s .constants)
+
+unfoldable pub applied : Plan → ℕ → Chunk → Chunk
+unfolding landed constLoad
+applied Stay i s = s
+applied (Put p q v) i s =
+    let l = constLoad v (s .kinds) (s .words) (s .constants) in
+    landed (l .load) (l .kinds) (l .words) p q i s
+
+-- one attempt, of an operator that is not dead
+unfoldable pub tryFold : Bool → ℕ → Chunk → Chunk
+unfolding applied planAt
+tryFold strict i s = cond (eqb (getD (s .dead) i 0) 0) (applied (planAt strict i s) i s) s
+
+-- operators are tried once each, first to last: the first k of them
+unfoldable pub folded : Bool → ℕ → Chunk → Chunk
+unfolding tryFold
+folded strict zero s = s
+folded strict (suc k) s = tryFold strict k (folded strict k s)
+
+unfoldable pub foldAll : Bool → Chunk → Chunk
+unfolding folded
+foldAll strict s = folded strict (count (s .code)) s
+
+-- the buffers that a plan at i reads
+pub record Readable (s : Chunk) (i : ℕ) : Type 0 where
+  pub here : i < count (s .code)
+  pub marked : i < length (s .dead)
+  pub kinds-there : s .constants ≤ length (s .kinds)
+  pub words-there : s .constants ≤ length (s .words)
+
+-- and room for a constant more where an operator stands
+pub record Ready (s : Chunk) (i : ℕ) : Type 0 where
+  pub readable : Readable s i
+  pub room : folds (opAt (s .code) i) ≡ true → Room (s .kinds) (s .words) (s .constants)
+
+-- the buffers that folding needs
+pub record Lent (s : Chunk) : Type 0 where
+  pub few : s .constants ≤ 65536
+  pub marks : count (s .code) ≤ length (s .dead)
+  pub kinds-room : constantRoom (s .constants) (many (λ k. folds (opAt (s .code) k)) (count (s .code))) ≤ length (s .kinds)
+  pub words-room : constantRoom (s .constants) (many (λ k. folds (opAt (s .code) k)) (count (s .code))) ≤ length (s .words)

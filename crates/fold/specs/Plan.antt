@@ -1,0 +1,130 @@
+-- What an operator at i may fold to: document 01, 'Folding'.
+use Prim.Native.Nat.{ℕ, zero, suc, _-_}
+use mathlib.Core.Bool.{Bool, true, false, cond, _&&_, _||_}
+use mathlib.Core.List.{List, [], _∷_}
+use lib.Dec.{ltb, leb, eqb}
+use lib.ListN.{getD}
+use Rattle.laws.specs.Page.{Row, _↝_, look}
+use Rattle.laws.specs.Some.{some}
+use Rattle.code.specs.Op as op
+use Rattle.lent.specs.Chunk.{count, opAt, operandAt, jumps}
+use Rattle.values.specs.Folds.{foldBinop, foldNot, foldNeg}
+use Rattle.values.specs.declared.Val.{Val}
+use Rattle.values.specs.declared.Maybe.{Maybe}
+use Rattle.values.specs.declared.Maybe.the-variants.{Is, Nothing}
+use Rattle.values.specs.declared.Op.{Op}
+use Rattle.values.specs.declared.Op.the-variants.{Add, Sub, Mul, Div, Mod, FloorDiv, Eq, NotEq, Lt, Gt, LtEq, GtEq, BitAnd, BitOr, BitXor, Shl, Shr}
+use Rattle.chunk.specs.Pool.{constToVal}
+use Rattle.fold.specs.declared.Found.{Found}
+use Rattle.fold.specs.declared.Found.the-variants.{At, Nowhere}
+use Rattle.fold.specs.declared.Kind.{Kind}
+use Rattle.fold.specs.declared.Kind.the-variants.{Binop, Not, Minus, Other}
+use Rattle.fold.specs.declared.Plan.{Plan}
+use Rattle.fold.specs.declared.Plan.the-variants.{Stay, Put}
+
+-- a chunk while it is folded: its code, its dead marks, its constants and their count
+pub record Chunk : Type 0 where
+  pub code : List ℕ
+  pub dead : List ℕ
+  pub kinds : List ℕ
+  pub words : List ℕ
+  pub constants : ℕ
+
+abbrev pub chunk : (code dead kinds words : List ℕ) → ℕ → Chunk
+chunk code dead kinds words constants = record { code = code; dead = dead; kinds = kinds; words = words; constants = constants }
+
+-- the operators
+unfoldable pub page : List (Row Kind)
+page =
+    ((op.Add ∷ []) ↝ Binop Add)
+    ∷ ((op.Sub ∷ []) ↝ Binop Sub)
+    ∷ ((op.Mul ∷ []) ↝ Binop Mul)
+    ∷ ((op.Div ∷ []) ↝ Binop Div)
+    ∷ ((op.Mod ∷ []) ↝ Binop Mod)
+    ∷ ((op.FloorDiv ∷ []) ↝ Binop FloorDiv)
+    ∷ ((op.Eq ∷ []) ↝ Binop Eq)
+    ∷ ((op.NotEq ∷ []) ↝ Binop NotEq)
+    ∷ ((op.Lt ∷ []) ↝ Binop Lt)
+    ∷ ((op.Gt ∷ []) ↝ Binop Gt)
+    ∷ ((op.LtEq ∷ []) ↝ Binop LtEq)
+    ∷ ((op.GtEq ∷ []) ↝ Binop GtEq)
+    ∷ ((op.BitAnd ∷ []) ↝ Binop BitAnd)
+    ∷ ((op.BitOr ∷ []) ↝ Binop BitOr)
+    ∷ ((op.BitXor ∷ []) ↝ Binop BitXor)
+    ∷ ((op.Shl ∷ []) ↝ Binop Shl)
+    ∷ ((op.Shr ∷ []) ↝ Binop Shr)
+    ∷ ((op.Not ∷ []) ↝ Not)
+    ∷ ((op.Minus ∷ []) ↝ Minus)
+    ∷ []
+
+unfoldable pub kindOf : ℕ → Kind
+unfolding page
+kindOf o = look Other o page
+
+-- the nearest undead instruction before i
+unfoldable pub prevLive : List ℕ → ℕ → Found
+prevLive dead zero = Nowhere
+prevLive dead (suc i) = cond (eqb (getD dead i 0) 0) (At i) (prevLive dead i)
+
+-- an operand must be a LoadConst, of a constant that is one
+unfoldable pub operandOf : (code kinds words : List ℕ) → ℕ → ℕ → Maybe
+operandOf code kinds words constants p = cond (eqb (opAt code p) op.LoadConst) (constToVal kinds words constants (operandAt code p)) Nothing
+
+-- a jump at k into (p, i]
+unfoldable pub lands : List ℕ → ℕ → ℕ → ℕ → Bool
+lands w p i k = jumps w k && (ltb p (operandAt w k) && leb (operandAt w k) i)
+
+-- no fold if the instruction just before the first operand is a jump into (first operand, operator]
+unfoldable pub skipsInto : List ℕ → ℕ → ℕ → Bool
+unfolding lands
+skipsInto w p i = ltb 0 p && lands w p i (p - 1)
+
+-- strict mode: no fold if any jump in the chunk lands there
+unfoldable pub landsAny : List ℕ → ℕ → ℕ → Bool
+unfolding lands
+landsAny w p i = some (lands w p i) (count w)
+
+unfoldable pub blocked : Bool → List ℕ → ℕ → ℕ → Bool
+unfolding skipsInto landsAny
+blocked strict w p i = skipsInto w p i || (strict && landsAny w p i)
+
+-- each missing operand ends the attempt
+abbrev pub withFound : Found → (ℕ → Plan) → Plan
+withFound (At p) f = f p
+withFound Nowhere f = Stay
+
+abbrev pub withVal : Maybe → (Val → Plan) → Plan
+withVal (Is v) f = f v
+withVal Nothing f = Stay
+
+unfoldable pub tryFoldBinop : Bool → Op → ℕ → Chunk → Plan
+unfolding prevLive operandOf blocked
+tryFoldBinop strict o i s =
+    withFound (prevLive (s .dead) i) (λ q.
+    withFound (prevLive (s .dead) q) (λ p.
+    withVal (operandOf (s .code) (s .kinds) (s .words) (s .constants) p) (λ a.
+    withVal (operandOf (s .code) (s .kinds) (s .words) (s .constants) q) (λ b.
+    withVal (foldBinop o a b) (λ v. cond (blocked strict (s .code) p i) Stay (Put p q v))))))
+
+-- Minus, or Not
+unfoldable pub foldUnary : Bool → Val → Maybe
+foldUnary true v = foldNeg v
+foldUnary false v = foldNot v
+
+unfoldable pub tryFoldUnary : Bool → Bool → ℕ → Chunk → Plan
+unfolding prevLive operandOf blocked foldUnary
+tryFoldUnary strict minus i s =
+    withFound (prevLive (s .dead) i) (λ p.
+    withVal (operandOf (s .code) (s .kinds) (s .words) (s .constants) p) (λ a.
+    withVal (foldUnary minus a) (λ v. cond (blocked strict (s .code) p i) Stay (Put p i v))))
+
+unfoldable pub planFor : Kind → Bool → ℕ → Chunk → Plan
+unfolding tryFoldBinop tryFoldUnary
+planFor (Binop o) strict i s = tryFoldBinop strict o i s
+planFor Not strict i s = tryFoldUnary strict false i s
+planFor Minus strict i s = tryFoldUnary strict true i s
+planFor Other strict i s = Stay
+
+unfoldable pub planAt : Bool → ℕ → Chunk → Plan
+unfolding planFor kindOf
+planAt strict i s = planFor (kindOf (opAt (s .code) i)) strict i s

@@ -1,0 +1,118 @@
+-- The call's parts put together: the rows in the scratch, then the lists, or the refusal. Assumes nothing.
+use mathlib.Core.Path.{_≡_, refl, sym, ap, ap₂, _∙_, subst}
+use mathlib.Core.Bool.{Bool}
+use mathlib.Core.List.{List, _∷_, _++_}
+use Prim.Native.Nat.{ℕ, zero, suc, _+_, _-_, _*_, _^_, _≤_, _<_}
+use native.Mathlib.Nat.{suc-mul}
+use native.Mathlib.Numerals.{add-one}
+use native.Mathlib.Omega.{arith}
+use mir.Syntax.{w64}
+use mir.Val.{Fits}
+use lib.ListN.{length, take, drop, length-append, length-drop}
+use lib.Seq.{take-append-le, drop-append-le, length-take-le, drop-at}
+use Rattle.code.specs.Ins.{count}
+use Rattle.code.specs.declared.Checked.{Checked}
+use Rattle.code.specs.declared.Checked.the-variants as stage
+use Rattle.code.specs.declared.Refusal.{Refusal}
+use Rattle.code.specs.declared.Refusal.the-variants.{Short}
+use Rattle.flow.specs.Sweep.{row, Found}
+use Rattle.flow.specs.Words.{value, rowsOf, Small}
+use Rattle.steps.specs.Code.{flow}
+use Rattle.rows.specs.Route.{wordsFor, firstOf, rowsIn, Rows}
+use Rattle.rows.proofs.Routes.{words-few, words-enough}
+use Rattle.rows.proofs.Least.{rows-regs}
+use Rattle.kept.specs.Lists.{listsTo, offsetsTo, over, Ready, Filled}
+use Rattle.kept.specs.Answers.{scratchFor, stagesOf, Scratch, Outcome, refused, short, told}
+use Rattle.kept.specs.declared.KeptAnswer.{KeptAnswer}
+use Rattle.kept.specs.declared.KeptAnswer.the-variants.{Is, No}
+use Rattle.kept.proofs.Sets.{scaled}
+use Rattle.kept.proofs.Tests.{accepted-offsets, accepted-scratch, accepted-few, accepted-valid, accepted-count}
+
+-- rows lie in the first words of a buffer
+rows-front : (words m : ℕ) (part rest : List ℕ) → m * words ≤ length part → rowsOf 64 words m (part ++ rest) ≡ rowsOf 64 words m part
+unfolding rowsOf
+rows-front words zero part rest l = refl
+rows-front words (suc m) part rest l =
+    let fits : words ≤ length part = omega (arith, suc-mul m words) in
+    ap₂ (λ (v t : List ℕ). value 64 v ∷ t) (take-append-le words part rest fits)
+    (ap (rowsOf 64 words m) (drop-append-le words part rest fits) ∙ rows-front words m (drop words part) rest (omega (arith, suc-mul m words, length-drop words part)))
+
+module _ (regs : ℕ) (w tries rows offsets : List ℕ) (n : ℕ) (h : stagesOf w regs tries (length rows) (length offsets) ≡ stage.Count n) (m : ℕ) (e : m ≡ wordsFor regs) where
+  narrow : m ≤ 16
+  narrow = words-few regs m e (accepted-few w regs tries (length rows) (length offsets) n h)
+
+  pub part-mul : Fits w64 ((count w + 1) * m)
+  part-mul = scaled (count w + 1) m (omega (arith, accepted-valid w regs tries (length rows) (length offsets) n h .few)) narrow
+
+  need-is : (count w + 1) * m ≡ scratchFor regs w
+  need-is = ap₂ _*_ (add-one (count w)) e
+
+  pub part-fits : (count w + 1) * m ≤ length rows
+  part-fits = subst (λ (x : ℕ). x ≤ length rows) (sym need-is) (accepted-scratch w regs tries (length rows) (length offsets) n h)
+
+  pub part-long : length (take ((count w + 1) * m) rows) ≡ (count w + 1) * m
+  part-long = length-take-le ((count w + 1) * m) rows part-fits
+
+  pub part-whole : length (take ((count w + 1) * m) rows) ≡ suc (count w) * wordsFor regs
+  part-whole = part-long ∙ need-is
+
+  module _ (wide : Bool) (part : List ℕ) (full lost : ℕ) (f : Rows wide regs w part full lost) (l : length part ≡ length (take ((count w + 1) * m) rows)) where
+    abbrev new : List ℕ
+    new = part ++ drop ((count w + 1) * m) rows
+
+    long : length part ≡ scratchFor regs w
+    long = l ∙ part-whole
+
+    same : rowsIn regs w new ≡ rowsIn regs w part
+    same = rows-front (wordsFor regs) (suc (count w)) part (drop ((count w + 1) * m) rows) (omega (arith, long))
+
+    scratch : Scratch wide regs w rows new full lost
+    scratch = record {
+      found = subst (λ (x : List ℕ). Found (flow regs w) (firstOf wide regs w) x full lost) (sym same) f;
+      long = omega (arith, l, part-long, part-fits, length-append part (drop ((count w + 1) * m) rows), length-drop ((count w + 1) * m) rows);
+      past = drop-at part (drop ((count w + 1) * m) rows) (scratchFor regs w) long ∙ ap (λ (x : ℕ). drop x rows) need-is;
+    }
+
+    pub ready : Small 64 (part ++ drop ((count w + 1) * m) rows) → Ready regs w m (part ++ drop ((count w + 1) * m) rows)
+    ready small = record {
+      valid = accepted-valid w regs tries (length rows) (length offsets) n h;
+      few = accepted-few w regs tries (length rows) (length offsets) n h;
+      narrow = narrow;
+      enough = words-enough regs m e;
+      room = subst (λ (x : ℕ). x ≤ length new) (sym (ap (λ (x : ℕ). suc (count w) * x) e)) (omega (arith, long, length-append part (drop ((count w + 1) * m) rows)));
+      small = small;
+      bound = λ k. subst (λ (x : ℕ). row (rowsOf 64 x (suc (count w)) new) k < 2 ^ regs) (sym e) (rows-regs wide regs w new full lost (scratch .found) k);
+    }
+
+    pub new-long : length (part ++ drop ((count w + 1) * m) rows) ≡ length rows
+    new-long = scratch .long
+
+    module _ (list : List ℕ) (total : ℕ) (q : total ≡ length (listsTo regs w tries (rowsOf 64 m (suc (count w)) (part ++ drop ((count w + 1) * m) rows)) (count w))) where
+      total-is : total ≡ length (listsTo regs w tries (rowsIn regs w new) (count w))
+      total-is = q ∙ ap (λ (x : ℕ). length (listsTo regs w tries (rowsOf 64 x (suc (count w)) new) (count w))) e
+
+      pub out-short : length list < total → Outcome w regs tries wide rows offsets list (part ++ drop ((count w + 1) * m) rows) offsets list (No (Short 3 total))
+      out-short g = subst (λ (x : ℕ). Outcome w regs tries wide rows offsets list new offsets list (No (Short 3 x))) (sym total-is)
+          (short (accepted-count w regs tries (length rows) (length offsets) n h) scratch (subst (λ (x : ℕ). length list < x) total-is g))
+
+      pub out-told : total ≤ length list → (o l′ : List ℕ) → Filled regs w tries (rowsOf 64 m (suc (count w)) (part ++ drop ((count w + 1) * m) rows)) offsets list o l′
+          → Outcome w regs tries wide rows offsets list (part ++ drop ((count w + 1) * m) rows) o l′ (Is total full lost)
+      out-told g o l′ z =
+          subst (λ (x : ℕ). Outcome w regs tries wide rows offsets list new o l′ (Is x full lost)) (sym total-is)
+          (subst (λ (x : List ℕ). Outcome w regs tries wide rows offsets list new o x (Is (length (listsTo regs w tries (rowsIn regs w new) (count w))) full lost)) (sym lists)
+          (subst (λ (x : List ℕ). Outcome w regs tries wide rows offsets list new x (over (listsTo regs w tries (rowsIn regs w new) (count w)) list) (Is (length (listsTo regs w tries (rowsIn regs w new) (count w))) full lost)) (sym begins)
+          (told (accepted-count w regs tries (length rows) (length offsets) n h) scratch (subst (λ (x : ℕ). x ≤ length list) total-is g))))
+        where
+          begins : o ≡ over (offsetsTo regs w tries (rowsIn regs w new) (suc (count w))) offsets
+          begins = z .begins ∙ ap (λ (x : ℕ). over (offsetsTo regs w tries (rowsOf 64 x (suc (count w)) new) (suc (count w))) offsets) e
+
+          lists : l′ ≡ over (listsTo regs w tries (rowsIn regs w new) (count w)) list
+          lists = z .lists ∙ ap (λ (x : ℕ). over (listsTo regs w tries (rowsOf 64 x (suc (count w)) new) (count w)) list) e
+
+-- the tests decide
+module _ (w : List ℕ) (regs : ℕ) (tries rows offsets : List ℕ) (v : Checked) (e : v ≡ stagesOf w regs tries (length rows) (length offsets)) where
+  pub go-on : (n : ℕ) → v ≡ stage.Count n → stagesOf w regs tries (length rows) (length offsets) ≡ stage.Count (count w)
+  go-on n h = accepted-count w regs tries (length rows) (length offsets) n (sym e ∙ h)
+
+  pub go-no : (r : Refusal) → v ≡ stage.No r → (wide : Bool) (list : List ℕ) → Outcome w regs tries wide rows offsets list rows offsets list (No r)
+  go-no r h wide list = refused (sym e ∙ h)

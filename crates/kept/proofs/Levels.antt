@@ -1,0 +1,275 @@
+-- A level: its resume row less its result, the registers it keeps counted and listed. Assumes nothing.
+use mathlib.Core.Path.{_≡_, refl, sym, ap, ap₂, _∙_, subst}
+use mathlib.Core.Bool.{Bool, true, false, cond, _&&_}
+use mathlib.Core.List.{List, [], _∷_, _++_, append-nil, append-assoc}
+use Prim.Native.Nat.{ℕ, zero, suc, _+_, _-_, _*_, _/_, _%_, _^_, _≤_, _<_, min, max, zero-le}
+use native.Mathlib.Nat.{mod-lt, zero-lt-suc}
+use native.Mathlib.Numerals.{add-one}
+use native.Mathlib.Omega.{arith}
+use mir.Syntax.{w64}
+use mir.Val.{Fits}
+use lib.Bits.{bitOr, or-zero-r}
+use lib.Dec.{ltb}
+use lib.Seq.{drop-cons, length-paste}
+use lib.ListN.{length, getD, take, drop, length-append, length-drop}
+use Rattle.code.specs.Ins.{count}
+use Rattle.flow.specs.Set.{bit, minus, alone}
+use Rattle.flow.specs.Flow.{joined}
+use Rattle.flow.specs.Sweep.{row}
+use Rattle.flow.specs.Listed.{listed, keep, Listing}
+use Rattle.flow.specs.Words.{value, rowsOf, Small, Holds}
+use Rattle.flow.specs.Kept.{Level, handlersOf, added, kept}
+use Rattle.flow.proofs.Bits.{bit-ext, bit-lt, or-bit, minus-bit, low-bit, half-bit, minus-lt}
+use Rattle.flow.proofs.Words.{as-set}
+use Rattle.flow.proofs.Buffer.{row-inside, rows-at}
+use Rattle.flow.proofs.Listed.{listed-wide}
+use Rattle.flow.proofs.Tries.{added-none, added-next, handlers-none}
+use Rattle.flow.proofs.Written.{Written, written-start, written-as, written-long, written-room, written-more, written-end, listing-append}
+use Rattle.rows.proofs.Sets.{or-assoc, joined-append}
+use Rattle.kept.specs.Level.{resumeOf, resultAt, resultOf, levelOf, Goes}
+use Rattle.kept.specs.Lists.{Ready}
+use Rattle.kept.proofs.Resume.{resume-in}
+use Rattle.kept.proofs.Sets.{scaled}
+use Rattle.kept.proofs.Walks.{listed-le}
+
+-- ---- the resume row less the result register
+
+module _ (regs : ℕ) (w : List ℕ) (words : ℕ) (rows : List ℕ) (k at result : ℕ) (ready : Ready regs w words rows) (l : k < count w) (g : Goes w k at result) where
+  at-in : at ≤ count w
+  at-in = omega (arith, g .resumes, resume-in w k (ready .valid) l .1)
+
+  pub main-fits : at * words + words ≤ length rows
+  main-fits = omega (arith, ready .room, row-inside words (suc (count w)) at (omega (arith, at-in)))
+
+  pub main-small : Fits w64 (at * words)
+  main-small = scaled at words (omega (arith, at-in, ready .valid .few)) (ready .narrow)
+
+  pub main-is : (less out : List ℕ) → Holds 64 less (alone regs result) → Holds 64 out (minus (value 64 (take words (drop (at * words) rows))) (value 64 less))
+      → Holds 64 out (minus (row (rowsOf 64 words (suc (count w)) rows) (resumeOf w k)) (resultOf regs w k))
+  main-is less out p q = as-set q (ap₂ minus
+      (sym (rows-at 64 words (suc (count w)) rows at (omega (arith, at-in))) ∙ ap (row (rowsOf 64 words (suc (count w)) rows)) (g .resumes))
+      (p .is ∙ ap (alone regs) (g .results)))
+
+pub ruleset mains = (main-fits, main-small, main-is)
+
+-- ---- as many as the registers of all its rows together
+
+listed-step : (d p x : ℕ) → length (listed (suc d) p x) ≡ x % 2 + length (listed d (suc p) (x / 2))
+unfolding listed
+listed-step d p x = go (x % 2) (mod-lt x (zero-lt-suc 1))
+  where
+    go : (b : ℕ) → b < 2 → length (keep b p (listed d (suc p) (x / 2))) ≡ b + length (listed d (suc p) (x / 2))
+    go zero h = omega arith
+    go (suc zero) h = omega arith
+    go (suc (suc b)) h = absurd (omega arith)
+
+listed-or : (d p s x : ℕ) → length (listed d p (bitOr s x)) ≡ length (listed d p s) + length (listed d p (minus x s))
+unfolding listed
+listed-or zero p s x = refl
+listed-or (suc d) p s x =
+    let low : bitOr s x % 2 ≡ s % 2 + minus x s % 2 = omega (arith, low-bit (bitOr s x), low-bit s, low-bit x, low-bit (minus x s), or-bit s x 0, minus-bit x s 0, bit-lt s 0, bit-lt x 0) in
+    omega (
+      arith,
+      low,
+      listed-step d p (bitOr s x),
+      listed-step d p s,
+      listed-step d p (minus x s),
+      ap (λ (y : ℕ). length (listed d (suc p) y)) half-or,
+      ap (λ (y : ℕ). length (listed d (suc p) y)) half-minus,
+      listed-or d (suc p) (s / 2) (x / 2),
+    )
+  where
+    half-or : bitOr s x / 2 ≡ bitOr (s / 2) (x / 2)
+    half-or = bit-ext (bitOr s x / 2) (bitOr (s / 2) (x / 2)) (λ r. omega (arith, half-bit (bitOr s x) r, or-bit s x (suc r), or-bit (s / 2) (x / 2) r, half-bit s r, half-bit x r))
+
+    half-minus : minus x s / 2 ≡ minus (x / 2) (s / 2)
+    half-minus = bit-ext (minus x s / 2) (minus (x / 2) (s / 2)) (λ r. omega (arith, half-bit (minus x s) r, minus-bit x s (suc r), minus-bit (x / 2) (s / 2) r, half-bit s r, half-bit x r))
+
+module _ (d : ℕ) (R : ℕ → ℕ) where
+  -- the resumed set and what the handlers add: the registers of the union
+  pub union-count : (hs : List ℕ) (s : ℕ) → length (listed d 0 s ++ added d R s hs) ≡ length (listed d 0 (bitOr s (joined R hs)))
+  unfolding joined
+  union-count [] s = ap length (ap (λ (l : List ℕ). listed d 0 s ++ l) (added-none d R s) ∙ append-nil (listed d 0 s)) ∙ ap (λ (x : ℕ). length (listed d 0 x)) (sym (or-zero-r s))
+  union-count (h ∷ hs) s = omega (
+    arith,
+    length-append (listed d 0 s) (added d R s (h ∷ hs)),
+    ap length (added-next d R s h hs),
+    length-append (listed d 0 (minus (R h) s)) (added d R (bitOr s (R h)) hs),
+    listed-or d 0 s (R h),
+    length-append (listed d 0 (bitOr s (R h))) (added d R (bitOr s (R h)) hs),
+    union-count hs (bitOr s (R h)),
+    ap (λ (x : ℕ). length (listed d 0 x)) (or-assoc s (R h) (joined R hs)),
+  )
+
+-- registers past the highest of all rows list nothing
+module _ (d e : ℕ) (R : ℕ → ℕ) (le : d ≤ e) (lt : (k : ℕ) → R k < 2 ^ d) where
+  added-wide : (hs : List ℕ) (s : ℕ) → added e R s hs ≡ added d R s hs
+  unfolding added
+  added-wide [] s = refl
+  added-wide (h ∷ hs) s = ap₂ _++_ (listed-wide d e 0 (minus (R h) s) (minus-lt d (R h) s (lt h)) le) (added-wide hs (bitOr s (R h)))
+
+  pub kept-wide : (v : Level) → kept e R v ≡ kept d R v
+  kept-wide v = ap₂ _++_ (listed-wide d e 0 (minus (R (v .resume)) (v .result)) (minus-lt d (R (v .resume)) (v .result) (lt (v .resume))) le) (added-wide (v .handlers) (minus (R (v .resume)) (v .result)))
+
+-- ---- the tries, pair by pair
+
+pair-first : (n k s h : ℕ) (ts : List ℕ) → handlersOf n k (s ∷ h ∷ ts) ≡ handlersOf n k (s ∷ h ∷ []) ++ handlersOf n k ts
+unfolding handlersOf
+pair-first n k s h ts = go (ltb s k && ltb k h)
+  where
+    go : (t : Bool) → cond t (min h n ∷ handlersOf n k ts) (handlersOf n k ts) ≡ cond t (min h n ∷ []) [] ++ handlersOf n k ts
+    go true = refl
+    go false = refl
+
+module _ (n k : ℕ) (tries : List ℕ) (i : ℕ) (l : i + 1 < length tries) (a b : ℕ) (p : a ≡ getD tries i 0) (q : b ≡ getD tries (i + 1) 0) where
+  pub handlers-split : handlersOf n k (drop i tries) ≡ handlersOf n k (a ∷ b ∷ []) ++ handlersOf n k (drop (i + 2) tries)
+  handlers-split = ap (handlersOf n k) pair ∙ pair-first n k a b (drop (i + 2) tries)
+    where
+      pair : drop i tries ≡ a ∷ b ∷ drop (i + 2) tries
+      pair =
+          drop-cons tries i 0 (omega arith)
+          ∙ ap (λ (x : ℕ). getD tries i 0 ∷ drop x tries) (sym (add-one i))
+          ∙ ap (λ (x : List ℕ). getD tries i 0 ∷ x) (drop-cons tries (i + 1) 0 l ∙ ap (λ (x : ℕ). getD tries (i + 1) 0 ∷ drop x tries) two)
+          ∙ ap₂ (λ (x y : ℕ). x ∷ y ∷ drop (i + 2) tries) (sym p) (sym q)
+        where
+          two : suc (i + 1) ≡ i + 2
+          two = omega arith
+
+added-append : (d : ℕ) (R : ℕ → ℕ) (hs gs : List ℕ) (s : ℕ) → added d R s (hs ++ gs) ≡ added d R s hs ++ added d R (bitOr s (joined R hs)) gs
+unfolding added joined
+added-append d R [] gs s = ap (λ (x : ℕ). added d R x gs) (sym (or-zero-r s))
+added-append d R (h ∷ hs) gs s =
+    ap (λ (l : List ℕ). listed d 0 (minus (R h) s) ++ l) (added-append d R hs gs (bitOr s (R h)) ∙ ap (λ (x : ℕ). added d R (bitOr s (R h)) hs ++ added d R x gs) (or-assoc s (R h) (joined R hs)))
+    ∙ sym (append-assoc (listed d 0 (minus (R h) s)) (added d R (bitOr s (R h)) hs) (added d R (bitOr s (joined R (h ∷ hs))) gs))
+
+module _ (n k words : ℕ) (rows tries : List ℕ) where
+  abbrev R : ℕ → ℕ
+  R = row (rowsOf 64 words (suc n) rows)
+
+  -- the set seen, with the rows of the handlers that are left, is the whole
+  pub record Holding (s seen : List ℕ) (i : ℕ) : Type 0 where
+    pub le : i ≤ length tries
+    pub small : Small 64 seen
+    pub all : bitOr (value 64 seen) (joined R (handlersOf n k (drop i tries))) ≡ bitOr (value 64 s) (joined R (handlersOf n k tries))
+
+  pub holding-start : (s : List ℕ) → Small 64 s → Holding s s 0
+  holding-start s h = record { le = zero-le; small = h; all = refl }
+
+  module _ (s seen : List ℕ) (i : ℕ) (h : Holding s seen i) where
+    pub holding-more : i + 1 < length tries → (a b : ℕ) → a ≡ getD tries i 0 → b ≡ getD tries (i + 1) 0 → (next : List ℕ)
+        → Holds 64 next (bitOr (value 64 seen) (joined (row (rowsOf 64 words (suc n) rows)) (handlersOf n k (a ∷ b ∷ [])))) → Holding s next (i + 2)
+    holding-more l a b p q next g = record {
+      le = omega arith;
+      small = g .small;
+      all = ap (λ (x : ℕ). bitOr x (joined R (handlersOf n k (drop (i + 2) tries)))) (g .is)
+          ∙ or-assoc (value 64 seen) (joined R (handlersOf n k (a ∷ b ∷ []))) (joined R (handlersOf n k (drop (i + 2) tries)))
+          ∙ ap (bitOr (value 64 seen)) (sym (joined-append R (handlersOf n k (a ∷ b ∷ [])) (handlersOf n k (drop (i + 2) tries)))
+          ∙ ap (joined R) (sym (handlers-split n k tries i l a b p q)))
+          ∙ h .all;
+    }
+
+    pub holding-end : length tries ≤ i + 1 → Holds 64 seen (bitOr (value 64 s) (joined (row (rowsOf 64 words (suc n) rows)) (handlersOf n k tries)))
+    unfolding joined
+    holding-end end = record {
+      small = h .small;
+      is = sym (ap (λ (l : List ℕ). bitOr (value 64 seen) (joined R l)) (handlers-none n k (drop i tries) (omega (arith, length-drop i tries))) ∙ or-zero-r (value 64 seen)) ∙ h .all;
+    }
+
+  -- of what the handlers add to the set s, some is written
+  pub record Keeping (s old : List ℕ) (m : ℕ) (out seen : List ℕ) (at i : ℕ) : Type 0 where
+    pub le : i ≤ length tries
+    pub small : Small 64 seen
+    pub fits : m + length (added (words * 64) R (value 64 s) (handlersOf n k tries)) ≤ length old
+    pub so : Written (added (words * 64) R (value 64 s) (handlersOf n k tries)) old m out at (added (words * 64) R (value 64 seen) (handlersOf n k (drop i tries)))
+
+  pub keeping-start : (s old : List ℕ) (m : ℕ) → Small 64 s → m + length (added (words * 64) (row (rowsOf 64 words (suc n) rows)) (value 64 s) (handlersOf n k tries)) ≤ length old
+      → Keeping s old m old s m 0
+  keeping-start s old m h f = record { le = zero-le; small = h; fits = f; so = written-start (added (words * 64) R (value 64 s) (handlersOf n k tries)) old m (added (words * 64) R (value 64 s) (handlersOf n k tries)) refl }
+
+  module _ (s old : List ℕ) (m : ℕ) (out seen : List ℕ) (at i : ℕ) (p : Keeping s old m out seen at i) where
+    abbrev L : List ℕ
+    L = added (words * 64) R (value 64 s) (handlersOf n k tries)
+
+    abbrev rest : List ℕ
+    rest = added (words * 64) R (value 64 seen) (handlersOf n k (drop i tries))
+
+    pub keeping-long : length out ≡ length old
+    keeping-long = written-long L old m out at rest (p .so) (p .fits)
+
+    pub keeping-end : length tries ≤ i + 1 → Listing (added (words * 64) (row (rowsOf 64 words (suc n) rows)) (value 64 s) (handlersOf n k tries)) old m out at
+    keeping-end end = written-end L old m out at rest (p .so) (p .fits)
+        (ap (added (words * 64) R (value 64 seen)) (handlers-none n k (drop i tries) (omega (arith, length-drop i tries))) ∙ added-none (words * 64) R (value 64 seen))
+
+    module _ (l : i + 1 < length tries) (a b : ℕ) (e : a ≡ getD tries i 0) (f : b ≡ getD tries (i + 1) 0) where
+      abbrev here : List ℕ
+      here = added (words * 64) R (value 64 seen) (handlersOf n k (a ∷ b ∷ []))
+
+      abbrev later : List ℕ
+      later = added (words * 64) R (bitOr (value 64 seen) (joined R (handlersOf n k (a ∷ b ∷ [])))) (handlersOf n k (drop (i + 2) tries))
+
+      split : rest ≡ here ++ later
+      split = ap (added (words * 64) R (value 64 seen)) (handlers-split n k tries i l a b e f)
+          ∙ added-append (words * 64) R (handlersOf n k (a ∷ b ∷ [])) (handlersOf n k (drop (i + 2) tries)) (value 64 seen)
+
+      pub keeping-try : at + length (added (words * 64) (row (rowsOf 64 words (suc n) rows)) (value 64 seen) (handlersOf n k (a ∷ b ∷ []))) ≤ length out
+      keeping-try = written-room L old m out at rest (p .so) (p .fits) here later split
+
+      pub keeping-more : (out′ : List ℕ) (at′ : ℕ) → Listing (added (words * 64) (row (rowsOf 64 words (suc n) rows)) (value 64 seen) (handlersOf n k (a ∷ b ∷ []))) out at out′ at′
+          → (next : List ℕ) → Holds 64 next (bitOr (value 64 seen) (joined (row (rowsOf 64 words (suc n) rows)) (handlersOf n k (a ∷ b ∷ []))))
+          → Keeping s old m out′ next at′ (i + 2)
+      keeping-more out′ at′ z next g = record {
+        le = omega arith;
+        small = g .small;
+        fits = p .fits;
+        so = written-as L old m out′ at′ later (added (words * 64) R (value 64 next) (handlersOf n k (drop (i + 2) tries)))
+            (written-more L old m out at rest (p .so) (p .fits) here later split out′ at′ z)
+            (ap (λ (x : ℕ). added (words * 64) R x (handlersOf n k (drop (i + 2) tries))) (sym (g .is)));
+      }
+
+pub ruleset holdings = (holding-start, holding-more, holding-end)
+
+pub ruleset keepings = (keeping-start, keeping-long, keeping-end)
+
+-- ---- a level
+
+module _ (regs : ℕ) (w tries rows : List ℕ) (words k : ℕ) (ready : Ready regs w words rows)
+    (s : List ℕ) (h : Holds 64 s (minus (row (rowsOf 64 words (suc (count w)) rows) (resumeOf w k)) (resultOf regs w k))) where
+  abbrev Q : ℕ → ℕ
+  Q = row (rowsOf 64 words (suc (count w)) rows)
+
+  abbrev first : List ℕ
+  first = listed (words * 64) 0 (value 64 s)
+
+  abbrev then : List ℕ
+  then = added (words * 64) Q (value 64 s) (handlersOf (count w) k tries)
+
+  whole : kept regs Q (levelOf regs w tries k) ≡ first ++ then
+  whole = sym (kept-wide regs (words * 64) Q (ready .enough) (ready .bound) (levelOf regs w tries k))
+      ∙ ap (λ (x : ℕ). listed (words * 64) 0 x ++ added (words * 64) Q x (handlersOf (count w) k tries)) (sym (h .is))
+
+  -- counted
+  module _ (u : List ℕ) (g : Holds 64 u (bitOr (value 64 s) (joined (row (rowsOf 64 words (suc (count w)) rows)) (handlersOf (count w) k tries)))) (r : ℕ)
+      (c : r ≡ length (listed (words * 64) 0 (value 64 u))) where
+    pub level-count : r ≡ length (kept regs (row (rowsOf 64 words (suc (count w)) rows)) (levelOf regs w tries k))
+    level-count = c ∙ ap (λ (x : ℕ). length (listed (words * 64) 0 x)) (g .is) ∙ sym (union-count (words * 64) Q (handlersOf (count w) k tries) (value 64 s)) ∙ ap length (sym whole)
+
+    pub level-few : r ≤ 1024
+    level-few = omega (arith, c, listed-le (words * 64) 0 (value 64 u), ready .narrow)
+
+  -- listed
+  module _ (old : List ℕ) (m : ℕ) (fits : m + length (kept regs (row (rowsOf 64 words (suc (count w)) rows)) (levelOf regs w tries k)) ≤ length old) where
+    sizes : m + (length first + length then) ≤ length old
+    sizes = omega (arith, ap length whole, length-append first then)
+
+    pub level-room : m + length (listed (words * 64) 0 (value 64 s)) ≤ length old
+    level-room = omega (arith, sizes)
+
+    module _ (out : List ℕ) (at : ℕ) (a : Listing (listed (words * 64) 0 (value 64 s)) old m out at) where
+      pub level-rest : at + length (added (words * 64) (row (rowsOf 64 words (suc (count w)) rows)) (value 64 s) (handlersOf (count w) k tries)) ≤ length out
+      level-rest = omega (arith, sizes, a .past, ap length (a .put), length-paste old m first (length first) (omega (arith, sizes)) (omega arith))
+
+      pub level-list : (out′ : List ℕ) (at′ : ℕ) → Listing (added (words * 64) (row (rowsOf 64 words (suc (count w)) rows)) (value 64 s) (handlersOf (count w) k tries)) out at out′ at′
+          → Listing (kept regs (row (rowsOf 64 words (suc (count w)) rows)) (levelOf regs w tries k)) old m out′ at′
+      level-list out′ at′ b = subst (λ (x : List ℕ). Listing x old m out′ at′) (sym whole) (listing-append first then old out out′ m at at′ (omega (arith, fits, ap length whole)) a b)
+
+pub ruleset levels = (level-count, level-few, level-room, level-rest, level-list)

@@ -1,0 +1,13 @@
+pub mod Resume
+pub mod Sets
+pub mod Walks
+pub mod Tries
+pub mod Levels
+pub mod Passes
+pub mod Over
+pub mod Tests
+pub mod Calls
+pub mod Parts
+pub mod Demand
+pub mod Alone
+pub mod Examples

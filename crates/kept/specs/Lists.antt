@@ -1,0 +1,47 @@
+-- One flat list and n + 1 offsets. Assumes nothing.
+use Prim.Native.Nat.{ℕ, zero, suc, _+_, _-_, _*_, _^_, _≤_, _<_}
+use mathlib.Core.Path.{_≡_}
+use mathlib.Core.List.{List, [], _∷_, _++_}
+use lib.ListN.{length, getD, take, drop}
+use Rattle.code.specs.Ins.{count}
+use Rattle.code.specs.Check.{Valid}
+use Rattle.flow.specs.Sweep.{row}
+use Rattle.flow.specs.Words.{rowsOf, Small}
+use Rattle.kept.specs.Level.{keptAt}
+
+-- the rows that a buffer holds, in so many words each
+abbrev pub rowsBy : ℕ → List ℕ → List ℕ → List ℕ
+rowsBy words w buf = rowsOf 64 words (suc (count w)) buf
+
+-- the kept lists of the first m positions, one after the other
+unfoldable pub listsTo : ℕ → List ℕ → List ℕ → List ℕ → ℕ → List ℕ
+listsTo regs w tries rows zero = []
+listsTo regs w tries rows (suc m) = listsTo regs w tries rows m ++ keptAt regs w tries rows m
+
+-- the first m offsets: where each position's list begins
+unfoldable pub offsetsTo : ℕ → List ℕ → List ℕ → List ℕ → ℕ → List ℕ
+offsetsTo regs w tries rows zero = []
+offsetsTo regs w tries rows (suc m) = offsetsTo regs w tries rows m ++ (length (listsTo regs w tries rows m) ∷ [])
+
+-- a lent buffer that begins with a list; words past it as lent
+abbrev pub over : List ℕ → List ℕ → List ℕ
+over l old = l ++ drop (length l) old
+
+-- the list of position k, as it stands in the lent list: from offset k to offset k + 1
+abbrev pub partAt : List ℕ → List ℕ → ℕ → List ℕ
+partAt offsets list k = take (getD offsets (k + 1) 0 - getD offsets k 0) (drop (getD offsets k 0) list)
+
+-- what a pass over the levels relies on: valid code, its rows in so many words each, and no register at or above the count
+pub record Ready (regs : ℕ) (w : List ℕ) (words : ℕ) (buf : List ℕ) : Type 0 where
+  pub valid : Valid w
+  pub few : regs ≤ 1024
+  pub narrow : words ≤ 16
+  pub enough : regs ≤ words * 64
+  pub room : suc (count w) * words ≤ length buf
+  pub small : Small 64 buf
+  pub bound : (k : ℕ) → row (rowsBy words w buf) k < 2 ^ regs
+
+-- all lists and offsets are written
+pub record Filled (regs : ℕ) (w tries rows offsets list offsets′ list′ : List ℕ) : Type 0 where
+  pub begins : offsets′ ≡ over (offsetsTo regs w tries rows (suc (count w))) offsets
+  pub lists : list′ ≡ over (listsTo regs w tries rows (count w)) list

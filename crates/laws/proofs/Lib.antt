@@ -1,0 +1,11 @@
+pub mod Branch
+pub mod Byte
+pub mod Each
+pub mod Every
+pub mod InPlace
+pub mod Keys
+pub mod Many
+pub mod Mask
+pub mod Some
+pub mod Table
+pub mod Walk

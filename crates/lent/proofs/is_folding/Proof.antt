@@ -1,0 +1,12 @@
+-- `lent::is_folding` meets its contract: its code is the definition. Assumes nothing.
+use mathlib.Core.Path.{refl}
+use Rattle.lent.specs.Chunk.{folds}
+use Rattle.lent.proofs.is_folding.Statement.{statement}
+use Rattle.lent.proofs.is_folding.Tie as tie
+
+returns : tie.Need-returns
+unfolding folds
+returns c = refl
+
+pub is-folding-spec : {M : Type 1} → statement M
+is-folding-spec = tie.close (tie.spec returns)

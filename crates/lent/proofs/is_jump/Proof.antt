@@ -1,0 +1,21 @@
+-- `lent::is_jump` meets its contract. Assumes nothing.
+use borrow.Author.Needs.{needs}
+use mathlib.Core.Path.{_≡_}
+use mathlib.Core.List.{List}
+use Prim.Native.Nat.{ℕ, _%_}
+use lib.Dec.{eqb}
+use Rattle.lent.specs.Chunk.{markAt, jumps}
+use Rattle.lent.proofs.is_jump.Statement.{statement}
+use Rattle.lent.proofs.is_jump.Tie as tie
+
+marked : (w : List ℕ) (k m : ℕ) → m ≡ markAt w k → eqb (m % 2) 1 ≡ jumps w k
+marked w k m e = rw e
+
+mark-at-requires : tie.Need-mark-at-requires
+mark-at-requires c κs = search needs
+
+returns : tie.Need-returns
+returns c = search marked
+
+pub is-jump-spec : {M : Type 1} → statement M
+is-jump-spec = tie.close (tie.spec mark-at-requires returns)

@@ -1,0 +1,89 @@
+-- `lent::tallied` meets its contract: it counts both as it goes. Assumes nothing.
+use borrow.Author.Needs.{needs}
+use mathlib.Core.Path.{_≡_}
+use mathlib.Core.Bool.{Bool}
+use mathlib.Core.List.{List}
+use Prim.Native.Nat.{ℕ, _+_, _-_, _≤_}
+use native.Mathlib.Omega.{arith}
+use lib.Dec.{eqb}
+use mir.Val.{boolByte}
+use Rattle.code.specs.Op.{Phi}
+use Rattle.laws.specs.All.{many}
+use Rattle.laws.proofs.Many.{none-counted, counted-on}
+use Rattle.lent.specs.Chunk.{count, opAt, isPhi, folds}
+use Rattle.lent.specs.Check.{tallyOf}
+use Rattle.lent.specs.declared.Tally.{Tally}
+use Rattle.lent.proofs.tallied.Statement.{statement}
+use Rattle.lent.proofs.tallied.Tie as tie
+
+abbrev folding-at : List ℕ → ℕ → Bool
+folding-at w k = folds (opAt w k)
+
+module _ (w : List ℕ) (k o r : ℕ) (e : o ≡ opAt w k) where
+  one-folds : (v : ℕ) (t : Bool) → v ≡ many (folding-at w) k → t ≡ folds o → r ≡ boolByte t → v + r ≡ many (folding-at w) (k + 1)
+  one-folds v t h p q = counted-on (folding-at w) k v r t h q (cc)
+
+  one-phi : (v : ℕ) → v ≡ many (isPhi w) k → r ≡ boolByte (eqb o Phi) → v + r ≡ many (isPhi w) (k + 1)
+  one-phi v h q = counted-on (isPhi w) k v r (eqb o Phi) h q (rw e)
+
+both : (w : List ℕ) (f p k : ℕ) → count w ≤ k → k ≤ count w → f ≡ many (folding-at w) k → p ≡ many (isPhi w) k → record { folding = f; phis = p } ≡ tallyOf w
+unfolding tallyOf
+both w f p k h l a b = let e : k ≡ count w = omega arith in rw (a, b, e)
+
+abbrev Inv-loop : tie.InvT-loop
+Inv-loop code n folding₀ phis₀ k₀ folding phis k =
+    (k ≤ n) × (folding ≤ k) × (phis ≤ k) × (folding ≡ many (folding-at code) k) × (phis ≡ many (isPhi code) k)
+
+abbrev μ-loop : tie.MeasureT-loop
+μ-loop code n folding₀ phis₀ k₀ folding phis k = n - k
+
+loop-holds : tie.Need-loop-holds Inv-loop μ-loop
+loop-holds c = search (needs, none-counted)
+
+op-at-requires : tie.Need-op-at-requires Inv-loop μ-loop
+op-at-requires c κs = search (needs, none-counted)
+
+is-folding-requires : tie.Need-is-folding-requires Inv-loop μ-loop
+is-folding-requires c κs = search (needs, none-counted)
+
+bit-requires : tie.Need-bit-requires Inv-loop μ-loop
+bit-requires c κs = search (needs, none-counted)
+
+add-folding : tie.Need-add-folding Inv-loop μ-loop
+add-folding c = search (needs, none-counted)
+
+bit-requires-2 : tie.Need-bit-requires-2 Inv-loop μ-loop
+bit-requires-2 c κs = search (needs, none-counted)
+
+add-phis : tie.Need-add-phis Inv-loop μ-loop
+add-phis c = search (needs, none-counted)
+
+add-k : tie.Need-add-k Inv-loop μ-loop
+add-k c = search (needs, none-counted)
+
+loop-less : tie.Need-loop-less Inv-loop μ-loop
+loop-less c = search (needs, none-counted)
+
+loop-again : tie.Need-loop-again Inv-loop μ-loop
+loop-again c = search (needs, one-folds, one-phi)
+
+returns : tie.Need-returns Inv-loop μ-loop
+returns c = search both
+
+pub tallied-spec : {M : Type 1} → statement M
+tallied-spec =
+    tie.close
+    (tie.spec
+    Inv-loop
+    μ-loop
+    loop-holds
+    op-at-requires
+    is-folding-requires
+    bit-requires
+    add-folding
+    bit-requires-2
+    add-phis
+    add-k
+    loop-less
+    loop-again
+    returns)

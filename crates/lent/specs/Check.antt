@@ -1,0 +1,76 @@
+-- The refusals of a lent chunk, in document 01's order of test. Assumes nothing.
+use Prim.Native.Nat.{ℕ, _+_, _*_, _%_, _/_, min, max}
+use mathlib.Core.Bool.{Bool, cond, not, _||_}
+use mathlib.Core.List.{List}
+use lib.Dec.{ltb, eqb}
+use lib.ListN.{length}
+use Rattle.laws.specs.Walk.{first}
+use Rattle.laws.specs.All.{many}
+use Rattle.code.specs.Check.{roomOf}
+use Rattle.code.specs.declared.Refusal.the-variants.{Length, Record}
+use Rattle.code.specs.declared.Checked.{Checked}
+use Rattle.code.specs.declared.Checked.the-variants.{Count, No}
+use Rattle.lent.specs.declared.Counts.{Counts}
+use Rattle.lent.specs.declared.Lens.{Lens}
+use Rattle.lent.specs.declared.Tally.{Tally}
+use Rattle.lent.specs.Chunk.{stride, count, opAt, isPhi, folds, breaksAt}
+use Rattle.lent.specs.Tables.{constantsKept, mapKept, pairsKept, tableOf}
+
+-- 1: code length no multiple of its stride, or too many instructions
+abbrev pub uneven : List ℕ → Bool
+uneven w = not (eqb (length w % stride) 0) || ltb 65535 (count w)
+
+-- the first instruction that breaks a record rule, else n
+abbrev pub firstBad : List ℕ → ℕ
+firstBad w = first (breaksAt w) 0 (count w)
+
+-- 1, then 2: the first position that breaks a record rule
+unfoldable pub checkOf : List ℕ → Checked
+checkOf w =
+    cond (uneven w) (No (Length (length w)))
+    (cond (ltb (firstBad w) (count w)) (No (Record (firstBad w)))
+    (Count (count w)))
+
+-- 7: the lowest table that breaks its rule
+unfoldable pub tablesOf : Checked → ℕ → List ℕ → List ℕ → Counts → Lens → Checked
+tablesOf v n kinds words c l =
+    tableOf
+    (tableOf
+    (tableOf
+    (tableOf
+    (tableOf v 1 (constantsKept kinds words (c .constants)))
+    2 (mapKept n (c .map) (l .map)))
+    3 (pairsKept (c .sources) (l .sources)))
+    4 (pairsKept (c .stmts) (l .stmts)))
+    5 (pairsKept (c .calls) (l .calls))
+
+-- the folding operators and the Phis in the chunk
+unfoldable pub tallyOf : List ℕ → Tally
+tallyOf w = record { folding = many (λ k. folds (opAt w k)) (count w); phis = many (isPhi w) (count w) }
+
+-- constant room max(count, min(65,535, count + folding operators in the chunk))
+abbrev pub constantRoom : ℕ → ℕ → ℕ
+constantRoom constants folding = max constants (min 65535 (constants + folding))
+
+-- phi_sources for max(pairs, Phis in the chunk), in words
+abbrev pub sourceRoom : ℕ → ℕ → ℕ
+sourceRoom sources phis = 2 * max (sources / 2) phis
+
+-- 5: the first buffer too short, of constant kinds, constant words, phi_map, phi_sources, dead marks, remap
+unfoldable pub roomsOf : Checked → List ℕ → Counts → Lens → Checked
+roomsOf v w c l =
+    roomOf
+    (roomOf
+    (roomOf
+    (roomOf
+    (roomOf
+    (roomOf v 1 (l .kinds) (constantRoom (c .constants) (tallyOf w .folding)))
+    2 (l .words) (constantRoom (c .constants) (tallyOf w .folding)))
+    3 (l .map) (count w))
+    4 (l .sources) (sourceRoom (c .sources) (tallyOf w .phis)))
+    5 (l .dead) (count w))
+    6 (l .remap) (count w + 1)
+
+-- 1, 2, 7, 5: all tests of the folding call
+unfoldable pub readyOf : List ℕ → List ℕ → List ℕ → Counts → Lens → Checked
+readyOf w kinds words c l = roomsOf (tablesOf (checkOf w) (count w) kinds words c l) w c l

@@ -1,0 +1,51 @@
+-- An instruction of a lent chunk, and its record rules: document 01, 'What is lent'. Assumes nothing.
+use Prim.Native.Nat.{ℕ, _+_, _*_, _%_, _/_}
+use mathlib.Core.Bool.{Bool, not, _&&_, _||_}
+use mathlib.Core.List.{List}
+use lib.Dec.{eqb, leb}
+use lib.ListN.{getD, length}
+use Rattle.code.specs.Op.{last, LoadConst, Phi, Add, Sub, Mul, Div, Mod, FloorDiv, Eq, NotEq, Lt, Gt, LtEq, GtEq, BitAnd, BitOr, BitXor, Shl, Shr, Not, Minus}
+
+-- three words an instruction: opcode, marks, operand
+abbrev pub stride : ℕ
+stride = 3
+
+-- n, how many there are
+abbrev pub count : List ℕ → ℕ
+count w = length w / stride
+
+abbrev pub opAt : List ℕ → ℕ → ℕ
+opAt w k = getD w (stride * k) 0
+
+abbrev pub markAt : List ℕ → ℕ → ℕ
+markAt w k = getD w (stride * k + 1) 0
+
+abbrev pub operandAt : List ℕ → ℕ → ℕ
+operandAt w k = getD w (stride * k + 2) 0
+
+-- mark bit 0, `is_jump`
+abbrev pub jumps : List ℕ → ℕ → Bool
+jumps w k = eqb (markAt w k % 2) 1
+
+abbrev pub isPhi : List ℕ → ℕ → Bool
+isPhi w k = eqb (opAt w k) Phi
+
+-- the folding operators
+unfoldable pub folds : ℕ → Bool
+folds o =
+    eqb o Add || eqb o Sub || eqb o Mul || eqb o Div || eqb o Mod || eqb o FloorDiv || eqb o Eq || eqb o NotEq || eqb o Lt || eqb o Gt || eqb o LtEq
+    || eqb o GtEq
+    || eqb o BitAnd
+    || eqb o BitOr
+    || eqb o BitXor
+    || eqb o Shl
+    || eqb o Shr
+    || eqb o Not
+    || eqb o Minus
+
+-- opcode known, marks only bit 0, and the jump mark not on LoadConst, Phi or a folding operator
+unfoldable pub rules : ℕ → ℕ → Bool
+rules o marks = leb o last && leb marks 1 && (not (eqb (marks % 2) 1) || not (eqb o LoadConst || eqb o Phi || folds o))
+
+abbrev pub breaksAt : List ℕ → ℕ → Bool
+breaksAt w k = not (rules (opAt w k) (markAt w k))

@@ -1,0 +1,3 @@
+pub mod Chunk
+pub mod Tables
+pub mod Check

@@ -1,0 +1,119 @@
+-- Document 01's marked examples: P1 to P13 as one table, over the definitions that the contracts cite. Assumes nothing.
+use Prim.Native.Nat.{ℕ, suc, _+_, _-_}
+use mathlib.Core.Path.{_≡_}
+use mathlib.Core.Bool.{Bool, true, false}
+use mathlib.Core.List.{List, [], _∷_, _++_}
+use lib.IntN.{ℤ, pos, negℤ}
+use lib.Ieee.{binary64, ofBits}
+use lib.ListN.{length, replicate}
+use Rattle.code.specs.Op as op
+use Rattle.code.specs.Ins.{count}
+use Rattle.code.specs.declared.Refusal.the-variants.{Try}
+use Rattle.kept.specs.Answers as call
+use Rattle.kept.specs.declared.KeptAnswer.the-variants as kept
+use Rattle.callee.specs.Answers.{globalAnswer}
+use Rattle.callee.specs.declared.GlobalAnswer.the-variants as callee
+use Rattle.values.specs.Folds.{foldBinop, foldNeg}
+use Rattle.values.specs.declared.Val.the-variants.{Int, Float as Real}
+use Rattle.values.specs.declared.Maybe.the-variants.{Is, Nothing}
+use Rattle.values.specs.declared.Op.the-variants.{FloorDiv, Mod, Shl, Div}
+use Rattle.lent.specs.Chunk as chunk
+use Rattle.optimizer.specs.Fold.{buffers, Outcome, outcome, foldCall}
+use Rattle.optimizer.specs.declared.FoldAnswer.{FoldAnswer}
+use Rattle.optimizer.specs.declared.FoldAnswer.the-variants as fold
+
+-- an instruction without marks: opcode, a, b, c, x
+abbrev pub ins : ℕ → ℕ → ℕ → ℕ → ℕ → List ℕ
+ins o a b c x = o ∷ 0 ∷ a ∷ b ∷ c ∷ x ∷ []
+
+-- code K
+abbrev pub K : List ℕ
+K = ins op.LoadGlobalR 0 7 0 0 ++ ins op.LoadGlobalR 1 9 0 0 ++ ins op.CallR 1 0 0 0 ++ ins op.StoreTopR 2 0 0 0 ++ ins op.AddR 3 0 2 0 ++ ins op.ReturnR 0 3 0 0
+
+abbrev pub rowsK : List ℕ
+rowsK = 0 ∷ 0 ∷ 3 ∷ 1 ∷ 5 ∷ 8 ∷ 0 ∷ []
+
+-- the codes of P4, P5 and P6
+abbrev pub code4 : List ℕ
+code4 = ins op.JumpIfFalseR 2 0 0 0 ++ ins op.ReturnR 0 1 0 0 ++ ins op.ReturnR 0 2 0 0
+
+abbrev pub code5 : List ℕ
+code5 = ins op.Move 1 0 0 0 ++ ins op.LenR 2 1 0 0 ++ ins op.JumpIfFalseR 4 1 0 0 ++ ins op.Jump 0 0 0 0 ++ ins op.ReturnR 0 2 0 0
+
+abbrev pub code6 : List ℕ
+code6 = ins op.PushRegs 5 0 0 1 ++ ins op.CallGlobalR 3 0 0 0 ++ ins op.StoreTopR 1 0 0 0 ++ ins op.StoreTopR 5 0 0 0 ++ ins op.ReturnR 0 5 0 0
+
+-- a buffer as it is lent: so many words, all 9
+abbrev pub room : ℕ → List ℕ
+room m = replicate m 9
+
+-- the kept-register call leaves these rows, keeps this list at k, which is the only level, and tells these counts of full and of abandoned sweeps
+abbrev pub Keeps : ℕ → List ℕ → List ℕ → List ℕ → ℕ → List ℕ → ℕ → ℕ → Type 0
+Keeps regs w tries rows k list full abandoned =
+    call.Outcome w regs tries false (room (length rows)) (room (suc (count w))) (room (length list))
+    rows (replicate (suc k) 0 ++ replicate (count w - k) (length list)) list (kept.Is (length list) full abandoned)
+
+-- it refuses the first try, whatever is lent, and leaves all buffers untouched
+abbrev pub RefusesTry : ℕ → List ℕ → List ℕ → Type 0
+RefusesTry regs w tries = (rows offsets list : List ℕ) → call.Outcome w regs tries false rows offsets list rows offsets list (kept.No (Try 0))
+
+-- the number −n
+abbrev pub minus : ℕ → ℤ
+minus n = negℤ (pos n)
+
+-- an instruction of a chunk without a mark, and a jump
+abbrev pub plain : ℕ → ℕ → List ℕ
+plain o x = o ∷ 0 ∷ x ∷ []
+
+abbrev pub jump : ℕ → List ℕ
+jump x = op.Jump ∷ 1 ∷ x ∷ []
+
+-- the folding call over this code and these constants, so many of them; no Phi, no position pair
+abbrev pub called : Bool → List ℕ → List ℕ → List ℕ → ℕ → Outcome FoldAnswer
+called strict code kinds words constants =
+    foldCall strict (buffers code kinds words (room (chunk.count code)) [] [] [] (room (chunk.count code)) (room (chunk.count code + 1)))
+    (record { constants = constants; map = 0; sources = 0; stmts = 0; calls = 0 })
+
+-- it leaves so many instructions and constants, and the buffers so
+abbrev pub leaves : ℕ → ℕ → (code kinds words map dead remap : List ℕ) → Outcome FoldAnswer
+leaves instructions constants code kinds words map dead remap =
+    outcome (fold.Is (record { instructions = instructions; constants = constants; map = 0; sources = 0 })) (buffers code kinds words map [] [] [] dead remap)
+
+-- the code of P13
+abbrev pub code13 : List ℕ
+code13 = plain op.LoadConst 0 ++ plain op.LoadConst 1 ++ plain op.Add 0 ++ jump 2
+
+pub record Marked : Type 0 where
+  -- rows of K: 0, 0, 3, 1, 5, 8, 0; kept at 2: [0]; callee binding 9; one sweep
+  pub p1 : Keeps 4 K [] rowsK 2 (0 ∷ []) 1 0 × (globalAnswer K 2 ≡ callee.Is 9)
+  -- K with try (1, 5): [0, 3]
+  pub p2 : Keeps 4 K (1 ∷ 5 ∷ []) rowsK 2 (0 ∷ 3 ∷ []) 1 0
+  -- with (2, 5): [0]. (3, 2) is refused, (6, 9) is not
+  pub p3 : Keeps 4 K (2 ∷ 5 ∷ []) rowsK 2 (0 ∷ []) 1 0 × RefusesTry 4 K (3 ∷ 2 ∷ []) × Keeps 4 K (6 ∷ 9 ∷ []) rowsK 2 (0 ∷ []) 1 0
+  -- [0, 1, 2] at 64 and 65
+  pub p4 : Keeps 64 code4 [] (7 ∷ 2 ∷ 4 ∷ 0 ∷ []) 0 (0 ∷ 1 ∷ 2 ∷ []) 1 0 × Keeps 65 code4 [] (7 ∷ 0 ∷ 2 ∷ 0 ∷ 4 ∷ 0 ∷ 0 ∷ 0 ∷ []) 0 (0 ∷ 1 ∷ 2 ∷ []) 1 0
+  -- rows 1, 3, 7, 1, 4, 0; three full sweeps, one abandoned
+  pub p5 : Keeps 3 code5 [] (1 ∷ 3 ∷ 7 ∷ 1 ∷ 4 ∷ 0 ∷ []) 2 (0 ∷ 1 ∷ 2 ∷ []) 3 1
+  -- kept at 1 is [5]
+  pub p6 : Keeps 6 code6 [] (0 ∷ 32 ∷ 32 ∷ 32 ∷ 32 ∷ 0 ∷ []) 1 (5 ∷ []) 1 0
+  -- −7 FloorDiv 2 is −4, Mod 1; 7 Mod −2 is −1
+  pub p7 : (foldBinop FloorDiv (Int (minus 7)) (Int (pos 2)) ≡ Is (Int (minus 4)))
+      × (foldBinop Mod (Int (minus 7)) (Int (pos 2)) ≡ Is (Int (pos 1)))
+      × (foldBinop Mod (Int (pos 7)) (Int (minus 2)) ≡ Is (Int (minus 1)))
+  -- −1 Shl 47 folds, 1 Shl 47 doesn't
+  pub p8 : (foldBinop Shl (Int (minus 1)) (Int (pos 47)) ≡ Is (Int (minus 140_737_488_355_328))) × (foldBinop Shl (Int (pos 1)) (Int (pos 47)) ≡ Nothing)
+  -- 0 Shl 62 folds, 63 doesn't
+  pub p9 : (foldBinop Shl (Int (pos 0)) (Int (pos 62)) ≡ Is (Int (pos 0))) × (foldBinop Shl (Int (pos 0)) (Int (pos 63)) ≡ Nothing)
+  -- Minus on the least int doesn't
+  pub p10 : foldNeg (Int (minus 140_737_488_355_328)) ≡ Nothing
+  -- 7 Div 2 stays; 7 Div 2.0 is 3.5
+  pub p11 : (foldBinop Div (Int (pos 7)) (Int (pos 2)) ≡ Nothing)
+      × (foldBinop Div (Int (pos 7)) (Real (ofBits binary64 0x4000_0000_0000_0000)) ≡ Is (Real (ofBits binary64 0x400c_0000_0000_0000)))
+  -- Minus on 0.0 pushes a second constant
+  pub p12 : called false (plain op.LoadConst 0 ++ plain op.Minus 0) (2 ∷ 9 ∷ []) (0 ∷ 9 ∷ []) 1
+      ≡ leaves 1 2 (plain op.LoadConst 1 ++ replicate 3 0) (2 ∷ 2 ∷ []) (0 ∷ 0x8000_0000_0000_0000 ∷ []) (0 ∷ 0 ∷ []) (0 ∷ 1 ∷ []) (0 ∷ 1 ∷ 1 ∷ [])
+  -- pool 2 and 3: becomes LoadConst 2; jump 1. In strict mode nothing folds
+  pub p13 : (called false code13 (1 ∷ 1 ∷ 9 ∷ []) (2 ∷ 3 ∷ 9 ∷ []) 2
+      ≡ leaves 2 3 (plain op.LoadConst 2 ++ jump 1 ++ replicate 6 0) (1 ∷ 1 ∷ 1 ∷ []) (2 ∷ 3 ∷ 5 ∷ []) (replicate 4 0) (0 ∷ 1 ∷ 1 ∷ 0 ∷ []) (0 ∷ 1 ∷ 1 ∷ 1 ∷ 2 ∷ []))
+      × (called true code13 (1 ∷ 1 ∷ 9 ∷ []) (2 ∷ 3 ∷ 9 ∷ []) 2
+      ≡ leaves 4 2 code13 (1 ∷ 1 ∷ 9 ∷ []) (2 ∷ 3 ∷ 9 ∷ []) (room 4) (replicate 4 0) (room 5))

@@ -1,0 +1,106 @@
+-- What the tests of the folding call leave of the buffers. Assumes nothing.
+use Prim.Native.Nat.{ℕ, _+_, _*_, _%_, _/_, _≤_, max}
+use native.Mathlib.Omega.{arith}
+use mathlib.Core.Path.{_≡_, refl, sym, ap, _∙_}
+use mathlib.Core.Logic.{_⊎_, inl, inr, ⊎-elim}
+use mathlib.Core.Bool.{Bool, true, false, cond, not, _&&_, _||_}
+use mathlib.Core.List.{List}
+use lib.Dec.{eqb, leb, ltb}
+use lib.ListN.{length}
+use borrow.Author.Tests.{eqb-true, leb-true, ltb-false, not-false}
+use Rattle.laws.specs.All.{every}
+use Rattle.laws.proofs.Branch.{and-true, or-false}
+use Rattle.code.specs.Check.{roomOf}
+use Rattle.code.proofs.Stages.{room-before, room-there}
+use Rattle.code.specs.declared.Refusal.{Refusal}
+use Rattle.code.specs.declared.Refusal.the-variants.{Length, Record, Table}
+use Rattle.code.specs.declared.Checked.{Checked}
+use Rattle.code.specs.declared.Checked.the-variants.{Count, No}
+use Rattle.lent.specs.Chunk.{stride, count}
+use Rattle.lent.specs.Tables.{constantKept, within, constantsKept, mapKept, pairsKept, tableOf}
+use Rattle.lent.specs.Check.{uneven, firstBad, checkOf, tablesOf, tallyOf, constantRoom, sourceRoom, roomsOf, readyOf}
+use Rattle.lent.specs.declared.Counts.{Counts}
+use Rattle.lent.specs.declared.Lens.{Lens}
+use Rattle.lent.proofs.Kept.{few}
+use Rattle.optimizer.specs.Fold.{Buffers, lensOf, Held}
+
+never : {A : Type 0} (n : ℕ) (r : Refusal) → Count n ≡ No r → A
+never n r e = let z : _≡_ {A = ℕ} 0 1 = cc in absurd (omega arith)
+
+table-met : (n : ℕ) (v : Checked) (t : ℕ) (kept : Bool) → Count n ≡ tableOf v t kept → (v ≡ Count n) × (kept ≡ true)
+table-met n (No r) t kept e = never n r e
+table-met n (Count m) t true e = (sym e, refl)
+table-met n (Count m) t false e = never n (Table t) e
+
+room-met : (n : ℕ) (v : Checked) (b have needed : ℕ) → Count n ≡ roomOf v b have needed → (v ≡ Count n) × (needed ≤ have)
+room-met n v b have needed e = (room-before n v b have needed e, room-there n v b have needed e)
+
+either : (a b : Bool) → a || b ≡ true → (a ≡ true) ⊎ (b ≡ true)
+either true b e = inl refl
+either false b e = inr e
+
+map-few : (n entries len : ℕ) → mapKept n entries len ≡ true → entries ≤ n
+map-few n entries len e =
+    ⊎-elim
+    (λ q. let z : entries ≡ 0 = eqb-true entries 0 q in omega arith)
+    (λ q. let z : entries ≡ n = eqb-true entries n q in omega arith)
+    (either (eqb entries 0) (eqb entries n) (and-true (eqb entries 0 || eqb entries n) (leb entries len) e .0))
+
+pairs-whole : (words len : ℕ) → pairsKept words len ≡ true → (words % 2 ≡ 0) × (words ≤ len)
+pairs-whole words len e =
+    let p = and-true (eqb (words % 2) 0) (leb words len) e in
+    (eqb-true (words % 2) 0 (p .0), leb-true words len (p .1))
+
+check-met : (n : ℕ) (w : List ℕ) → Count n ≡ checkOf w → (length w % stride ≡ 0) × (count w ≤ 65535)
+unfolding checkOf
+check-met n w h = go (uneven w) refl (ltb (firstBad w) (count w)) refl h
+  where
+    go : (u : Bool) → uneven w ≡ u → (b : Bool) → ltb (firstBad w) (count w) ≡ b → Count n ≡ checkOf w → (length w % stride ≡ 0) × (count w ≤ 65535)
+    go true e b f h = never n (Length (length w)) (rw e at h)
+    go false e b f h =
+        let p = or-false (not (eqb (length w % stride) 0)) (ltb 65535 (count w)) e in
+        (eqb-true _ _ (not-false _ (p .0)), ltb-false _ _ (p .1))
+
+whole-of : (w : List ℕ) → length w % stride ≡ 0 → length w ≡ stride * count w
+whole-of w e = omega arith
+
+pairs-in : (s phis : ℕ) → s % 2 ≡ 0 → s ≤ sourceRoom s phis
+pairs-in s phis e = omega arith
+
+module _ (b : Buffers) (c : Counts) (n : ℕ) where
+  pub held-of : (v : Checked) → v ≡ readyOf (b .code) (b .kinds) (b .words) c (lensOf b) → v ≡ Count n → Held b c
+  unfolding readyOf roomsOf tablesOf
+  held-of v e f =
+      let r₆ = room-met n _ 6 _ _ (sym f ∙ e) in
+      let r₅ = room-met n _ 5 _ _ (sym (r₆ .0)) in
+      let r₄ = room-met n _ 4 _ _ (sym (r₅ .0)) in
+      let r₃ = room-met n _ 3 _ _ (sym (r₄ .0)) in
+      let r₂ = room-met n _ 2 _ _ (sym (r₃ .0)) in
+      let r₁ = room-met n _ 1 _ _ (sym (r₂ .0)) in
+      let t₅ = table-met n _ 5 _ (sym (r₁ .0)) in
+      let t₄ = table-met n _ 4 _ (sym (t₅ .0)) in
+      let t₃ = table-met n _ 3 _ (sym (t₄ .0)) in
+      let t₂ = table-met n _ 2 _ (sym (t₃ .0)) in
+      let t₁ = table-met n _ 1 _ (sym (t₂ .0)) in
+      let k = check-met n (b .code) (sym (t₁ .0)) in
+      let s = pairs-whole (c .sources) (length (b .sources)) (t₃ .1) in
+      let p = pairs-whole (c .stmts) (length (b .stmts)) (t₄ .1) in
+      let q = pairs-whole (c .calls) (length (b .calls)) (t₅ .1) in
+      let i = and-true (within (c .constants) (length (b .kinds)) (length (b .words))) (every (constantKept (b .kinds) (b .words)) (c .constants)) (t₁ .1) .0 in
+      record {
+        whole = whole-of (b .code) (k .0);
+        few = k .1;
+        constants = few (c .constants) (length (b .kinds)) (length (b .words)) i;
+        kinds = r₁ .1;
+        words = r₂ .1;
+        entries = map-few (count (b .code)) (c .map) (length (b .map)) (t₂ .1);
+        map = r₃ .1;
+        pairs = pairs-in (c .sources) (tallyOf (b .code) .phis) (s .0);
+        sources = r₄ .1;
+        stmt-pairs = p .0;
+        stmts = p .1;
+        call-pairs = q .0;
+        calls = q .1;
+        dead = r₅ .1;
+        remap = r₆ .1;
+      }

@@ -1,0 +1,111 @@
+-- `optimizer::fold_needed` meets its contract. Assumes nothing.
+use borrow.Author.Needs.{needs}
+use Rattle.optimizer.proofs.Whole.{exact-of, joins}
+use Rattle.optimizer.proofs.Anew.{took, took-by}
+use Rattle.optimizer.proofs.fold_needed.Statement.{statement}
+use Rattle.optimizer.proofs.fold_needed.Tie as tie
+
+add-more : tie.Need-add-more
+add-more c = search needs
+
+sources-needed-requires : tie.Need-sources-needed-requires
+sources-needed-requires c κs = search needs
+
+slice-relend-prefix-constant-fold : tie.Need-slice-relend-prefix-constant-fold
+slice-relend-prefix-constant-fold c = search needs
+
+slice-aggregate-constant-fold : tie.Need-slice-aggregate-constant-fold
+slice-aggregate-constant-fold c = search took
+
+slice-relend-prefix-constant-fold-2 : tie.Need-slice-relend-prefix-constant-fold-2
+slice-relend-prefix-constant-fold-2 c = search needs
+
+slice-aggregate-constant-fold-2 : tie.Need-slice-aggregate-constant-fold-2
+slice-aggregate-constant-fold-2 c = search took-by
+
+slice-relend-prefix-constant-fold-3 : tie.Need-slice-relend-prefix-constant-fold-3
+slice-relend-prefix-constant-fold-3 c = search needs
+
+slice-aggregate-constant-fold-3 : tie.Need-slice-aggregate-constant-fold-3
+slice-aggregate-constant-fold-3 c = search took
+
+slice-relend-prefix-constant-fold-4 : tie.Need-slice-relend-prefix-constant-fold-4
+slice-relend-prefix-constant-fold-4 c = search needs
+
+slice-aggregate-constant-fold-4 : tie.Need-slice-aggregate-constant-fold-4
+slice-aggregate-constant-fold-4 c = search took
+
+slice-relend-prefix-constant-fold-5 : tie.Need-slice-relend-prefix-constant-fold-5
+slice-relend-prefix-constant-fold-5 c = search needs
+
+slice-aggregate-constant-fold-5 : tie.Need-slice-aggregate-constant-fold-5
+slice-aggregate-constant-fold-5 c = search took
+
+slice-relend-prefix-constant-fold-6 : tie.Need-slice-relend-prefix-constant-fold-6
+slice-relend-prefix-constant-fold-6 c = search needs
+
+slice-aggregate-constant-fold-6 : tie.Need-slice-aggregate-constant-fold-6
+slice-aggregate-constant-fold-6 c = search took
+
+constant-fold-requires : tie.Need-constant-fold-requires
+constant-fold-requires c κs = exact-of _ _ _ _ _ _ _ _ _ _ _ (c .before .before .before .before .before .before .before .before .before .sources-needed .ensures) (c .before .before .before .before .before .before .before .before .before .before .before .before .before .before .before .before .before .before .before .before .pre)
+
+same-length : tie.Need-same-length
+same-length c = search needs
+
+same-length-2 : tie.Need-same-length-2
+same-length-2 c = search needs
+
+same-length-3 : tie.Need-same-length-3
+same-length-3 c = search needs
+
+same-length-4 : tie.Need-same-length-4
+same-length-4 c = search needs
+
+same-length-5 : tie.Need-same-length-5
+same-length-5 c = search needs
+
+same-length-6 : tie.Need-same-length-6
+same-length-6 c = search needs
+
+same-length-7 : tie.Need-same-length-7
+same-length-7 c = search needs
+
+same-length-8 : tie.Need-same-length-8
+same-length-8 c = search needs
+
+same-length-9 : tie.Need-same-length-9
+same-length-9 c = search needs
+
+returns : tie.Need-returns
+returns c = joins _ _ _ _ _ _ _ _ _ _ _ _ _ _ _ _ _ _ _ _ _ _ (c .before .before .before .before .before .before .before .before .before .before .before .before .before .before .before .before .before .before .before .before .before .before .before .before .before .before .before .before .sources-needed .ensures) (c .before .before .before .before .before .before .before .before .before .before .before .before .before .before .before .before .before .before .constant-fold .ensures)
+
+pub fold-needed-spec : {M : Type 1} → statement M
+fold-needed-spec =
+    tie.close
+    (tie.spec
+    add-more
+    sources-needed-requires
+    slice-relend-prefix-constant-fold
+    slice-aggregate-constant-fold
+    slice-relend-prefix-constant-fold-2
+    slice-aggregate-constant-fold-2
+    slice-relend-prefix-constant-fold-3
+    slice-aggregate-constant-fold-3
+    slice-relend-prefix-constant-fold-4
+    slice-aggregate-constant-fold-4
+    slice-relend-prefix-constant-fold-5
+    slice-aggregate-constant-fold-5
+    slice-relend-prefix-constant-fold-6
+    slice-aggregate-constant-fold-6
+    constant-fold-requires
+    same-length
+    same-length-2
+    same-length-3
+    same-length-4
+    same-length-5
+    same-length-6
+    same-length-7
+    same-length-8
+    same-length-9
+    returns)

@@ -1,0 +1,88 @@
+-- `phis::dead` meets its contract. Assumes nothing.
+use borrow.Author.Needs.{needs}
+use mathlib.Core.Path.{_≡_, ap, _∙_}
+use mathlib.Core.Bool.{Bool, true, false, not}
+use mathlib.Core.List.{List, _++_}
+use Prim.Native.Nat.{ℕ, _+_, _/_, _<_}
+use native.Mathlib.Omega.{arith}
+use lib.ListN.{length, getD, replicate}
+use Rattle.laws.specs.Table.{clearedTo}
+use Rattle.laws.proofs.Table.{cleared-tail, cleared-length, cleared-at}
+use Rattle.phis.specs.Phi.{Read, Dead, Says, Room, Searched, Settles}
+use Rattle.phis.proofs.dead.Statement.{statement}
+use Rattle.phis.proofs.dead.Tie as tie
+
+module _ (w seen seen₁ todo : List ℕ) (room : Room w seen todo) (c : seen₁ ≡ clearedTo (length w / 6 + 1) seen) where
+  ready : Room w seen₁ todo
+  ready =
+      record {
+        whole = room .whole;
+        few = room .few;
+        marks = rw (c, cleared-length (length w / 6 + 1) seen (room .marks)) (room .marks);
+        waiting = room .waiting;
+      }
+
+  none : (j : ℕ) → j < length w / 6 → getD seen₁ j 0 ≡ 0
+  none j h = rw c (cleared-at (length w / 6 + 1) seen j (omega arith))
+
+other : (P : Type 0) (b : Bool) → Says P b → Says (P → ⊥) (not b)
+other P true s = λ n. n s
+other P false s = s
+
+done : (w seen seen₁ seen₂ seen₃ todo todo₁ todo₂ : List ℕ) (k r : ℕ) (b : Bool)
+    → seen₁ ≡ clearedTo (length w / 6 + 1) seen
+    → Searched w seen₁ todo r (k + 1) b seen₂ todo₁
+    → seen₃ ≡ clearedTo (length w / 6 + 1) seen₂
+    → todo₂ ≡ clearedTo (length w / 6 + 1) todo₁
+    → Settles (Dead w k r) (length w / 6 + 1) seen todo (not b) seen₃ todo₂
+done w seen seen₁ seen₂ seen₃ todo todo₁ todo₂ k r b c s d e =
+    record {
+      says = other (Read w r (k + 1)) b (s .answer);
+      marks = d ∙ ap (λ (l : List ℕ). replicate (length w / 6 + 1) 0 ++ l) (s .marks .tail ∙ rw c (cleared-tail (length w / 6 + 1) seen));
+      waiting = e ∙ ap (λ (l : List ℕ). replicate (length w / 6 + 1) 0 ++ l) (s .waiting .tail);
+    }
+
+add-words : tie.Need-add-words
+add-words c = search needs
+
+clear-marks-requires : tie.Need-clear-marks-requires
+clear-marks-requires c κs = search needs
+
+add-search : tie.Need-add-search
+add-search c = search needs
+
+cast-search : tie.Need-cast-search
+cast-search c = search needs
+
+search-requires : tie.Need-search-requires
+search-requires c κs = search (ready, none)
+
+clear-marks-requires-2 : tie.Need-clear-marks-requires-2
+clear-marks-requires-2 c κs = search needs
+
+clear-words-requires : tie.Need-clear-words-requires
+clear-words-requires c κs = search needs
+
+same-length : tie.Need-same-length
+same-length c = search needs
+
+same-length-2 : tie.Need-same-length-2
+same-length-2 c = search needs
+
+returns : tie.Need-returns
+returns c = search done
+
+pub dead-spec : {M : Type 1} → statement M
+dead-spec =
+    tie.close
+    (tie.spec
+    add-words
+    clear-marks-requires
+    add-search
+    cast-search
+    search-requires
+    clear-marks-requires-2
+    clear-words-requires
+    same-length
+    same-length-2
+    returns)

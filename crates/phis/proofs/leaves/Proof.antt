@@ -1,0 +1,12 @@
+-- `phis::leaves` meets its contract: its code is the rule. Assumes nothing.
+use mathlib.Core.Path.{refl}
+use Rattle.phis.specs.Generator.{leaves}
+use Rattle.phis.proofs.leaves.Statement.{statement}
+use Rattle.phis.proofs.leaves.Tie as tie
+
+returns : tie.Need-returns
+unfolding leaves
+returns c = refl
+
+pub leaves-spec : {M : Type 1} → statement M
+leaves-spec = tie.close (tie.spec returns)

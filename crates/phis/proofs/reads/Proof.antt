@@ -1,0 +1,26 @@
+-- `phis::reads` meets its contract. Assumes nothing.
+use borrow.Author.Needs.{needs}
+use mathlib.Core.Path.{_≡_}
+use mathlib.Core.Bool.{not, _&&_, _||_}
+use Prim.Native.Nat.{ℕ}
+use lib.Dec.{eqb}
+use Rattle.code.specs.Op.{ForIterR, LoadName}
+use Rattle.code.specs.declared.Ins.{Ins}
+use Rattle.roles.specs.Kinds.{kindsOf, has, none}
+use Rattle.phis.specs.Phi.{inFields, reads}
+use Rattle.phis.proofs.reads.Statement.{statement}
+use Rattle.phis.proofs.reads.Tie as tie
+
+is : (i : Ins) (r k : ℕ) → k ≡ kindsOf i
+    → not (has none k) && not (eqb (i .op) ForIterR) && inFields k i r || has none k && eqb (i .op) LoadName && eqb (i .a) r ≡ reads i r
+unfolding reads
+is i r k e = rw e
+
+kinds-of-requires : tie.Need-kinds-of-requires
+kinds-of-requires c κs = search needs
+
+returns : tie.Need-returns
+returns c = search is
+
+pub reads-spec : {M : Type 1} → statement M
+reads-spec = tie.close (tie.spec kinds-of-requires returns)

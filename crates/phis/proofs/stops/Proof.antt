@@ -1,0 +1,27 @@
+-- `phis::stops` meets its contract. Assumes nothing.
+use borrow.Author.Needs.{needs}
+use mathlib.Core.Path.{_≡_}
+use mathlib.Core.Bool.{not, _&&_, _||_}
+use Prim.Native.Nat.{ℕ}
+use lib.Dec.{eqb}
+use Rattle.code.specs.Op.{ForIterR, StoreName, ReturnR, ReturnValue, Raise}
+use Rattle.code.specs.declared.Ins.{Ins}
+use Rattle.roles.specs.Kinds.{kindsOf, has, dest, none}
+use Rattle.phis.specs.Phi.{writes, stops}
+use Rattle.phis.proofs.stops.Statement.{statement}
+use Rattle.phis.proofs.stops.Tie as tie
+
+is : (i : Ins) (r k : ℕ) → k ≡ kindsOf i
+    → (not (has none k) && (eqb (i .op) ForIterR && eqb (i .b) r || not (eqb (i .op) ForIterR) && has dest k && eqb (i .a) r) || has none k && eqb (i .op) StoreName && eqb (i .a) r)
+    || eqb (i .op) ReturnR || eqb (i .op) ReturnValue || eqb (i .op) Raise ≡ stops i r
+unfolding stops writes
+is i r k e = rw e
+
+kinds-of-requires : tie.Need-kinds-of-requires
+kinds-of-requires c κs = search needs
+
+returns : tie.Need-returns
+returns c = search is
+
+pub stops-spec : {M : Type 1} → statement M
+stops-spec = tie.close (tie.spec kinds-of-requires returns)

@@ -1,0 +1,58 @@
+-- `replay::rows` is safe and ends. Assumes nothing.
+use borrow.Author.Needs.{needs}
+use Prim.Native.Nat.{_≤_, _-_}
+use Rattle.replay.proofs.rows.Statement.{statement}
+use Rattle.replay.proofs.rows.Tie as tie
+
+abbrev Inv-loop : tie.InvT-loop
+Inv-loop agree other k₀ k = k ≤ 20
+
+abbrev μ-loop : tie.MeasureT-loop
+μ-loop agree other k₀ k = 20 - k
+
+loop-holds : tie.Need-loop-holds Inv-loop μ-loop
+loop-holds c = search needs
+
+mul-row : tie.Need-mul-row Inv-loop μ-loop
+mul-row c = search needs
+
+element-copy-out-row : tie.Need-element-copy-out-row Inv-loop μ-loop
+element-copy-out-row c = search needs
+
+mul-row-2 : tie.Need-mul-row-2 Inv-loop μ-loop
+mul-row-2 c = search needs
+
+element-copy-out-row-2 : tie.Need-element-copy-out-row-2 Inv-loop μ-loop
+element-copy-out-row-2 c = search needs
+
+row-requires : tie.Need-row-requires Inv-loop μ-loop
+row-requires c κs = search needs
+
+add-k : tie.Need-add-k Inv-loop μ-loop
+add-k c = search needs
+
+loop-less : tie.Need-loop-less Inv-loop μ-loop
+loop-less c = search needs
+
+loop-again : tie.Need-loop-again Inv-loop μ-loop
+loop-again c = search needs
+
+returns : tie.Need-returns Inv-loop μ-loop
+returns c = search needs
+
+pub rows-spec : {M : Type 1} → statement M
+rows-spec =
+    tie.close
+    (tie.spec
+    Inv-loop
+    μ-loop
+    loop-holds
+    mul-row
+    element-copy-out-row
+    mul-row-2
+    element-copy-out-row-2
+    row-requires
+    add-k
+    loop-less
+    loop-again
+    returns)

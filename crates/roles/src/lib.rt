@@ -1,0 +1,346 @@
+// What an instruction does with its fields a, b and c, and with registers (block.rs: `role`, `kinds`, `writes`, `field`).
+ghost use mathlib.Core.Path.{_≡_};
+ghost use Prim.Native.Nat.{_+_, _*_, _%_, _/_, _<_, _≤_};
+ghost use lib.ListN.{length};
+ghost use Rattle.code.specs.Ins.{insAt};
+ghost use Rattle.code.specs.Check.{checkOf, insideOf};
+ghost use Rattle.code.specs.Answers.{asked};
+ghost use Rattle.roles.specs.Kinds.{ruleOf, firstOf, abc, bc, kindsOf, roleOf, hasRole, isJump, fieldOf};
+ghost use Rattle.laws.specs.Page.{among};
+ghost use Rattle.roles.specs.Sets.{caseOf, destBy, unpacked, run, writes as writesIt};
+ghost use Rattle.roles.specs.Answers.{kindsAnswer, roleAnswer, fieldAnswer, writesAnswer};
+use code::Checked;
+use code::Ins;
+use code::Refusal;
+use code::Told;
+use code::op::*;
+
+// `role` as bits: a is written, which of a, b, c are read, a is a jump's target; or no role.
+pub const DEST: u8 = 1;
+
+pub const A: u8 = 2;
+
+pub const B: u8 = 4;
+
+pub const C: u8 = 8;
+
+pub const JUMPS: u8 = 16;
+
+pub const NONE: u8 = 32;
+
+// The bits, or the refusal.
+pub enum KindsAnswer {
+    Is(u8),
+    No(Refusal),
+}
+
+// Whether a is written, which of a, b, c are read (bits 0, 1, 2), and whether a is a jump's target.
+pub struct Fields {
+    pub dest: bool,
+    pub reads: u8,
+    pub jumps: bool,
+}
+
+// A role or none.
+pub enum Found {
+    Is(Fields),
+    Nothing,
+}
+
+pub enum RoleAnswer {
+    Is(Fields),
+    Nothing,
+    No(Refusal),
+}
+
+// A word, or the refusal.
+pub enum FieldAnswer {
+    Is(u16),
+    No(Refusal),
+}
+
+// What an opcode's rule says.
+pub enum Rule {
+    // These bits.
+    Bits(u8),
+    // The first where x is 0, else the second.
+    ByX(u8, u8),
+    // The first x + k of a, b, c.
+    FirstAbc(u16),
+    // The first x + k of b, c.
+    FirstBc(u16),
+    // No bits where a and x are 0, else no role.
+    Bare,
+}
+
+const B_JUMPS: u8 = B + JUMPS;
+
+const BC_JUMPS: u8 = B + C + JUMPS;
+
+const DEST_A: u8 = DEST + A;
+
+const DEST_B: u8 = DEST + B;
+
+const DEST_AB: u8 = DEST + A + B;
+
+const DEST_BC: u8 = DEST + B + C;
+
+const AB: u8 = A + B;
+
+const BC: u8 = B + C;
+
+const ABC: u8 = A + B + C;
+
+pub fn rule_of(o: u16) -> Rule
+    ensures { λ r. ⌜ r ≡ ruleOf o ⌝ }
+{
+    match o {
+        Jump | ForIter | JumpIfFalse | JumpIfFalseOrPop | JumpIfTrueOrPop => Rule::Bits(JUMPS),
+        JumpIfFalseR => Rule::Bits(B_JUMPS),
+        JumpUnlessLt
+        | JumpUnlessLtEq
+        | JumpUnlessGt
+        | JumpUnlessGtEq
+        | JumpUnlessEq
+        | JumpUnlessNotEq => Rule::Bits(BC_JUMPS),
+        ReturnR | StoreGlobalR | StoreGlobalAtR => Rule::Bits(B),
+        PopTop | CallValueR => Rule::Bits(0),
+        PushRegs => Rule::FirstAbc(0),
+        StoreTopR => Rule::ByX(DEST, NONE),
+        LoadGlobalR | LoadGlobalAtR | UnbindR | UnpackR => Rule::Bits(DEST),
+        WrapCellR => Rule::Bits(DEST_A),
+        Move | MinusR | NotR | LenR | GetAttrR | LoadCellR => Rule::Bits(DEST_B),
+        AddR
+        | InPlaceAddR
+        | SubR
+        | InPlaceSubR
+        | MulR
+        | DivR
+        | ModR
+        | FloorDivR
+        | BitAndR
+        | BitOrR
+        | BitXorR
+        | ShlR
+        | ShrR
+        | LtR
+        | LtEqR
+        | GtR
+        | GtEqR
+        | EqR
+        | NotEqR
+        | IsR
+        | IsNotR
+        | PowR
+        | InR
+        | NotInR
+        | GetItemR
+        | SuperR => Rule::Bits(DEST_BC),
+        StoreCellR | SetAttrR | CallSpreadR | ListPushR => Rule::Bits(AB),
+        StoreItemR | ArgsR => Rule::Bits(ABC),
+        CallGlobalR => Rule::FirstBc(0),
+        CallR => Rule::FirstAbc(1),
+        CallMethodR => Rule::FirstBc(1),
+        Raise => Rule::Bare,
+        AppendR => Rule::Bits(DEST_AB),
+        OwnResetR => Rule::Bits(A),
+        ListAppendR | SetAddR | MapAddR => Rule::Bits(BC),
+        ForIterR => Rule::ByX(B_JUMPS, NONE),
+        Del => Rule::ByX(DEST, 0),
+        _ => Rule::Bits(NONE),
+    }
+}
+
+// The first n of a, b, c.
+pub fn first_abc(n: usize) -> u8
+    ensures { λ r. ⌜ r ≡ firstOf abc n ⌝ }
+{
+    if n == 0 {
+        return 0;
+    }
+    if n == 1 {
+        return A;
+    }
+    if n == 2 {
+        return AB;
+    }
+    ABC
+}
+
+// The first n of b, c.
+fn first_bc(n: usize) -> u8
+    ensures { λ r. ⌜ r ≡ firstOf bc n ⌝ }
+{
+    if n == 0 {
+        return 0;
+    }
+    if n == 1 {
+        return B;
+    }
+    BC
+}
+
+pub fn kinds_of(i: Ins) -> u8
+    ensures { λ r. ⌜ r ≡ kindsOf i ⌝ }
+{
+    let x = i.x as usize;
+    match rule_of(i.op) {
+        Rule::Bits(k) => k,
+        Rule::ByX(k, other) => if x == 0 { k } else { other },
+        Rule::FirstAbc(k) => first_abc(x + k as usize),
+        Rule::FirstBc(k) => first_bc(x + k as usize),
+        Rule::Bare => if (i.a == 0) & (x == 0) { 0 } else { NONE },
+    }
+}
+
+// `role` of an instruction.
+pub fn role_of(i: Ins) -> Found
+    ensures { λ r. ⌜ r ≡ roleOf (kindsOf i) ⌝ }
+{
+    let k = kinds_of(i);
+    if k / NONE % 2 == 1 {
+        return Found::Nothing;
+    }
+    Found::Is(Fields {
+        dest: k / DEST % 2 == 1,
+        reads: k / 2 % 8,
+        jumps: k / JUMPS % 2 == 1,
+    })
+}
+
+// Whether an instruction has a role.
+pub fn has_role(i: Ins) -> bool
+    ensures { λ r. ⌜ r ≡ hasRole i ⌝ }
+{
+    let none = kinds_of(i) / NONE % 2 == 1;
+    !none
+}
+
+// Whether it has one, and a is a jump's target.
+pub fn is_jump(i: Ins) -> bool
+    ensures { λ r. ⌜ r ≡ isJump i ⌝ }
+{
+    kinds_of(i) / JUMPS % 4 == 1
+}
+
+// Field f of an instruction: a, b, else c.
+pub fn field_of(i: Ins, f: u8) -> u16
+    ensures { λ r. ⌜ r ≡ fieldOf i f ⌝ }
+{
+    if f == 0 {
+        return i.a;
+    }
+    if f == 1 {
+        return i.b;
+    }
+    i.c
+}
+
+// The opcodes whose registers `role` does not tell.
+pub enum Case {
+    Store,
+    Unpack,
+    Enter,
+    Exit,
+    Judge,
+    Step,
+    Plain,
+}
+
+pub fn case_of(o: u16) -> Case
+    ensures { λ r. ⌜ r ≡ caseOf o ⌝ }
+{
+    match o {
+        StoreTopR => Case::Store,
+        UnpackR => Case::Unpack,
+        WithEnter => Case::Enter,
+        WithExit => Case::Exit,
+        WithJudge => Case::Judge,
+        ForIterR => Case::Step,
+        _ => Case::Plain,
+    }
+}
+
+// Whether i writes r where `role` tells it.
+fn writes_a(i: Ins, r: u16) -> bool
+    ensures { λ t. ⌜ t ≡ among r (destBy i) ⌝ }
+{
+    let k = kinds_of(i);
+    let none = k / NONE % 2 == 1;
+    !none & (k / DEST % 2 == 1) & (r == i.a)
+}
+
+// Whether r is one of the first x of a, b, c.
+fn unpacks(i: Ins, r: u16) -> bool
+    ensures { λ t. ⌜ t ≡ among r (unpacked i) ⌝ }
+{
+    (1 <= i.x) & (r == i.a) | (2 <= i.x) & (r == i.b) | (3 <= i.x) & (r == i.c)
+}
+
+// Whether r is one of the `many` registers from b on, where x is not 0.
+fn runs(i: Ins, r: u16, many: usize) -> bool
+    requires { ⌜ many ≤ 5 ⌝ }
+    ensures { λ t. ⌜ t ≡ among r (run (i .x) (i .b) many) ⌝ }
+{
+    let b = i.b as usize;
+    let r = r as usize;
+    (i.x != 0) & (b <= r) & (r < b + many)
+}
+
+// `writes` of an instruction.
+pub fn writes_of(i: Ins, r: u16) -> bool
+    ensures { λ t. ⌜ t ≡ writesIt i r ⌝ }
+{
+    match case_of(i.op) {
+        Case::Store => (i.x == 0) & (r == i.a),
+        Case::Unpack => unpacks(i, r),
+        Case::Enter => runs(i, r, 2),
+        Case::Exit => runs(i, r, 5),
+        Case::Judge => false,
+        Case::Step => (i.x == 0) & (r == i.b),
+        Case::Plain => writes_a(i, r),
+    }
+}
+
+// `kinds` at a position: refusals 1, 2, 6.
+pub fn kinds(code: &[u16], at: usize) -> KindsAnswer
+    ensures { λ r. ⌜ r ≡ kindsAnswer (now (code .entry)) at ⌝ }
+{
+    match code::inside(code::check(code), at) {
+        Checked::No(r) => KindsAnswer::No(r),
+        Checked::Count(_) => KindsAnswer::Is(kinds_of(code::ins_at(code, at))),
+    }
+}
+
+// `role` at a position: refusals 1, 2, 6.
+pub fn role(code: &[u16], at: usize) -> RoleAnswer
+    ensures { λ r. ⌜ r ≡ roleAnswer (now (code .entry)) at ⌝ }
+{
+    match code::inside(code::check(code), at) {
+        Checked::No(r) => RoleAnswer::No(r),
+        Checked::Count(_) => match role_of(code::ins_at(code, at)) {
+            Found::Is(r) => RoleAnswer::Is(r),
+            Found::Nothing => RoleAnswer::Nothing,
+        },
+    }
+}
+
+// `field` at a position: refusals 1, 2, 6.
+pub fn field(code: &[u16], at: usize, f: u8) -> FieldAnswer
+    ensures { λ r. ⌜ r ≡ fieldAnswer (now (code .entry)) at f ⌝ }
+{
+    match code::inside(code::check(code), at) {
+        Checked::No(r) => FieldAnswer::No(r),
+        Checked::Count(_) => FieldAnswer::Is(field_of(code::ins_at(code, at), f)),
+    }
+}
+
+// `writes` at a position: refusals 1, 2, 6.
+pub fn writes(code: &[u16], at: usize, r: u16) -> Told
+    ensures { λ t. ⌜ t ≡ writesAnswer (now (code .entry)) at r ⌝ }
+{
+    match code::inside(code::check(code), at) {
+        Checked::No(q) => Told::No(q),
+        Checked::Count(_) => Told::Is(writes_of(code::ins_at(code, at), r)),
+    }
+}

@@ -1,0 +1,6 @@
+pub mod Sets
+pub mod Words
+pub mod Sweeps
+pub mod Routes
+pub mod Least
+pub mod Examples

@@ -1,0 +1,118 @@
+-- `rows::live_word` meets its contract: the inner loop is a sweep that has come down to k, the outer a run between two sweeps. Assumes nothing.
+use borrow.Author.Needs.{needs}
+use Prim.Native.Nat.{_-_}
+use Rattle.steps.specs.Level.{firstLevel}
+use Rattle.rows.proofs.Sweeps.{Between, Turn, toGo, word-starts, sweep-starts, word-step, left-few, left-again, left-less, whole-few, whole-found, whole-again, whole-less}
+use Rattle.rows.proofs.live_word.Statement.{statement}
+use Rattle.rows.proofs.live_word.Tie as tie
+
+abbrev Inv-loop : tie.InvT-loop
+Inv-loop code regs rows₀ n start₀ full abandoned₀ changed₀ back₀ k₀ rows start abandoned changed back k =
+    Turn code regs (firstLevel code) start full abandoned abandoned₀ rows₀ rows changed back k
+
+abbrev μ-loop : tie.MeasureT-loop
+μ-loop code regs rows₀ n start₀ full abandoned₀ changed₀ back₀ k₀ rows start abandoned changed back k = k - start
+
+abbrev Inv-again : tie.InvT-again
+Inv-again code regs rows₀ n start₀ full₀ abandoned₀ rows start full abandoned = Between code regs (firstLevel code) start full abandoned rows
+
+abbrev μ-again : tie.MeasureT-again
+μ-again code regs rows₀ n start₀ full₀ abandoned₀ rows start full abandoned = toGo code regs (firstLevel code) full abandoned
+
+first-level-requires : tie.Need-first-level-requires Inv-loop μ-loop Inv-again μ-again
+first-level-requires c κs = search needs
+
+clear-requires : tie.Need-clear-requires Inv-loop μ-loop Inv-again μ-again
+clear-requires c κs = search needs
+
+again-holds : tie.Need-again-holds Inv-loop μ-loop Inv-again μ-again
+again-holds c = search word-starts
+
+loop-holds : tie.Need-loop-holds Inv-loop μ-loop Inv-again μ-again
+loop-holds c = search sweep-starts
+
+sub-step-at : tie.Need-sub-step-at Inv-loop μ-loop Inv-again μ-again
+sub-step-at c = search needs
+
+step-at-requires : tie.Need-step-at-requires Inv-loop μ-loop Inv-again μ-again
+step-at-requires c κs = search needs
+
+goes-before-requires : tie.Need-goes-before-requires Inv-loop μ-loop Inv-again μ-again
+goes-before-requires c κs = search needs
+
+clear-requires-2 : tie.Need-clear-requires-2 Inv-loop μ-loop Inv-again μ-again
+clear-requires-2 c κs = search needs
+
+add-abandoned : tie.Need-add-abandoned Inv-loop μ-loop Inv-again μ-again
+add-abandoned c = record { fits = search left-few }
+
+again-less : tie.Need-again-less Inv-loop μ-loop Inv-again μ-again
+again-less c = search left-less
+
+again-again : tie.Need-again-again Inv-loop μ-loop Inv-again μ-again
+again-again c = search left-again
+
+sub-put-word : tie.Need-sub-put-word Inv-loop μ-loop Inv-again μ-again
+sub-put-word c = search needs
+
+put-word-requires : tie.Need-put-word-requires Inv-loop μ-loop Inv-again μ-again
+put-word-requires c κs = search needs
+
+goes-before-requires-2 : tie.Need-goes-before-requires-2 Inv-loop μ-loop Inv-again μ-again
+goes-before-requires-2 c κs = search needs
+
+sub-k : tie.Need-sub-k Inv-loop μ-loop Inv-again μ-again
+sub-k c = search needs
+
+loop-less : tie.Need-loop-less Inv-loop μ-loop Inv-again μ-again
+loop-less c = search needs
+
+loop-again : tie.Need-loop-again Inv-loop μ-loop Inv-again μ-again
+loop-again c =
+    word-step (c .before .before .before .before .before .before .before .before .before .loop .inv) (c .before .before .before .before .before .before .before .step-at .ensures) (c .before .before .before .before .before .before .before .before .loop-test .taken) (c .before .before .before .before .before .before .goes-before .ensures) (c .before .before .before .before .before .if1 .left) (c .before .before .before .put-word .ensures) (c .goes-before2 .ensures)
+
+add-full : tie.Need-add-full Inv-loop μ-loop Inv-again μ-again
+add-full c = record { fits = whole-few (c .before .loop .inv) (c .loop-test .left) }
+
+same-length : tie.Need-same-length Inv-loop μ-loop Inv-again μ-again
+same-length c = search needs
+
+returns : tie.Need-returns Inv-loop μ-loop Inv-again μ-again
+returns c = whole-found (c .before .before .loop .inv) (c .before .loop-test .left) (c .if2 .taken)
+
+again-less-2 : tie.Need-again-less-2 Inv-loop μ-loop Inv-again μ-again
+again-less-2 c = whole-less (c .before .before .loop .inv) (c .before .loop-test .left) (c .if2 .left)
+
+again-again-2 : tie.Need-again-again-2 Inv-loop μ-loop Inv-again μ-again
+again-again-2 c = whole-again (c .before .before .loop .inv) (c .before .loop-test .left) (c .if2 .left)
+
+pub live-word-spec : {M : Type 1} → statement M
+live-word-spec =
+    tie.close
+    (tie.spec
+    Inv-loop
+    μ-loop
+    Inv-again
+    μ-again
+    first-level-requires
+    clear-requires
+    again-holds
+    loop-holds
+    sub-step-at
+    step-at-requires
+    goes-before-requires
+    clear-requires-2
+    add-abandoned
+    again-less
+    again-again
+    sub-put-word
+    put-word-requires
+    goes-before-requires-2
+    sub-k
+    loop-less
+    loop-again
+    add-full
+    same-length
+    returns
+    again-less-2
+    again-again-2)

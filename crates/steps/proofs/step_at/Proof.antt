@@ -1,0 +1,34 @@
+-- `steps::step_at` meets its contract. Assumes nothing.
+use borrow.Author.Needs.{needs}
+use Rattle.steps.proofs.After.{step-is}
+use Rattle.steps.proofs.step_at.Statement.{statement}
+use Rattle.steps.proofs.step_at.Tie as tie
+
+ins-at-requires : tie.Need-ins-at-requires
+ins-at-requires c κs = search needs
+
+kinds-of-requires : tie.Need-kinds-of-requires
+kinds-of-requires c κs = search needs
+
+effect-at-requires : tie.Need-effect-at-requires
+effect-at-requires c κs = search needs
+
+cast-least : tie.Need-cast-least
+cast-least c = search needs
+
+least-requires : tie.Need-least-requires
+least-requires c κs = search needs
+
+returns : tie.Need-returns
+returns c = search step-is
+
+pub step-at-spec : {M : Type 1} → statement M
+step-at-spec =
+    tie.close
+    (tie.spec
+    ins-at-requires
+    kinds-of-requires
+    effect-at-requires
+    cast-least
+    least-requires
+    returns)

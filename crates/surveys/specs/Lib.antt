@@ -1,0 +1,4 @@
+pub mod Answers
+pub mod Loops
+pub mod Masks
+pub mod Targets

@@ -1,0 +1,118 @@
+-- What the exported calls answer for each case of a call's own answer. Assumes nothing.
+use Prim.Native.Nat.{ℕ}
+use mathlib.Core.Path.{_≡_}
+use mathlib.Core.Bool.{Bool}
+use mathlib.Core.List.{List}
+use mir.Val.{boolByte}
+use Rattle.code.specs.Answers.{answerOf, refusedOf}
+use Rattle.code.specs.declared.Answer.{Answer}
+use Rattle.code.specs.declared.Told.{Told}
+use Rattle.code.specs.declared.Told.the-variants as told
+use Rattle.roles.specs.declared.KindsAnswer.{KindsAnswer}
+use Rattle.roles.specs.declared.KindsAnswer.the-variants as kinds
+use Rattle.roles.specs.declared.RoleAnswer.{RoleAnswer}
+use Rattle.roles.specs.declared.RoleAnswer.the-variants as role
+use Rattle.roles.specs.declared.FieldAnswer.{FieldAnswer}
+use Rattle.roles.specs.declared.FieldAnswer.the-variants as field
+use Rattle.surveys.specs.declared.Bits.{Bits}
+use Rattle.surveys.specs.declared.Bits.the-variants as bits
+use Rattle.surveys.specs.declared.Filled.{Filled}
+use Rattle.surveys.specs.declared.Filled.the-variants as filled
+use Rattle.surveys.specs.Answers.{Targets, LoopsAround}
+use Rattle.phis.specs.Answers as phis
+use Rattle.callee.specs.declared.GlobalAnswer.{GlobalAnswer}
+use Rattle.callee.specs.declared.GlobalAnswer.the-variants as global
+use Rattle.callee.specs.declared.PushAnswer.{PushAnswer}
+use Rattle.callee.specs.declared.PushAnswer.the-variants as push
+use Rattle.callee.specs.declared.StackAnswer.{StackAnswer}
+use Rattle.callee.specs.declared.StackAnswer.the-variants as stack
+use Rattle.lent.specs.declared.Counts.{Counts}
+use Rattle.optimizer.specs.Fold.{Buffers, outcome, foldCall}
+use Rattle.optimizer.specs.declared.FoldAnswer.{FoldAnswer}
+use Rattle.optimizer.specs.declared.FoldAnswer.the-variants as fold
+use Rattle.kept.specs.Answers.{Outcome}
+use Rattle.kept.specs.declared.KeptAnswer.{KeptAnswer}
+use Rattle.kept.specs.declared.KeptAnswer.the-variants as kept
+
+-- truth is 1, falsehood 0
+abbrev pub truthTold : Told → Answer
+truthTold (told.Is b) = answerOf (boolByte b) 0 0 0
+truthTold (told.No r) = refusedOf r
+
+-- the bits
+abbrev pub kindsTold : KindsAnswer → Answer
+kindsTold (kinds.Is k) = answerOf k 0 0 0
+kindsTold (kinds.No r) = refusedOf r
+
+-- 1, dest, read fields (bit 0 a, 1 b, 2 c), jumps; or 0
+abbrev pub roleTold : RoleAnswer → Answer
+roleTold (role.Is f) = answerOf 1 (boolByte (f .dest)) (f .reads) (boolByte (f .jumps))
+roleTold role.Nothing = answerOf 0 0 0 0
+roleTold (role.No r) = refusedOf r
+
+-- the word
+abbrev pub fieldTold : FieldAnswer → Answer
+fieldTold (field.Is x) = answerOf x 0 0 0
+fieldTold (field.No r) = refusedOf r
+
+-- the bits
+abbrev pub bitsTold : Bits → Answer
+bitsTold (bits.Is m) = answerOf m 0 0 0
+bitsTold (bits.No r) = refusedOf r
+
+-- no value: the buffer is the answer
+abbrev pub filledTold : Filled → Answer
+filledTold filled.Done = answerOf 0 0 0 0
+filledTold (filled.No r) = refusedOf r
+
+-- an answer that is what f gives for a case which P allows
+pub record By {A : Type 0} (f : A → Answer) (P : A → Type 0) (r : Answer) : Type 0 where
+  pub told : A
+  pub allowed : P told
+  pub is : r ≡ f told
+
+abbrev pub TargetsTold : List ℕ → List ℕ → List ℕ → Answer → List ℕ → Type 0
+TargetsTold w t out r out′ = By filledTold (λ v. Targets w t out v out′) r
+
+abbrev pub LoopsTold : List ℕ → List ℕ → Answer → List ℕ → Type 0
+LoopsTold w out r out′ = By filledTold (λ v. LoopsAround w out v out′) r
+
+abbrev pub DeadTold : List ℕ → ℕ → ℕ → List ℕ → List ℕ → Answer → List ℕ → List ℕ → Type 0
+DeadTold w k q seen todo r seen′ todo′ = By truthTold (λ v. phis.DeadPhi w k q seen todo v seen′ todo′) r
+
+abbrev pub GenTold : List ℕ → List ℕ → List ℕ → Answer → List ℕ → List ℕ → Type 0
+GenTold w seen todo r seen′ todo′ = By truthTold (λ v. phis.GenTold w seen todo v seen′ todo′) r
+
+-- 1, binding; or 0
+abbrev pub globalTold : GlobalAnswer → Answer
+globalTold (global.Is b) = answerOf 1 b 0 0
+globalTold global.Nothing = answerOf 0 0 0 0
+globalTold (global.No r) = refusedOf r
+
+-- 1, position; or 0
+abbrev pub pushTold : PushAnswer → Answer
+pushTold (push.Is p) = answerOf 1 p 0 0
+pushTold push.Nothing = answerOf 0 0 0 0
+pushTold (push.No r) = refusedOf r
+
+-- 1, position, register; or 0
+abbrev pub stackTold : StackAnswer → Answer
+stackTold (stack.Is p r) = answerOf 1 p r 0
+stackTold stack.Nothing = answerOf 0 0 0 0
+stackTold (stack.No r) = refusedOf r
+
+-- list length, full sweeps, abandoned sweeps
+abbrev pub keptTold : KeptAnswer → Answer
+keptTold (kept.Is n full abandoned) = answerOf n full abandoned 0
+keptTold (kept.No r) = refusedOf r
+
+abbrev pub KeptTold : List ℕ → ℕ → List ℕ → Bool → List ℕ → List ℕ → List ℕ → List ℕ → List ℕ → List ℕ → Answer → Type 0
+KeptTold w regs tries wide rows offsets list rows′ offsets′ list′ r = By keptTold (λ v. Outcome w regs tries wide rows offsets list rows′ offsets′ list′ v) r
+
+-- instructions, constants, phi_map count, phi_sources count
+abbrev pub foldTold : FoldAnswer → Answer
+foldTold (fold.Is f) = answerOf (f .instructions) (f .constants) (f .map) (f .sources)
+foldTold (fold.No r) = refusedOf r
+
+abbrev pub FoldTold : Bool → Buffers → Counts → Answer → Buffers → Type 0
+FoldTold strict b c r b′ = By foldTold (λ v. outcome v b′ ≡ foldCall strict b c) r

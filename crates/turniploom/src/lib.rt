@@ -1,0 +1,282 @@
+// The exported calls: for Rust and C, each answers one `Answer` by value, 0 and its values or a refusal's number and what it also returns.
+ghost use mathlib.Core.Path.{_≡_};
+ghost use Rattle.roles.specs.Answers.{kindsAnswer, roleAnswer, fieldAnswer, writesAnswer};
+ghost use Rattle.walks.specs.Answers.{pureAnswer, flatAnswer, guardedAnswer, returnsAnswer};
+ghost use Rattle.surveys.specs.Answers.{writtenAnswer, passedAnswer};
+ghost use Rattle.callee.specs.Answers.{globalAnswer, pushAnswer, stackAnswer};
+ghost use Rattle.turniploom.specs.Answers.{truthTold, kindsTold, roleTold, fieldTold, bitsTold, filledTold, TargetsTold, LoopsTold, DeadTold, GenTold, globalTold, pushTold, stackTold, keptTold as keptAnswered, KeptTold, foldTold, FoldTold};
+ghost use Rattle.optimizer.specs.Fold.{buffers};
+use callee::GlobalAnswer;
+use callee::PushAnswer;
+use callee::StackAnswer;
+use code::Answer;
+use code::Told;
+use kept::KeptAnswer;
+use optimizer::FoldAnswer;
+use roles::FieldAnswer;
+use roles::KindsAnswer;
+use roles::RoleAnswer;
+use surveys::Bits;
+use surveys::Filled;
+
+// A truth is 1, a falsehood 0.
+fn truth(t: Told) -> Answer
+    ensures { λ r. ⌜ r ≡ truthTold t ⌝ }
+{
+    match t {
+        Told::Is(b) => code::tell(b as u64, 0, 0, 0),
+        Told::No(r) => code::refused(r),
+    }
+}
+
+// Bits, as they are.
+fn bits(b: Bits) -> Answer
+    ensures { λ r. ⌜ r ≡ bitsTold b ⌝ }
+{
+    match b {
+        Bits::Is(m) => code::tell(m, 0, 0, 0),
+        Bits::No(r) => code::refused(r),
+    }
+}
+
+// A filled buffer has no value beside it.
+fn filled(f: Filled) -> Answer
+    ensures { λ r. ⌜ r ≡ filledTold f ⌝ }
+{
+    match f {
+        Filled::Done => code::tell(0, 0, 0, 0),
+        Filled::No(r) => code::refused(r),
+    }
+}
+
+// The list's length and the two sweep counts.
+fn kept_told(k: KeptAnswer) -> Answer
+    ensures { λ r. ⌜ r ≡ keptAnswered k ⌝ }
+{
+    match k {
+        KeptAnswer::Is(n, full, abandoned) => code::tell(
+            n as u64,
+            full as u64,
+            abandoned as u64,
+            0,
+        ),
+        KeptAnswer::No(r) => code::refused(r),
+    }
+}
+
+// The counts of what is left.
+fn folded(a: FoldAnswer) -> Answer
+    ensures { λ r. ⌜ r ≡ foldTold a ⌝ }
+{
+    match a {
+        FoldAnswer::Is(f) => code::tell(
+            f.instructions as u64,
+            f.constants as u64,
+            f.map as u64,
+            f.sources as u64,
+        ),
+        FoldAnswer::No(r) => code::refused(r),
+    }
+}
+
+#[no_mangle]
+pub extern "C" fn turniploom_kinds(code: &[u16], at: usize) -> Answer
+    ensures { λ r. ⌜ r ≡ kindsTold (kindsAnswer (now (code .entry)) at) ⌝ }
+{
+    match roles::kinds(code, at) {
+        KindsAnswer::Is(k) => code::tell(k as u64, 0, 0, 0),
+        KindsAnswer::No(r) => code::refused(r),
+    }
+}
+
+#[no_mangle]
+pub extern "C" fn turniploom_role(code: &[u16], at: usize) -> Answer
+    ensures { λ r. ⌜ r ≡ roleTold (roleAnswer (now (code .entry)) at) ⌝ }
+{
+    match roles::role(code, at) {
+        RoleAnswer::Is(f) => code::tell(1, f.dest as u64, f.reads as u64, f.jumps as u64),
+        RoleAnswer::Nothing => code::tell(0, 0, 0, 0),
+        RoleAnswer::No(r) => code::refused(r),
+    }
+}
+
+#[no_mangle]
+pub extern "C" fn turniploom_field(code: &[u16], at: usize, f: u8) -> Answer
+    ensures { λ r. ⌜ r ≡ fieldTold (fieldAnswer (now (code .entry)) at f) ⌝ }
+{
+    match roles::field(code, at, f) {
+        FieldAnswer::Is(x) => code::tell(x as u64, 0, 0, 0),
+        FieldAnswer::No(r) => code::refused(r),
+    }
+}
+
+#[no_mangle]
+pub extern "C" fn turniploom_writes(code: &[u16], at: usize, r: u16) -> Answer
+    ensures { λ a. ⌜ a ≡ truthTold (writesAnswer (now (code .entry)) at r) ⌝ }
+{
+    truth(roles::writes(code, at, r))
+}
+
+#[no_mangle]
+pub extern "C" fn turniploom_pure(code: &[u16]) -> Answer
+    ensures { λ r. ⌜ r ≡ truthTold (pureAnswer (now (code .entry))) ⌝ }
+{
+    truth(walks::pure(code))
+}
+
+#[no_mangle]
+pub extern "C" fn turniploom_flat(code: &[u16]) -> Answer
+    ensures { λ r. ⌜ r ≡ truthTold (flatAnswer (now (code .entry))) ⌝ }
+{
+    truth(walks::flat(code))
+}
+
+#[no_mangle]
+pub extern "C" fn turniploom_guarded(code: &[u16]) -> Answer
+    ensures { λ r. ⌜ r ≡ truthTold (guardedAnswer (now (code .entry))) ⌝ }
+{
+    truth(walks::guarded(code))
+}
+
+#[no_mangle]
+pub extern "C" fn turniploom_returns(code: &[u16], at: usize) -> Answer
+    ensures { λ r. ⌜ r ≡ truthTold (returnsAnswer (now (code .entry)) at) ⌝ }
+{
+    truth(walks::returns(code, at))
+}
+
+#[no_mangle]
+pub extern "C" fn turniploom_params_written(code: &[u16], arity: usize) -> Answer
+    ensures { λ r. ⌜ r ≡ bitsTold (writtenAnswer (now (code .entry)) arity) ⌝ }
+{
+    bits(surveys::params_written(code, arity))
+}
+
+#[no_mangle]
+pub extern "C" fn turniploom_passed(code: &[u16], at: usize, arity: usize) -> Answer
+    ensures { λ r. ⌜ r ≡ bitsTold (passedAnswer (now (code .entry)) at arity) ⌝ }
+{
+    bits(surveys::passed(code, at, arity))
+}
+
+#[no_mangle]
+pub extern "C" fn turniploom_gen_pure(code: &[u16], seen: &mut [u8], todo: &mut [u32]) -> Answer
+    ensures { λ r. ⌜ GenTold (now (code .entry)) (now (seen .entry)) (now (todo .entry)) r (now (seen .exit)) (now (todo .exit)) ⌝ }
+{
+    truth(phis::gen_pure(code, seen, todo))
+}
+
+#[no_mangle]
+pub extern "C" fn turniploom_dead_phi(
+    code: &[u16],
+    at: usize,
+    r: u16,
+    seen: &mut [u8],
+    todo: &mut [u32],
+) -> Answer
+    ensures { λ a. ⌜ DeadTold (now (code .entry)) at r (now (seen .entry)) (now (todo .entry)) a (now (seen .exit)) (now (todo .exit)) ⌝ }
+{
+    truth(phis::dead_phi(code, at, r, seen, todo))
+}
+
+#[no_mangle]
+pub extern "C" fn turniploom_loops_around(code: &[u16], out: &mut [u32]) -> Answer
+    ensures { λ r. ⌜ LoopsTold (now (code .entry)) (now (out .entry)) r (now (out .exit)) ⌝ }
+{
+    filled(surveys::loops_around(code, out))
+}
+
+#[no_mangle]
+pub extern "C" fn turniploom_targets(code: &[u16], tries: &[u32], out: &mut [u8]) -> Answer
+    ensures { λ r. ⌜ TargetsTold (now (code .entry)) (now (tries .entry)) (now (out .entry)) r (now (out .exit)) ⌝ }
+{
+    filled(surveys::targets(code, tries, out))
+}
+
+#[no_mangle]
+pub extern "C" fn turniploom_global_of(code: &[u16], at: usize) -> Answer
+    ensures { λ r. ⌜ r ≡ globalTold (globalAnswer (now (code .entry)) at) ⌝ }
+{
+    match callee::global_of(code, at) {
+        GlobalAnswer::Is(b) => code::tell(1, b as u64, 0, 0),
+        GlobalAnswer::Nothing => code::tell(0, 0, 0, 0),
+        GlobalAnswer::No(r) => code::refused(r),
+    }
+}
+
+#[no_mangle]
+pub extern "C" fn turniploom_pushed_back(code: &[u16], at: usize, r: u16) -> Answer
+    ensures { λ a. ⌜ a ≡ pushTold (pushAnswer (now (code .entry)) at r) ⌝ }
+{
+    match callee::pushed_back(code, at, r) {
+        PushAnswer::Is(p) => code::tell(1, p as u64, 0, 0),
+        PushAnswer::Nothing => code::tell(0, 0, 0, 0),
+        PushAnswer::No(q) => code::refused(q),
+    }
+}
+
+#[no_mangle]
+pub extern "C" fn turniploom_stack_callee(code: &[u16], at: usize, count: u16) -> Answer
+    ensures { λ r. ⌜ r ≡ stackTold (stackAnswer (now (code .entry)) at count) ⌝ }
+{
+    match callee::stack_callee(code, at, count) {
+        StackAnswer::Is(p, q) => code::tell(1, p as u64, q as u64, 0),
+        StackAnswer::Nothing => code::tell(0, 0, 0, 0),
+        StackAnswer::No(r) => code::refused(r),
+    }
+}
+
+#[no_mangle]
+pub extern "C" fn turniploom_kept(
+    code: &[u16],
+    regs: usize,
+    tries: &[u32],
+    wide: bool,
+    rows: &mut [u64],
+    offsets: &mut [u32],
+    list: &mut [u16],
+) -> Answer
+    ensures { λ r. ⌜ KeptTold (now (code .entry)) regs (now (tries .entry)) wide (now (rows .entry)) (now (offsets .entry)) (now (list .entry)) (now (rows .exit)) (now (offsets .exit)) (now (list .exit)) r ⌝ }
+{
+    kept_told(kept::kept(code, regs, tries, wide, rows, offsets, list))
+}
+
+#[no_mangle]
+pub extern "C" fn turniploom_fold(
+    code: &mut [u16],
+    kinds: &mut [u8],
+    words: &mut [u64],
+    constants: usize,
+    phi_map: &mut [u32],
+    phi_map_count: usize,
+    phi_sources: &mut [u16],
+    phi_sources_count: usize,
+    stmt_pos: &mut [u32],
+    stmt_pos_count: usize,
+    call_byte_pos: &mut [u32],
+    call_byte_pos_count: usize,
+    dead: &mut [u8],
+    remap: &mut [u32],
+    strict: bool,
+) -> Answer
+    ensures { λ r. ⌜ FoldTold strict (buffers (now (code .entry)) (now (kinds .entry)) (now (words .entry)) (now («phi_map» .entry)) (now («phi_sources» .entry)) (now («stmt_pos» .entry)) (now («call_byte_pos» .entry)) (now (dead .entry)) (now (remap .entry))) (record { constants = constants; map = «phi_map_count»; sources = «phi_sources_count»; stmts = «stmt_pos_count»; calls = «call_byte_pos_count» }) r (buffers (now (code .exit)) (now (kinds .exit)) (now (words .exit)) (now («phi_map» .exit)) (now («phi_sources» .exit)) (now («stmt_pos» .exit)) (now («call_byte_pos» .exit)) (now (dead .exit)) (now (remap .exit))) ⌝ }
+{
+    let a = optimizer::fold(
+        code,
+        kinds,
+        words,
+        constants,
+        phi_map,
+        phi_map_count,
+        phi_sources,
+        phi_sources_count,
+        stmt_pos,
+        stmt_pos_count,
+        call_byte_pos,
+        call_byte_pos_count,
+        dead,
+        remap,
+        strict,
+    );
+    folded(a)
+}

@@ -1,0 +1,12 @@
+-- `walks::returns_here` meets its contract: its code is the rule. Assumes nothing.
+use mathlib.Core.Path.{refl}
+use Rattle.walks.specs.Section.{returnsHere}
+use Rattle.walks.proofs.returns_here.Statement.{statement}
+use Rattle.walks.proofs.returns_here.Tie as tie
+
+returns : tie.Need-returns
+unfolding returnsHere
+returns c = refl
+
+pub returns-here-spec : {M : Type 1} → statement M
+returns-here-spec = tie.close (tie.spec returns)

@@ -1,0 +1,274 @@
+//! What the listing of a body shows, found by the archive's calls where it has them.
+
+use crate::{and, count, missing, notation::{Body, ins_text}};
+use model::{code::{self, is_call}, roles, rows};
+use turniploom::{Ins, Kept, Refusal, op};
+
+/// A body with all that is known of it.
+pub struct View {
+    pub heading: String,
+    /// The registers of the picture.
+    pub columns: Vec<u16>,
+    /// A line for each position, the end's too.
+    pub lines: Vec<Line>,
+    pub tries: Vec<(usize, usize)>,
+    /// Whether the rows are known.
+    pub rows: bool,
+    pub remarks: Vec<String>,
+}
+
+pub struct Line {
+    pub text: String,
+    pub used: Vec<u16>,
+    pub given_up: Vec<u16>,
+    /// The registers needed before the instruction.
+    pub row: Vec<u16>,
+    pub level: Option<Level>,
+    /// Where it jumps and what jumps to it.
+    pub notes: Vec<String>,
+}
+
+/// An instruction that may call back into the body.
+pub struct Level {
+    pub resume: usize,
+    pub result: Option<u16>,
+    pub callee: Option<String>,
+    /// What is kept for the resume point, and what each handler adds; none if the archive can't say.
+    pub kept: Option<Vec<Part>>,
+}
+
+pub struct Part {
+    pub handler: Option<usize>,
+    pub registers: Vec<u16>,
+}
+
+impl View {
+    pub fn of(body: &Body) -> Result<View, Refusal> {
+        let kept = found(body)?;
+        let code = &body.code;
+        let n = code.len();
+        let tries: Vec<(usize, usize)> = body.tries.chunks(2).map(|t| (t[0] as usize, t[1] as usize)).collect();
+        let row = |k: usize| kept.as_ref().map_or(vec![], |f| members(f, k.min(n)));
+        let mut lines: Vec<Line> = (0..n).map(|k| {
+            let (used, given_up) = sets(code, k, body.registers);
+            let level = rows::level(&code[k]).then(|| level(code, k, kept.as_ref(), &tries));
+            Line { text: ins_text(code, k), used, given_up, row: row(k), level, notes: notes(code, k, &tries) }
+        }).collect();
+        lines.push(Line { text: "end".into(), used: vec![], given_up: vec![], row: row(n), level: None, notes: notes(code, n, &tries) });
+        let columns = columns(&lines, body.registers);
+        let heading = format!("{}, {}, {}", count(n, "instruction"), count(body.registers, "register"), count(tries.len(), "try"));
+        let remarks = remarks(body, &lines, kept.as_ref());
+        Ok(View { heading, columns, lines, tries, rows: kept.is_some(), remarks })
+    }
+}
+
+/// The kept-register call.
+#[cfg(exported = "kept")]
+fn found(body: &Body) -> Result<Option<Kept>, Refusal> {
+    // The last word of an odd number of them is a try without a handler, which is refused.
+    let tries: Vec<(usize, usize)> = body.tries.chunks(2).map(|t| (t[0] as usize, t.get(1).map_or(0, |&h| h as usize))).collect();
+    if body.tries.len() % 2 != 0 { return unknown(body) }
+    turniploom::kept(&body.words(), body.registers, &tries, body.wide).map(Some)
+}
+
+#[cfg(not(exported = "kept"))]
+fn found(body: &Body) -> Result<Option<Kept>, Refusal> { unknown(body) }
+
+/// The archive can't say; what is refused is refused all the same.
+fn unknown(body: &Body) -> Result<Option<Kept>, Refusal> {
+    let checked = || {
+        let code = code::code(&body.words())?;
+        code::registers(body.registers as u64)?;
+        code::tries(&body.tries, code.len())
+    };
+    checked().map(|_| None).map_err(crate::refused::by_the_model)
+}
+
+fn members(kept: &Kept, k: usize) -> Vec<u16> {
+    (0..64 * kept.words).filter(|r| kept.rows[k * kept.words + r / 64] >> (r % 64) & 1 != 0).map(|r| r as u16).collect()
+}
+
+fn kinds(code: &[Ins], k: usize) -> u8 {
+    #[cfg(exported = "kinds")]
+    return turniploom::kinds(code, k).expect("good code");
+    #[cfg(not(exported = "kinds"))]
+    roles::kinds(&code[k])
+}
+
+/// The registers used and given up, as the row equations have them.
+fn sets(code: &[Ins], k: usize, registers: usize) -> (Vec<u16>, Vec<u16>) {
+    if rows::pending(code, k) { return (vec![], vec![]) }
+    let (used, given_up) = rows::touched(&code[k], kinds(code, k));
+    let inside = |mut set: Vec<u16>| {
+        set.retain(|&r| (r as usize) < registers);
+        set.sort();
+        set.dedup();
+        set
+    };
+    (inside(used), inside(given_up))
+}
+
+fn level(code: &[Ins], k: usize, kept: Option<&Kept>, tries: &[(usize, usize)]) -> Level {
+    let (resume, result) = rows::resume(code, k);
+    Level { resume, result, callee: callee(code, k), kept: kept.map(|f| parts(code, f, k, resume, result, tries)) }
+}
+
+/// The kept list of the archive, taken apart by what each register is kept for.
+fn parts(code: &[Ins], kept: &Kept, k: usize, resume: usize, result: Option<u16>, tries: &[(usize, usize)]) -> Vec<Part> {
+    let n = code.len();
+    let mut left = kept.at(k).iter().copied().peekable();
+    let mut take = |handler: Option<usize>, row: Vec<u16>| {
+        let mut registers = vec![];
+        for r in row { if left.next_if_eq(&r).is_some() { registers.push(r) } }
+        Part { handler, registers }
+    };
+    let mut parts = vec![take(None, members(kept, resume.min(n)).into_iter().filter(|&r| Some(r) != result).collect())];
+    for &(_, h) in tries.iter().filter(|&&(s, h)| s < k && k < h) {
+        let seen: Vec<u16> = parts.iter().flat_map(|p| p.registers.clone()).collect();
+        parts.push(take(Some(h), members(kept, h.min(n)).into_iter().filter(|r| !seen.contains(r)).collect()));
+    }
+    parts
+}
+
+/// What a call calls, if the archive can trace it.
+fn callee(code: &[Ins], k: usize) -> Option<String> {
+    let _ = (code, k);
+    #[cfg(exported = "global_of")]
+    if is_call(&code[k]) {
+        let binding = turniploom::global_of(code, k).expect("good code");
+        return Some(binding.map_or("calls a function not known here".into(), |b| format!("calls binding {b}")));
+    }
+    #[cfg(exported = "stack_callee")]
+    if code[k].op == op::Call && code[k].a < 256 {
+        let found = turniploom::stack_callee(code, k, code[k].a).expect("good code");
+        return Some(found.map_or("calls a function not known here".into(), |(p, r)| format!("calls r{r}, pushed at {p}")));
+    }
+    None
+}
+
+fn notes(code: &[Ins], k: usize, tries: &[(usize, usize)]) -> Vec<String> {
+    let n = code.len();
+    let jumps = |k: usize| roles::jumps(&code[k]);
+    let mut notes = vec![];
+    if k < n && rows::pending(code, k) { notes.push("pending under the call".into()) }
+    if k < n && jumps(k) {
+        let to = code[k].a as usize;
+        notes.push(if to > n { format!("to {to}, past the end") } else { format!("to {to}") });
+    }
+    let from: Vec<usize> = (0..n).filter(|&j| jumps(j) && (code[j].a as usize).min(n) == k).collect();
+    if !from.is_empty() { notes.push(format!("from {}", and(&from))) }
+    for &(s, _) in tries.iter().filter(|t| t.1.min(n) == k) { notes.push(format!("handler of the try at {s}")) }
+    notes
+}
+
+/// All registers if they are few, else those that occur.
+fn columns(lines: &[Line], registers: usize) -> Vec<u16> {
+    if registers <= 16 { return (0..registers as u16).collect() }
+    let mut all: Vec<u16> = lines.iter().flat_map(|l| {
+        let result = l.level.iter().filter_map(|v| v.result);
+        l.used.iter().chain(&l.given_up).chain(&l.row).copied().chain(result).collect::<Vec<_>>()
+    }).filter(|&r| (r as usize) < registers).collect();
+    all.sort();
+    all.dedup();
+    all
+}
+
+fn remarks(body: &Body, lines: &[Line], kept: Option<&Kept>) -> Vec<String> {
+    let n = body.code.len();
+    let mut remarks = vec![];
+    if let Some(f) = kept {
+        let first = body.code.iter().position(rows::level).unwrap_or(n);
+        let start = if body.registers > 64 || body.wide || f.abandoned > 0 { 0 } else { first };
+        let from = if start == 0 { String::new() } else if first == n { " No level: no row is looked for.".into() } else { format!(" Rows are looked for from {start} on, the first level; before it they are empty.") };
+        remarks.push(format!("Sweeps: {} full, {} abandoned.{from}", f.full, f.abandoned));
+        let untrue = untrue(body, lines, start);
+        if !untrue.is_empty() { remarks.push(format!("ROWS THAT BREAK THEIR EQUATION: {}", and(&untrue))) }
+    }
+    let outside = outside(body);
+    if !outside.is_empty() { remarks.push(format!("Not below the register count, so never kept: {}.", and(&outside))) }
+    remarks.extend(section(&body.code));
+    remarks.extend(missing(&["kept", "kinds", "global_of", "stack_callee", "pure", "flat", "guarded"]));
+    let by = if cfg!(exported = "kinds") { "the archive" } else { "the plain model" };
+    remarks.push(format!("Uses and gives up: roles by {by}, laid out by the row equations of document 01."));
+    remarks
+}
+
+/// The rows of the archive that are not what the sets on their lines make of the rows after.
+fn untrue(body: &Body, lines: &[Line], start: usize) -> Vec<usize> {
+    let n = body.code.len();
+    (start..n).filter(|&k| {
+        let i = body.code[k];
+        let to = (i.a as usize).min(n);
+        let after: &[usize] = match i.op {
+            op::ReturnR => &[],
+            op::Jump => &[to],
+            _ if roles::jumps(&i) => &[k + 1, to],
+            _ => &[k + 1],
+        };
+        let live = after.iter().flat_map(|&k| &lines[k].row).filter(|r| !lines[k].given_up.contains(r));
+        let mut row: Vec<u16> = live.chain(&lines[k].used).copied().collect();
+        row.sort();
+        row.dedup();
+        row != lines[k].row
+    }).collect()
+}
+
+/// Registers that an instruction touches and that are not below the count.
+fn outside(body: &Body) -> Vec<String> {
+    let n = body.code.len();
+    let mut all: Vec<u16> = (0..n).flat_map(|k| { let (used, given_up) = sets(&body.code, k, 65_536); [used, given_up].concat() }).collect();
+    all.retain(|&r| r as usize >= body.registers);
+    all.sort();
+    all.dedup();
+    all.iter().map(|r| format!("r{r}")).collect()
+}
+
+/// What the walks say of the body as a whole.
+fn section(code: &[Ins]) -> Option<String> {
+    let _ = code;
+    #[cfg(all(exported = "pure", exported = "flat", exported = "guarded"))]
+    return Some(format!(
+        "As a section: {}, {}, {}.",
+        if turniploom::pure(code).ok()? { "it may be laid" } else { "it may not be laid" },
+        if turniploom::flat(code).ok()? { "it leaves nothing on the stack" } else { "it works on the stack" },
+        if turniploom::guarded(code).ok()? { "it has a try or a with" } else { "it has no try and no with" },
+    ));
+    #[cfg(not(all(exported = "pure", exported = "flat", exported = "guarded")))]
+    None
+}
+
+impl Level {
+    /// What the call does, where it comes back and where its result goes.
+    pub fn says(&self) -> String {
+        let result = self.result.map_or("no result register".into(), |r| format!("result in r{r}"));
+        let callee = self.callee.as_ref().map_or(String::new(), |c| format!("{c}, "));
+        format!("{callee}resumes at {}, {result}", self.resume)
+    }
+
+    /// What is kept, in words.
+    pub fn keeps(&self) -> Option<String> {
+        let parts = self.kept.as_ref()?;
+        let told: Vec<String> = parts.iter().filter(|p| !p.registers.is_empty()).map(|p| {
+            let regs = registers(&p.registers);
+            p.handler.map_or(regs.clone(), |h| format!("{regs} for the handler at {h}"))
+        }).collect();
+        Some(if told.is_empty() { "nothing".into() } else { told.join("; ") })
+    }
+}
+
+/// Registers in a row: `r0 r3-r7`.
+pub fn registers(set: &[u16]) -> String {
+    let mut runs: Vec<(u16, u16)> = vec![];
+    for &r in set {
+        match runs.last_mut() {
+            Some(run) if r > 0 && run.1 == r - 1 => run.1 = r,
+            _ => runs.push((r, r)),
+        }
+    }
+    let told = runs.iter().flat_map(|&(a, b)| match b - a {
+        0 => vec![format!("r{a}")],
+        1 => vec![format!("r{a}"), format!("r{b}")],
+        _ => vec![format!("r{a}-r{b}")],
+    });
+    told.collect::<Vec<_>>().join(" ")
+}

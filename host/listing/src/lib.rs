@@ -1,0 +1,32 @@
+//! A listing of a body or a chunk for the people who write rules, and the notation it reads.
+
+pub mod body;
+pub mod chunk;
+pub mod notation;
+pub mod page;
+pub mod refused;
+pub mod text;
+
+/// One line for each call that the archive at hand does not have and the listing would use.
+pub fn missing(calls: &[&'static str]) -> Option<String> {
+    let lacking: Vec<&str> = calls.iter().copied().filter(|c| !turniploom::abi::EXPORTED.contains(c)).collect();
+    (!lacking.is_empty()).then(|| format!("The archive does not export {} yet.", and(&lacking)))
+}
+
+/// Words joined as in a sentence.
+pub fn and<T: ToString>(words: &[T]) -> String {
+    let words: Vec<String> = words.iter().map(T::to_string).collect();
+    match words.split_last() {
+        Some((last, rest)) if !rest.is_empty() => format!("{} and {last}", rest.join(", ")),
+        _ => words.concat(),
+    }
+}
+
+/// A count with its word, in the singular for 1.
+pub fn count(n: usize, word: &str) -> String {
+    match n {
+        0 => format!("no {word}"),
+        1 => format!("1 {word}"),
+        _ => format!("{n} {}", word.strip_suffix('y').map_or(format!("{word}s"), |w| format!("{w}ies"))),
+    }
+}

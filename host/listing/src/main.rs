@@ -1,0 +1,52 @@
+//! The command of the listing.
+
+use listing::{body, chunk, notation::{self, Text}, page, refused, text};
+use std::{env, fs, process::ExitCode};
+
+const USE: &str = "listing FILE [--html PAGE] [--strict] [--wide]
+FILE has a body or a chunk in the notation of document 01's examples (host/README.md); - is the standard input.
+--html PAGE   writes one self-contained page as well
+--strict      folds a chunk in strict mode
+--wide        takes the wide route, which looks for rows from 0 on";
+
+fn run() -> Result<(), String> {
+    let (mut files, mut html, mut strict, mut wide) = (vec![], None, false, false);
+    let mut args = env::args().skip(1);
+    while let Some(word) = args.next() {
+        match word.as_str() {
+            "--html" => html = Some(args.next().ok_or("--html wants the name of the page")?),
+            "--strict" => strict = true,
+            "--wide" => wide = true,
+            _ if word.starts_with("--") => return Err(format!("no option {word}\n{USE}")),
+            _ => files.push(word),
+        }
+    }
+    let [file] = &files[..] else { return Err(USE.into()) };
+    let read = if file == "-" { std::io::read_to_string(std::io::stdin()) } else { fs::read_to_string(file) };
+    let source = read.map_err(|e| format!("{file}: {e}"))?;
+    let (heading, text, table) = match notation::read(&source).map_err(|e| format!("{file}: {e}"))? {
+        Text::Body(mut b) => {
+            b.wide |= wide;
+            let view = body::View::of(&b).map_err(|r| format!("{file}: {}", refused::body(r, &b)))?;
+            (view.heading.clone(), text::body(&view), page::body(&view))
+        }
+        Text::Chunk(mut c) => {
+            c.strict |= strict;
+            let view = chunk::View::of(&c).map_err(|r| format!("{file}: {}", refused::chunk(r, &c)))?;
+            (view.heading.clone(), text::chunk(&view), page::chunk(&view))
+        }
+    };
+    print!("{file}: {heading}\n\n{text}");
+    if let Some(to) = html { fs::write(&to, page::whole(file, &heading, &table)).map_err(|e| format!("{to}: {e}"))? }
+    Ok(())
+}
+
+fn main() -> ExitCode {
+    match run() {
+        Ok(()) => ExitCode::SUCCESS,
+        Err(message) => {
+            eprintln!("{message}");
+            ExitCode::from(2)
+        }
+    }
+}

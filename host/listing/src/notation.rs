@@ -1,0 +1,386 @@
+//! The notation of document 01's examples: read with errors by line, and written.
+
+use model::{code::is_call, facts::fact, question::{Fold, Kept, Question}, roles};
+use std::fmt;
+use turniploom::{DUNDER, Ins, JUMP, REGISTER, WIDE, abi, op};
+
+/// A body as it is lent to the kept-register call.
+#[derive(Clone, Debug, Default, PartialEq, Eq)]
+pub struct Body {
+    pub code: Vec<Ins>,
+    /// Words past the last whole instruction, which no good code has.
+    pub tail: Vec<u16>,
+    pub registers: usize,
+    pub tries: Vec<u32>,
+    /// Whether the wide route is forced.
+    pub wide: bool,
+    /// The line of each instruction, if it was read.
+    pub lines: Vec<usize>,
+}
+
+/// A chunk as it is lent to the folding call.
+#[derive(Clone, Debug, Default, PartialEq, Eq)]
+pub struct Chunk {
+    pub code: Vec<[u16; 3]>,
+    pub tail: Vec<u16>,
+    /// A kind and a word each.
+    pub constants: Vec<(u8, u64)>,
+    pub phi_map: Vec<u32>,
+    pub phi_sources: Vec<u16>,
+    pub stmt_pos: Vec<u32>,
+    pub call_byte_pos: Vec<u32>,
+    pub strict: bool,
+    pub lines: Vec<usize>,
+}
+
+/// What a text holds.
+#[derive(Clone, Debug, PartialEq, Eq)]
+pub enum Text {
+    Body(Body),
+    Chunk(Chunk),
+}
+
+/// What is wrong with a text, and on which line.
+#[derive(Clone, Debug, PartialEq, Eq)]
+pub struct Wrong {
+    pub line: usize,
+    pub says: String,
+}
+
+impl fmt::Display for Wrong {
+    fn fmt(&self, f: &mut fmt::Formatter<'_>) -> fmt::Result { write!(f, "line {}: {}", self.line, self.says) }
+}
+
+impl std::error::Error for Wrong {}
+
+impl Body {
+    pub fn words(&self) -> Vec<u16> { [abi::words(&self.code), &self.tail].concat() }
+}
+
+impl Chunk {
+    pub fn words(&self) -> Vec<u16> { [self.code.as_flattened(), &self.tail].concat() }
+}
+
+/// Reads a text.
+pub fn read(text: &str) -> Result<Text, Wrong> {
+    let mut reader = Reader::default();
+    for (k, line) in text.lines().enumerate() {
+        let bare = line.split('#').next().unwrap_or_default();
+        for statement in bare.split(';') {
+            reader.statement(statement, k + 1).map_err(|says| Wrong { line: k + 1, says })?;
+        }
+    }
+    let last = text.lines().count().max(1);
+    reader.end().map_err(|says| Wrong { line: last, says })
+}
+
+type Read<T> = Result<T, String>;
+
+/// An instruction of either kind as it was read.
+struct Entry {
+    op: u16,
+    /// a, b, c, x; a chunk's operand stands in a.
+    fields: [Option<u16>; 4],
+    /// Marks by word, and marks by number, which leave no default.
+    marks: u16,
+    exact: Option<u16>,
+    line: usize,
+}
+
+#[derive(Default)]
+struct Reader {
+    chunk: bool,
+    entries: Vec<Entry>,
+    registers: Option<usize>,
+    wide: bool,
+    strict: bool,
+    tail: Vec<u16>,
+    tries: Vec<u32>,
+    constants: Vec<(u8, u64)>,
+    phi_map: Vec<u32>,
+    phi_sources: Vec<u16>,
+    stmt_pos: Vec<u32>,
+    call_byte_pos: Vec<u32>,
+}
+
+fn number<T: TryFrom<u64>>(word: &str, what: &str) -> Read<T> {
+    let digits = word.replace('_', "");
+    let value = digits.parse::<u64>().map_err(|_| format!("{what} wants a number, not `{word}`"))?;
+    T::try_from(value).map_err(|_| format!("{what}: {word} is too large"))
+}
+
+fn numbers<T: TryFrom<u64>>(words: &[&str], what: &str) -> Read<Vec<T>> { words.iter().map(|w| number(w, what)).collect() }
+
+impl Reader {
+    fn statement(&mut self, text: &str, line: usize) -> Read<()> {
+        let words: Vec<&str> = text.split(|c: char| c.is_whitespace() || "(),".contains(c)).filter(|w| !w.is_empty()).collect();
+        match words[..] {
+            [] => Ok(()),
+            [n, "registers" | "register"] if is_number(n) => self.setting("registers", &[n]),
+            [position, ref rest @ ..] if is_number(position) => {
+                let due = self.entries.len();
+                if number::<usize>(position, "a position")? != due { return Err(format!("position {position} stands where {due} is due")) }
+                let [name, ref fields @ ..] = rest[..] else { return Err(format!("no instruction after position {position}")) };
+                self.instruction(name, fields, line)
+            }
+            [word, ref rest @ ..] if word.starts_with(|c: char| c.is_lowercase()) && word != "jump" => self.setting(word, rest),
+            [name, ref fields @ ..] => self.instruction(name, fields, line),
+        }
+    }
+
+    /// A line that is no instruction.
+    fn setting(&mut self, word: &str, rest: &[&str]) -> Read<()> {
+        let of_a_chunk = ["strict", "plain", "constants", "pool", "phi_map", "phi_sources", "stmt_pos", "call_byte_pos"];
+        if of_a_chunk.contains(&word) && !self.chunk { return Err(format!("`{word}` belongs to a chunk: say `chunk` on a line before it")) }
+        if ["registers", "try", "tries", "route"].contains(&word) && self.chunk { return Err(format!("a chunk has no `{word}`")) }
+        match (word, rest) {
+            ("chunk", []) if self.entries.is_empty() => self.chunk = true,
+            ("chunk", []) => return Err("`chunk` must come before the first instruction".into()),
+            ("registers", [n]) if self.registers.is_none() => self.registers = Some(number(n, "registers")?),
+            ("registers", [_]) => return Err("the registers are given twice".into()),
+            ("route", ["wide"]) => self.wide = true,
+            ("route", ["word"]) => self.wide = false,
+            ("strict", []) => self.strict = true,
+            ("plain", []) => self.strict = false,
+            ("try" | "tries", _) => self.tries.extend(numbers::<u32>(rest, "a try")?),
+            ("words", _) => self.tail.extend(numbers::<u16>(rest, "a word")?),
+            ("constants" | "pool", _) => for w in rest.iter().filter(|&&w| w != "and") { self.constants.push(constant(w)?) },
+            ("phi_map", _) => self.phi_map.extend(numbers::<u32>(rest, "phi_map")?),
+            ("phi_sources", _) => self.phi_sources.extend(numbers::<u16>(rest, "phi_sources")?),
+            ("stmt_pos", _) => self.stmt_pos.extend(numbers::<u32>(rest, "stmt_pos")?),
+            ("call_byte_pos", _) => self.call_byte_pos.extend(numbers::<u32>(rest, "call_byte_pos")?),
+            ("chunk" | "registers" | "route" | "strict" | "plain", _) => return Err(format!("`{word}` is followed by `{}`", rest.join(" "))),
+            _ => return Err(unknown(word)),
+        }
+        Ok(())
+    }
+
+    fn instruction(&mut self, name: &str, fields: &[&str], line: usize) -> Read<()> {
+        let mut entry = Entry { op: opcode(name)?, fields: [None; 4], marks: 0, exact: None, line };
+        for &word in fields { self.field(&mut entry, name, word)? }
+        self.entries.push(entry);
+        Ok(())
+    }
+
+    fn field(&self, entry: &mut Entry, name: &str, word: &str) -> Read<()> {
+        let mark = match word {
+            "wide" if !self.chunk => WIDE,
+            "dunder" if !self.chunk => DUNDER,
+            "register" if !self.chunk => REGISTER,
+            "jump" if self.chunk => JUMP,
+            _ => 0,
+        };
+        if mark != 0 {
+            entry.marks |= mark;
+            return Ok(());
+        }
+        let (letter, digits) = if is_number(word) { ("a", word) } else { word.split_at(word.chars().next().map_or(0, char::len_utf8)) };
+        if !is_number(digits) { return Err(format!("{name}: `{word}` is no field (a, b, c, x, m with a number) and no mark")) }
+        let value = number::<u16>(digits, name)?;
+        let place = match letter {
+            "m" => &mut entry.exact,
+            "a" => &mut entry.fields[0],
+            "b" | "c" | "x" if self.chunk => return Err(format!("{name}: an instruction of a chunk has one operand, not `{word}`")),
+            "b" => &mut entry.fields[1],
+            "c" => &mut entry.fields[2],
+            "x" => &mut entry.fields[3],
+            _ => return Err(format!("{name}: `{word}` is no field (a, b, c, x, m with a number) and no mark")),
+        };
+        if place.replace(value).is_some() { return Err(format!("{name}: `{letter}` is given twice")) }
+        Ok(())
+    }
+
+    fn end(self) -> Read<Text> {
+        let lines = self.entries.iter().map(|e| e.line).collect();
+        if self.chunk {
+            let of = |e: &Entry| [e.op, e.exact.unwrap_or(usual_jump(e.op)) | e.marks, e.fields[0].unwrap_or(0)];
+            return Ok(Text::Chunk(Chunk {
+                code: self.entries.iter().map(of).collect(), tail: self.tail, constants: self.constants, phi_map: self.phi_map,
+                phi_sources: self.phi_sources, stmt_pos: self.stmt_pos, call_byte_pos: self.call_byte_pos, strict: self.strict, lines,
+            }));
+        }
+        let Some(registers) = self.registers else { return Err("how many registers? Say `registers 4`, or `chunk` if this is a chunk".into()) };
+        let mut code: Vec<Ins> = self.entries.iter().map(|e| {
+            let [a, b, c, x] = e.fields.map(Option::unwrap_or_default);
+            Ins { op: e.op, marks: 0, a, b, c, x }
+        }).collect();
+        for (k, e) in self.entries.iter().enumerate() { code[k].marks = e.exact.unwrap_or(usual(&code, k)) | e.marks }
+        Ok(Text::Body(Body { code, tail: self.tail, registers, tries: self.tries, wide: self.wide, lines }))
+    }
+}
+
+fn is_number(word: &str) -> bool { word.starts_with(|c: char| c.is_ascii_digit()) && word.chars().all(|c| c.is_ascii_digit() || c == '_') }
+
+/// The marks of an instruction that names none: register as the Rust's own test has it, wide before an ArgsR, no dunder.
+pub fn usual(code: &[Ins], k: usize) -> u16 {
+    let register = code[k].op <= 190 && fact(code[k].op).register;
+    let wide = is_call(&code[k]) && code.get(k + 1).is_some_and(|n| n.op == op::ArgsR);
+    u16::from(register) * REGISTER + u16::from(wide) * WIDE
+}
+
+/// The mark of a chunk's instruction that names none: jump as the Rust's own test has it.
+pub fn usual_jump(o: u16) -> u16 { if o <= 190 && fact(o).jump { JUMP } else { 0 } }
+
+/// An opcode by name: `Other` is 0, `Op191` a number, `jump` the Jump of P13.
+fn opcode(name: &str) -> Read<u16> {
+    match name {
+        "Other" => return Ok(0),
+        "jump" => return Ok(op::Jump),
+        _ => {}
+    }
+    if let Some(digits) = name.strip_prefix("Op").filter(|d| is_number(d)) { return number(digits, "an opcode") }
+    op::number(name).ok_or_else(|| unknown(name))
+}
+
+fn unknown(word: &str) -> String {
+    let settings = ["registers", "try", "route", "chunk", "strict", "constants", "phi_map", "phi_sources", "stmt_pos", "call_byte_pos", "words"];
+    let names = op::ALL.iter().map(|o| o.1).chain(settings);
+    let near = names.map(|n| (distance(&word.to_lowercase(), &n.to_lowercase()), n)).min().filter(|&(d, _)| d <= 2);
+    format!("no opcode and no setting is called `{word}`{}", near.map_or(String::new(), |(_, n)| format!("; is `{n}` meant?")))
+}
+
+/// How many letters must change to turn one word into the other.
+fn distance(a: &str, b: &str) -> usize {
+    let mut row: Vec<usize> = (0..=b.len()).collect();
+    for (i, x) in a.bytes().enumerate() {
+        let mut corner = row[0];
+        row[0] = i + 1;
+        for (j, y) in b.bytes().enumerate() {
+            let above = row[j + 1];
+            row[j + 1] = (corner + usize::from(x != y)).min(above + 1).min(row[j] + 1);
+            corner = above;
+        }
+    }
+    row[b.len()]
+}
+
+/// A constant: `7` an int, `2.0` a float, `true`, `other`, or a kind and a word, as in `2:0x7ff8000000000000`.
+fn constant(word: &str) -> Read<(u8, u64)> {
+    let bad = || format!("`{word}` is no constant: 7, 2.0, inf, true, other, or a kind and a word as 2:0x7ff8000000000000");
+    match word {
+        "true" => return Ok((3, 1)),
+        "false" => return Ok((3, 0)),
+        "other" | "none" => return Ok((0, 0)),
+        _ => {}
+    }
+    if let Some((kind, w)) = word.split_once(':') {
+        let w = w.strip_prefix("0x").map_or_else(|| w.parse::<u64>(), |h| u64::from_str_radix(h, 16));
+        return Ok((kind.parse().map_err(|_| bad())?, w.map_err(|_| bad())?));
+    }
+    if let Ok(i) = word.replace('_', "").parse::<i64>() { return Ok((1, i as u64)) }
+    // A NaN is written by its bits, since it has many.
+    let float = word.parse::<f64>().map_err(|_| bad())?;
+    if float.is_nan() { Err(bad()) } else { Ok((2, float.to_bits())) }
+}
+
+/// A constant as it is read.
+pub fn constant_text(kind: u8, word: u64) -> String {
+    match kind {
+        1 => (word as i64).to_string(),
+        2 if f64::from_bits(word).is_nan() => format!("2:{word:#x}"),
+        2 => format!("{:?}", f64::from_bits(word)),
+        3 if word <= 1 => (word == 1).to_string(),
+        0 if word == 0 => "other".into(),
+        _ => format!("{kind}:{word}"),
+    }
+}
+
+fn name(o: u16) -> String {
+    match o {
+        0 => "Other".into(),
+        _ => op::name(o).map_or(format!("Op{o}"), str::to_string),
+    }
+}
+
+/// An instruction as document 01 writes it: the fields that its role names, those that are not 0, and unusual marks.
+pub fn ins_text(code: &[Ins], k: usize) -> String {
+    let i = code[k];
+    let kinds = if i.op <= 190 { roles::kinds(&i) } else { roles::NONE };
+    let counted = is_call(&i) && i.op != op::CallSpreadR || matches!(i.op, op::PushRegs | op::UnpackR);
+    let mut text = name(i.op);
+    if i.op == op::Jump { text += &format!(" {}", i.a) } else if i.a != 0 || kinds & (1 | 2 | 16) != 0 && kinds != roles::NONE { text += &format!(" a{}", i.a) }
+    for (letter, value, named) in [('b', i.b, kinds & 4 != 0), ('c', i.c, kinds & 8 != 0), ('x', i.x, counted)] {
+        if value != 0 || named { text += &format!(" {letter}{value}") }
+    }
+    let usual = usual(code, k);
+    if i.marks & !(WIDE | DUNDER | REGISTER) != 0 || i.marks & usual != usual { return format!("{text} m{}", i.marks) }
+    for (bit, word) in [(WIDE, "wide"), (DUNDER, "dunder"), (REGISTER, "register")] {
+        if i.marks & !usual & bit != 0 { text += &format!(" {word}") }
+    }
+    text
+}
+
+/// An instruction of a chunk as document 01 writes it.
+pub fn instruction_text([o, marks, operand]: [u16; 3]) -> String {
+    let bare = operand == 0 && o != op::LoadConst && o != op::Phi && marks & JUMP == 0;
+    let operand = if bare { String::new() } else { format!(" {operand}") };
+    let mark = match marks {
+        m if m == usual_jump(o) => String::new(),
+        JUMP => " jump".into(),
+        m => format!(" m{m}"),
+    };
+    format!("{}{operand}{mark}", name(o))
+}
+
+fn listed<T: ToString>(word: &str, table: &[T]) -> String {
+    if table.is_empty() { return String::new() }
+    format!("{word} {}\n", table.iter().map(T::to_string).collect::<Vec<_>>().join(" "))
+}
+
+impl fmt::Display for Body {
+    fn fmt(&self, f: &mut fmt::Formatter<'_>) -> fmt::Result {
+        writeln!(f, "registers {}", self.registers)?;
+        for pair in self.tries.chunks(2) { write!(f, "{}", listed("try", pair))? }
+        if self.wide { writeln!(f, "route wide")? }
+        for k in 0..self.code.len() { writeln!(f, "{k} {}", ins_text(&self.code, k))? }
+        write!(f, "{}", listed("words", &self.tail))
+    }
+}
+
+impl fmt::Display for Chunk {
+    fn fmt(&self, f: &mut fmt::Formatter<'_>) -> fmt::Result {
+        writeln!(f, "chunk")?;
+        if self.strict { writeln!(f, "strict")? }
+        let constants: Vec<String> = self.constants.iter().map(|&(k, w)| constant_text(k, w)).collect();
+        write!(f, "{}{}{}", listed("constants", &constants), listed("phi_map", &self.phi_map), listed("phi_sources", &self.phi_sources))?;
+        write!(f, "{}{}", listed("stmt_pos", &self.stmt_pos), listed("call_byte_pos", &self.call_byte_pos))?;
+        for (k, &i) in self.code.iter().enumerate() { writeln!(f, "{k} {}", instruction_text(i))? }
+        write!(f, "{}", listed("words", &self.tail))
+    }
+}
+
+/// The code and tables of a question, in the notation.
+pub fn asked(q: &Question) -> String {
+    let words = q.u16("code");
+    if q.call != Fold {
+        let whole = words.len() / 6 * 6;
+        let code = words[..whole].chunks(6).map(|w| Ins { op: w[0], marks: w[1], a: w[2], b: w[3], c: w[4], x: w[5] }).collect();
+        let takes = |name: &str| q.call.params().contains(&name);
+        let body = Body {
+            code,
+            tail: words[whole..].to_vec(),
+            registers: if q.call == Kept { q.n("regs") as usize } else { 1_024 },
+            tries: if takes("tries") { q.u32("tries").to_vec() } else { vec![] },
+            wide: takes("wide") && q.n("wide") != 0,
+            lines: vec![],
+        };
+        return body.to_string();
+    }
+    let whole = words.len() / 3 * 3;
+    let counted = |count: &str, have: usize| (q.n(count) as usize).min(have);
+    let (kinds, values) = (q.arg("kinds").numbers(), q.arg("words").numbers());
+    let constants = counted("constants", kinds.len().min(values.len()) - 1);
+    let table = |name: &str, count: &str| { let all = q.arg(name).numbers(); all[1..][..counted(count, all.len() - 1)].to_vec() };
+    let narrow = |t: Vec<u64>| t.into_iter().map(|w| w as u32).collect();
+    Chunk {
+        code: words[..whole].chunks(3).map(|w| [w[0], w[1], w[2]]).collect(),
+        tail: words[whole..].to_vec(),
+        constants: (1..=constants).map(|k| (kinds[k] as u8, values[k])).collect(),
+        phi_map: narrow(table("phi_map", "phi_map_count")),
+        phi_sources: table("phi_sources", "phi_sources_count").into_iter().map(|w| w as u16).collect(),
+        stmt_pos: narrow(table("stmt_pos", "stmt_pos_count")),
+        call_byte_pos: narrow(table("call_byte_pos", "call_byte_pos_count")),
+        strict: q.n("strict") != 0,
+        lines: vec![],
+    }.to_string()
+}

@@ -1,0 +1,84 @@
+//! The notation: what is read, what is written, and what is wrong by line.
+
+use listing::{body, chunk, notation::{Body, Chunk, Text, Wrong, read}, refused};
+use turniploom::{DUNDER, Ins, JUMP, REGISTER, WIDE, op};
+
+fn body(text: &str) -> Body {
+    match read(text) {
+        Ok(Text::Body(b)) => b,
+        other => panic!("{other:?}"),
+    }
+}
+
+fn chunk(text: &str) -> Chunk {
+    match read(text) {
+        Ok(Text::Chunk(c)) => c,
+        other => panic!("{other:?}"),
+    }
+}
+
+fn wrong(text: &str) -> (usize, String) {
+    let Wrong { line, says } = read(text).unwrap_err();
+    (line, says)
+}
+
+#[test]
+fn the_examples_of_document_01() {
+    let k = body("0 LoadGlobalR a0 b7; 1 LoadGlobalR a1 b9; 2 CallR a1 x0; 3 StoreTopR a2; 4 AddR a3 b0 c2; 5 ReturnR b3; 4 registers");
+    assert_eq!((k.code.len(), k.registers), (6, 4));
+    assert_eq!(k.code[4], Ins { op: op::AddR, marks: REGISTER, a: 3, b: 0, c: 2, x: 0 });
+    assert_eq!(body("try (1, 5); registers 4").tries, [1, 5]);
+    assert_eq!(body("Jump 0; registers 1").code[0].a, 0);
+    let p13 = chunk("chunk; LoadConst 0; LoadConst 1; Add; jump 2; pool 2 and 3");
+    assert_eq!(p13.code, [[op::LoadConst, 0, 0], [op::LoadConst, 0, 1], [op::Add, 0, 0], [op::Jump, JUMP, 2]]);
+    assert_eq!(p13.constants, [(1, 2), (1, 3)]);
+}
+
+#[test]
+fn marks_are_the_rusts_own_tests_unless_said() {
+    let code = body("registers 4\nCallR a0 b1 c2 x3\nArgsR a3\nCallR a0\nAddR a0 b0 c0 dunder\nAdd\nAdd register\nCallR a0 m0\nArgsR\nOther m6").code;
+    let marks: Vec<u16> = code.iter().map(|i| i.marks).collect();
+    assert_eq!(marks, [WIDE | REGISTER, REGISTER, REGISTER, DUNDER | REGISTER, 0, REGISTER, 0, REGISTER, 6]);
+    assert_eq!(chunk("chunk; ForIter 2; Jump 1 m0; PopTop jump").code, [[op::ForIter, 1, 2], [op::Jump, 0, 1], [op::PopTop, 1, 0]]);
+}
+
+#[test]
+fn constants_of_each_kind() {
+    let c = chunk("chunk; constants -7 2.0 1e308 -inf true false other 2:0x7ff8000000000001 0:9");
+    let kinds: Vec<u8> = c.constants.iter().map(|c| c.0).collect();
+    assert_eq!(kinds, [1, 2, 2, 2, 3, 3, 0, 2, 0]);
+    assert_eq!((c.constants[0].1, c.constants[3].1, c.constants[7].1), (-7i64 as u64, f64::NEG_INFINITY.to_bits(), 0x7FF8_0000_0000_0001));
+}
+
+#[test]
+fn bad_text_is_named_by_line() {
+    for (text, line, says) in [
+        ("registers 4\n0 Move a0 b1\n2 Move a0 b1", 3, "position 2 stands where 1 is due"),
+        ("registers 4\n\nLoadGlobal a0", 3, "no opcode and no setting is called `LoadGlobal`; is `LoadGlobalR` meant?"),
+        ("registers 4\nMove a0 q3", 2, "Move: `q3` is no field (a, b, c, x, m with a number) and no mark"),
+        ("registers 4\nMove a0 a1", 2, "Move: `a` is given twice"),
+        ("registers 4\nMove a65536", 2, "Move: 65536 is too large"),
+        ("registers four", 1, "registers wants a number, not `four`"),
+        ("registers 4\nregisters 5", 2, "the registers are given twice"),
+        ("Move a0 b1\n# nothing more\n", 2, "how many registers? Say `registers 4`, or `chunk` if this is a chunk"),
+        ("constants 1", 1, "`constants` belongs to a chunk: say `chunk` on a line before it"),
+        ("chunk\nregisters 4", 2, "a chunk has no `registers`"),
+        ("registers 4\nMove a0\nchunk", 3, "`chunk` must come before the first instruction"),
+        ("chunk\nAdd b1", 2, "Add: an instruction of a chunk has one operand, not `b1`"),
+        ("registers 1\n0", 2, "no instruction after position 0"),
+    ] { assert_eq!(wrong(text), (line, says.to_string()), "{text}") }
+    assert!(wrong("chunk\nconstants 1 nan").1.starts_with("`nan` is no constant"));
+}
+
+#[test]
+fn refusals_in_words() {
+    let refused = |text: &str| { let b = body(text); refused::body(body::View::of(&b).err().expect("a refusal"), &b) };
+    assert_eq!(refused("registers 4\nMove a0\nPushRegs a1 x4"), "line 3: refused (2): the instruction at 1 breaks a record rule: PushRegs pushes at most 3 registers, not 4");
+    assert_eq!(refused("registers 1025"), "refused (3): 1025 registers are more than 1,024");
+    assert_eq!(refused("registers 4\ntry 3 2"), "refused (4): try 0 breaks its rule: it starts at 3, past its handler at 2");
+    assert_eq!(refused("registers 4\ntry 0 0 1"), "refused (4): try 1 breaks its rule: it has no handler: a try is two numbers, its start and its handler");
+    assert_eq!(refused("registers 4\nwords 1 2"), "refused (1): a code of 2 words is no whole number of instructions, or too long");
+    let refused = |text: &str| { let c = chunk(text); refused::chunk(chunk::View::of(&c).err().expect("a refusal"), &c) };
+    assert_eq!(refused("chunk\nLoadConst 0 jump"), "line 2: refused (2): the instruction at 0 breaks a record rule: LoadConst, Phi and the folding operators are no jumps");
+    assert_eq!(refused("chunk\nstmt_pos 1"), "refused (7): table 4 of the chunk breaks its rule: stmt_pos: its numbers come in pairs");
+}

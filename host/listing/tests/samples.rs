@@ -1,0 +1,55 @@
+//! The samples: each is listed, and K's listing is README's.
+
+use listing::{body, chunk, notation::{Text, read}, page, text};
+use std::{fs, path::Path};
+
+fn listed(name: &str) -> (String, String) {
+    let source = fs::read_to_string(Path::new(env!("CARGO_MANIFEST_DIR")).join("../../samples").join(name)).unwrap();
+    match read(&source).unwrap() {
+        Text::Body(b) => { let v = body::View::of(&b).unwrap(); (text::body(&v), page::body(&v)) }
+        Text::Chunk(c) => { let v = chunk::View::of(&c).unwrap(); (text::chunk(&v), page::chunk(&v)) }
+    }
+}
+
+#[test]
+fn every_sample_is_listed() {
+    for name in ["K.txt", "P5.txt", "jacket.txt", "P13.txt"] {
+        let (text, page) = listed(name);
+        assert!(!text.contains("BREAK") && page.matches("<tr").count() == page.matches("</tr>").count(), "{name}");
+        for tag in ["table", "td", "span", "div", "p"] { assert_eq!(page.matches(&format!("<{tag}")).count(), page.matches(&format!("</{tag}>")).count(), "{name}: {tag}") }
+    }
+}
+
+#[test]
+#[cfg(exported = "kept")]
+fn code_k() {
+    let (text, _) = listed("K.txt");
+    assert!(text.starts_with(
+        "  instruction        uses   gives up  0123
+0 LoadGlobalR a0 b7         r0        ····
+1 LoadGlobalR a1 b9         r1        ····
+2 CallR a1 x0        r1               ●●··  calls binding 9, resumes at 3, result in r2
+    keeps                             ▲···  r0
+3 StoreTopR a2              r2        ●···
+4 AddR a3 b0 c2      r0 r2  r3        ●·●·
+5 ReturnR b3         r3               ···●
+6 end                                 ····
+
+● needed before the instruction, ▲ kept for the resume point.
+Sweeps: 1 full, 0 abandoned. Rows are looked for from 2 on, the first level; before it they are empty.
+"), "{text}");
+}
+
+#[test]
+#[cfg(exported = "kept")]
+fn a_try_around_the_recursive_call() {
+    assert!(listed("jacket.txt").0.contains("r1 r3; r5 for the handler at 13"));
+    assert!(listed("P5.txt").0.contains("Sweeps: 3 full, 1 abandoned."));
+}
+
+#[test]
+#[cfg(exported = "fold")]
+fn p13() {
+    let (text, _) = listed("P13.txt");
+    assert!(text.contains("0 LoadConst 0 (2)  →  0 LoadConst 2 (5)  2 + 3 = 5, new constant 2") && text.contains("3 Jump 2           →  1 Jump 1"), "{text}");
+}

@@ -1,0 +1,187 @@
+//! A plain model of every exported call, written from document 01 and its settled points. It settles what the Rust cannot
+//! say: the refusals, the lent buffers, strict mode, sweep counts, and the listed differences.
+
+pub mod code;
+pub mod facts;
+pub mod fold;
+pub mod question;
+pub mod roles;
+pub mod rows;
+pub mod walks;
+
+use question::*;
+use code::{Checked, Instruction, No, Tables};
+use fold::{Chunk, Constant};
+use turniploom::abi::Answer;
+
+/// The reply that document 01 settles.
+pub fn ask(q: &Question) -> Reply {
+    let mut lent = q.lent();
+    let answer = match q.call {
+        Fold => folding(q, &mut lent, &mut |_| fold::NAN),
+        _ => over_code(q, &mut lent),
+    };
+    let answer = match answer {
+        Ok([first, second, third, fourth]) => Answer { refusal: 0, first, second, third, fourth },
+        Err(No(refusal, first, second)) => Answer { refusal, first, second, third: 0, fourth: 0 },
+    };
+    Reply { answer, lent }
+}
+
+fn yes(b: bool) -> [u64; 4] { one(b.into()) }
+
+fn one(v: u64) -> [u64; 4] { [v, 0, 0, 0] }
+
+fn over_code(q: &Question, lent: &mut Lent) -> Checked<[u64; 4]> {
+    let code = code::code(q.u16("code"))?;
+    let n = code.len();
+    let at = || code::inside(&code, q.n("at"));
+    Ok(match q.call {
+        Kinds => one(roles::kinds(&code[at()?]).into()),
+        Role => match roles::kinds(&code[at()?]) {
+            roles::NONE => [0; 4],
+            k => [1, (k & 1).into(), (k >> 1 & 7).into(), (k >> 4 & 1).into()],
+        },
+        Field => one(roles::field(&code[at()?], q.n("f") as u8).into()),
+        Writes => yes(roles::writes(&code[at()?], q.n("r") as u16)),
+        Pure => yes(walks::laid(&code, false)),
+        Flat => yes(walks::flat(&code)),
+        Guarded => yes(walks::guarded(&code)),
+        Returns => yes(walks::returns(&code, at()?)),
+        ParamsWritten => one(walks::params_written(&code, q.n("arity"))),
+        Passed => one(walks::passed(&code, code::at_call(&code, q.n("at"))?, q.n("arity"))),
+        GenPure => {
+            waiting(lent, n)?;
+            yes(walks::gen_pure(&code))
+        }
+        DeadPhi => {
+            let k = at()?;
+            waiting(lent, n)?;
+            yes(walks::dead_phi(&code, k, q.n("r") as u16))
+        }
+        LoopsAround => {
+            code::room(1, lent.u32("out").len(), n + 1)?;
+            lent.u32("out")[..=n].copy_from_slice(&walks::loops_around(&code));
+            [0; 4]
+        }
+        Targets => {
+            let tries = code::tries(q.u32("tries"), n)?;
+            code::room(1, lent.u8("out").len(), n + 1)?;
+            lent.u8("out")[..=n].copy_from_slice(&walks::targets(&code, &tries));
+            [0; 4]
+        }
+        GlobalOf => {
+            let k = at()?;
+            walks::global_of(&code, k, &code[k]).map_or([0; 4], |b| [1, b.into(), 0, 0])
+        }
+        PushedBack => walks::pushed_back(&code, at()?, q.n("r") as u16).map_or([0; 4], |p| [1, p as u64, 0, 0]),
+        StackCallee => walks::stack_callee(&code, at()?, q.n("count") as u16).map_or([0; 4], |(p, r)| [1, p as u64, r.into(), 0]),
+        Kept => keeping(q, &code, lent)?,
+        Fold => unreachable!("folding takes a chunk"),
+    })
+}
+
+/// The two buffers of a walk: n + 1 each, all 0 after an answer.
+fn waiting(lent: &mut Lent, n: usize) -> Checked<()> {
+    code::room(1, lent.u8("seen").len(), n + 1)?;
+    code::room(2, lent.u32("todo").len(), n + 1)?;
+    lent.u8("seen")[..=n].fill(0);
+    lent.u32("todo")[..=n].fill(0);
+    Ok(())
+}
+
+fn keeping(q: &Question, code: &[turniploom::Ins], lent: &mut Lent) -> Checked<[u64; 4]> {
+    let n = code.len();
+    let regs = code::registers(q.n("regs"))?;
+    let tries = code::tries(q.u32("tries"), n)?;
+    let needed = (n + 1) * rows::words(regs);
+    code::room(1, lent.u64("rows").len(), needed)?;
+    code::room(2, lent.u32("offsets").len(), n + 1)?;
+    let found = rows::rows(code, regs, q.n("wide") != 0);
+    let lists = rows::kept(code, &found, &tries, false);
+    lent.u64("rows")[..needed].copy_from_slice(&found.rows);
+    let total: usize = lists.iter().map(Vec::len).sum();
+    code::room(3, lent.u16("list").len(), total)?;
+    lay_lists(&lists, lent);
+    Ok([total as u64, found.full, found.abandoned, 0])
+}
+
+/// Writes the lists and their offsets, as far as there is room.
+pub fn lay_lists(lists: &[Vec<u16>], lent: &mut Lent) {
+    let mut at = 0;
+    lent.u32("offsets")[0] = 0;
+    for (k, list) in lists.iter().enumerate() {
+        for &r in list {
+            if let Some(e) = lent.u16("list").get_mut(at) { *e = r }
+            at += 1;
+        }
+        lent.u32("offsets")[k + 1] = at as u32;
+    }
+}
+
+/// Folding. `nan` gives the bits that a NaN result becomes.
+pub fn folding(q: &Question, lent: &mut Lent, nan: &mut dyn FnMut(f64) -> u64) -> Checked<[u64; 4]> {
+    let code = code::chunk(q.u16("code"))?;
+    let n = code.len();
+    let mut chunk = lent_chunk(q, lent, code)?;
+    let phis = chunk.code.iter().filter(|i| i.op == turniploom::op::Phi).count();
+    let operators = chunk.code.iter().filter(|i| facts::fact(i.op).folding != 0).count();
+    let count = chunk.constants.len();
+    let room = count.max((count + operators).min(65_535));
+    let sources = 2 * chunk.phi_sources.len().max(phis);
+    let have = [lent.u8("kinds").len(), lent.u64("words").len(), lent.u32("phi_map").len(), lent.u16("phi_sources").len(), lent.u8("dead").len(), lent.u32("remap").len()];
+    for (b, (have, needed)) in have.into_iter().zip([room, room, n, sources, n, n + 1]).enumerate() { code::room(b as u64 + 1, have, needed)? }
+    let folded = chunk.fold(q.n("strict") != 0, nan);
+    for (mark, &dead) in lent.u8("dead").iter_mut().zip(&folded.dead) { *mark = dead.into() }
+    if folded.died() {
+        lay_chunk(&chunk, lent, n, sources);
+        lent.u32("remap")[..=n].copy_from_slice(&folded.remap);
+    }
+    Ok([chunk.code.len() as u64, chunk.constants.len() as u64, chunk.phi_map.len() as u64, 2 * chunk.phi_sources.len() as u64])
+}
+
+/// The chunk that is lent, once its tables keep their rules.
+fn lent_chunk(q: &Question, lent: &mut Lent, code: Vec<Instruction>) -> Checked<Chunk> {
+    let Lent { buffers, .. } = lent.clone();
+    let [_, Arg::U8(kinds), Arg::U64(words), Arg::U32(phi_map), Arg::U16(phi_sources), Arg::U32(stmt_pos), Arg::U32(call_byte_pos), ..] = &buffers[..]
+    else { panic!("the buffers of a chunk") };
+    let count = |name: &str| q.n(name);
+    code::tables(&Tables {
+        kinds,
+        words,
+        constants: count("constants"),
+        phi_map: (phi_map.len(), count("phi_map_count")),
+        pairs: [
+            (phi_sources.len(), count("phi_sources_count")),
+            (stmt_pos.len(), count("stmt_pos_count")),
+            (call_byte_pos.len(), count("call_byte_pos_count")),
+        ],
+    }, code.len())?;
+    let pairs = |table: &[u32], name: &str| table[..count(name) as usize].chunks(2).map(|p| [p[0], p[1]]).collect();
+    Ok(Chunk {
+        code,
+        constants: (0..count("constants") as usize).map(|k| Constant::lent(kinds[k], words[k])).collect(),
+        phi_map: phi_map[..count("phi_map_count") as usize].to_vec(),
+        phi_sources: phi_sources[..count("phi_sources_count") as usize].chunks(2).map(|p| [p[0], p[1]]).collect(),
+        stmt_pos: pairs(stmt_pos, "stmt_pos_count"),
+        call_byte_pos: pairs(call_byte_pos, "call_byte_pos_count"),
+    })
+}
+
+/// Writes a folded chunk back: words past a new count, up to the needed length, are 0, except constants.
+pub fn lay_chunk(chunk: &Chunk, lent: &mut Lent, n: usize, sources: usize) {
+    let code: Vec<u16> = chunk.code.iter().flat_map(|i| [i.op, i.jump.into(), i.operand]).collect();
+    lay(lent.u16("code"), &code, 3 * n);
+    for (k, c) in chunk.constants.iter().enumerate() {
+        // A constant that was lent stays as it is, also one of a kind that has no word of its own.
+        if *c != Constant::Other && k < lent.u8("kinds").len() && k < lent.u64("words").len() { (lent.u8("kinds")[k], lent.u64("words")[k]) = c.stored() }
+    }
+    lay(lent.u32("phi_map"), &chunk.phi_map, n);
+    lay(lent.u16("phi_sources"), chunk.phi_sources.as_flattened(), sources);
+    lay(lent.u32("stmt_pos"), chunk.stmt_pos.as_flattened(), 0);
+    lay(lent.u32("call_byte_pos"), chunk.call_byte_pos.as_flattened(), 0);
+}
+
+fn lay<T: Copy + Default>(buffer: &mut [T], words: &[T], needed: usize) {
+    for (k, e) in buffer.iter_mut().enumerate().take(needed.max(words.len())) { *e = words.get(k).copied().unwrap_or_default() }
+}

@@ -1,0 +1,172 @@
+//! A question to one of the exported calls, and the reply: the same for the port, the Rust and the model.
+
+use turniploom::abi::Answer;
+
+/// The exported calls, in the order of the table that documents them, from 1.
+#[derive(Clone, Copy, Debug, PartialEq, Eq)]
+pub enum Call {
+    Kinds = 1,
+    Role,
+    Field,
+    Writes,
+    Pure,
+    Flat,
+    Guarded,
+    Returns,
+    ParamsWritten,
+    Passed,
+    GenPure,
+    DeadPhi,
+    LoopsAround,
+    Targets,
+    GlobalOf,
+    PushedBack,
+    StackCallee,
+    Kept,
+    Fold,
+}
+
+pub use Call::*;
+
+/// Each call with its name and its parameters; those that begin with `&mut ` are lent to be written.
+pub const CALLS: [(Call, &str, &[&str]); 19] = [
+    (Kinds, "kinds", &["code", "at"]),
+    (Role, "role", &["code", "at"]),
+    (Field, "field", &["code", "at", "f"]),
+    (Writes, "writes", &["code", "at", "r"]),
+    (Pure, "pure", &["code"]),
+    (Flat, "flat", &["code"]),
+    (Guarded, "guarded", &["code"]),
+    (Returns, "returns", &["code", "at"]),
+    (ParamsWritten, "params_written", &["code", "arity"]),
+    (Passed, "passed", &["code", "at", "arity"]),
+    (GenPure, "gen_pure", &["code", "&mut seen", "&mut todo"]),
+    (DeadPhi, "dead_phi", &["code", "at", "r", "&mut seen", "&mut todo"]),
+    (LoopsAround, "loops_around", &["code", "&mut out"]),
+    (Targets, "targets", &["code", "tries", "&mut out"]),
+    (GlobalOf, "global_of", &["code", "at"]),
+    (PushedBack, "pushed_back", &["code", "at", "r"]),
+    (StackCallee, "stack_callee", &["code", "at", "count"]),
+    (Kept, "kept", &["code", "regs", "tries", "wide", "&mut rows", "&mut offsets", "&mut list"]),
+    (Fold, "fold", &[
+        "&mut code", "&mut kinds", "&mut words", "constants", "&mut phi_map", "phi_map_count", "&mut phi_sources",
+        "phi_sources_count", "&mut stmt_pos", "stmt_pos_count", "&mut call_byte_pos", "call_byte_pos_count", "&mut dead",
+        "&mut remap", "strict",
+    ]),
+];
+
+impl Call {
+    pub fn name(self) -> &'static str { CALLS[self as usize - 1].1 }
+    pub fn params(self) -> &'static [&'static str] { CALLS[self as usize - 1].2 }
+    pub fn named(name: &str) -> Option<Call> { CALLS.iter().find(|c| c.1 == name).map(|c| c.0) }
+    /// Whether the archive at hand has the call.
+    pub fn exported(self) -> bool { turniploom::abi::EXPORTED.contains(&self.name()) }
+}
+
+/// A number or a slice.
+#[derive(Clone, Debug, PartialEq, Eq)]
+pub enum Arg {
+    N(u64),
+    U8(Vec<u8>),
+    U16(Vec<u16>),
+    U32(Vec<u32>),
+    U64(Vec<u64>),
+}
+
+impl Arg {
+    pub fn n(&self) -> u64 { if let Arg::N(v) = self { *v } else { panic!("no number") } }
+    pub fn u8(&mut self) -> &mut Vec<u8> { if let Arg::U8(v) = self { v } else { panic!("no bytes") } }
+    pub fn u16(&mut self) -> &mut Vec<u16> { if let Arg::U16(v) = self { v } else { panic!("no u16 words") } }
+    pub fn u32(&mut self) -> &mut Vec<u32> { if let Arg::U32(v) = self { v } else { panic!("no u32 words") } }
+    pub fn u64(&mut self) -> &mut Vec<u64> { if let Arg::U64(v) = self { v } else { panic!("no u64 words") } }
+
+    /// The numbers of the argument, a slice's length first.
+    pub fn numbers(&self) -> Vec<u64> {
+        fn all<T: Copy + Into<u64>>(v: &[T]) -> Vec<u64> { std::iter::once(v.len() as u64).chain(v.iter().map(|&w| w.into())).collect() }
+        match self {
+            Arg::N(v) => vec![*v],
+            Arg::U8(v) => all(v),
+            Arg::U16(v) => all(v),
+            Arg::U32(v) => all(v),
+            Arg::U64(v) => all(v),
+        }
+    }
+}
+
+/// A call with all that it is lent.
+#[derive(Clone, Debug, PartialEq, Eq)]
+pub struct Question {
+    pub call: Call,
+    pub args: Vec<Arg>,
+}
+
+impl Question {
+    /// The argument of that name, without `&mut `.
+    pub fn arg(&self, name: &str) -> &Arg { &self.args[self.place(name)] }
+
+    pub fn n(&self, name: &str) -> u64 { self.arg(name).n() }
+    pub fn u16(&self, name: &str) -> &[u16] { if let Arg::U16(v) = self.arg(name) { v } else { panic!("{name}") } }
+    pub fn u32(&self, name: &str) -> &[u32] { if let Arg::U32(v) = self.arg(name) { v } else { panic!("{name}") } }
+
+    fn place(&self, name: &str) -> usize {
+        self.call.params().iter().position(|p| p.strip_prefix("&mut ").unwrap_or(p) == name).unwrap_or_else(|| panic!("no {name}"))
+    }
+
+    /// The buffers that are lent to be written, as they are lent.
+    pub fn lent(&self) -> Lent { Lent { call: self.call, buffers: self.writable().map(|(_, a)| a.clone()).collect() } }
+
+    fn writable(&self) -> impl Iterator<Item = (&'static str, &Arg)> {
+        self.call.params().iter().zip(&self.args).filter_map(|(p, a)| Some((p.strip_prefix("&mut ")?, a)))
+    }
+}
+
+/// The buffers that a call may write, by name.
+#[derive(Clone, Debug, PartialEq, Eq)]
+pub struct Lent {
+    pub call: Call,
+    pub buffers: Vec<Arg>,
+}
+
+impl Lent {
+    pub fn get(&mut self, name: &str) -> &mut Arg {
+        let mut names = self.call.params().iter().filter_map(|p| p.strip_prefix("&mut "));
+        let at = names.position(|p| p == name).unwrap_or_else(|| panic!("no {name}"));
+        &mut self.buffers[at]
+    }
+    pub fn u8(&mut self, name: &str) -> &mut Vec<u8> { self.get(name).u8() }
+    pub fn u16(&mut self, name: &str) -> &mut Vec<u16> { self.get(name).u16() }
+    pub fn u32(&mut self, name: &str) -> &mut Vec<u32> { self.get(name).u32() }
+    pub fn u64(&mut self, name: &str) -> &mut Vec<u64> { self.get(name).u64() }
+}
+
+/// An answer, and what the lent buffers then hold.
+#[derive(Clone, Debug, PartialEq, Eq)]
+pub struct Reply {
+    pub answer: Answer,
+    pub lent: Lent,
+}
+
+impl Reply {
+    /// Whether the reply is more than a refusal, a plain no, a none or a 0.
+    pub fn telling(&self, asked: &Question) -> bool {
+        let Answer { refusal, first, .. } = self.answer;
+        refusal == 0 && match asked.call {
+            Kinds => first != 32,
+            LoopsAround | Targets => self.lent.buffers[0].numbers()[1..] != asked.lent().buffers[0].numbers()[1..] && self.marked(asked),
+            Fold => first as usize * 3 != asked.u16("code").len(),
+            _ => first != 0,
+        }
+    }
+
+    /// Whether one of the n + 1 words that the call wrote is not 0.
+    fn marked(&self, asked: &Question) -> bool {
+        let n = asked.u16("code").len() / 6;
+        self.lent.buffers[0].numbers()[1..].iter().take(n + 1).any(|&w| w != 0)
+    }
+
+    /// The five numbers of the answer.
+    pub fn values(&self) -> [u64; 5] {
+        let Answer { refusal, first, second, third, fourth } = self.answer;
+        [refusal.into(), first, second, third, fourth]
+    }
+}

@@ -1,0 +1,161 @@
+//! The row equations, the sweeps and the kept registers.
+
+use super::{code::{is_call, wide}, facts::fact, roles::*, walks::store};
+use turniploom::{DUNDER, Ins, op};
+
+/// One position's equation: row k = used with (the rows after, without the given-up).
+struct Equation {
+    used: Vec<u16>,
+    given_up: Vec<u16>,
+    after: Vec<usize>,
+    /// Where a jump goes, as it stands in the code.
+    jump: Option<usize>,
+}
+
+/// A call is over a pending value if the instruction before it is PushRegs with x = 1.
+fn over_pending(code: &[Ins], k: usize) -> bool {
+    k > 0 && code.get(k).is_some_and(is_call) && code[k - 1].op == op::PushRegs && code[k - 1].x == 1
+}
+
+/// The push under such a call, and the StoreTopR or PopTop right after the call's store.
+pub fn pending(code: &[Ins], k: usize) -> bool {
+    let after_store = |c: usize| over_pending(code, c) && store(code, c) + 1 == k;
+    match code[k].op {
+        op::PushRegs => over_pending(code, k + 1),
+        op::StoreTopR | op::PopTop => k >= 2 && after_store(k - 2) || k >= 3 && after_store(k - 3),
+        _ => false,
+    }
+}
+
+/// The registers used and given up by an instruction by itself, whose role is `kinds`.
+pub fn touched(i: &Ins, kinds: u8) -> (Vec<u16>, Vec<u16>) {
+    match i.op {
+        op::ReturnR => (vec![i.b], vec![]),
+        op::StoreTopR => (vec![], vec![i.a]),
+        op::UnpackR => (vec![], unpacked(i)),
+        op::WithEnter if i.x == 2 => (vec![i.c], with(i)),
+        op::WithEnter | op::WithExit => (vec![], with(i)),
+        op::WithJudge if i.x == 1 => (vec![i.a], vec![]),
+        // No role has none of these bits.
+        _ => (fields(i, kinds), if kinds & DEST != 0 { vec![i.a] } else { vec![] }),
+    }
+}
+
+fn equation(code: &[Ins], k: usize, regs: usize) -> Equation {
+    let i = &code[k];
+    let to = (i.a as usize).min(code.len());
+    let after = match i.op {
+        op::ReturnR => vec![],
+        op::Jump => vec![to],
+        _ if jumps(i) => vec![k + 1, to],
+        _ => vec![k + 1],
+    };
+    let (mut used, mut given_up) = if pending(code, k) { (vec![], vec![]) } else { touched(i, kinds(i)) };
+    used.retain(|&r| (r as usize) < regs);
+    given_up.retain(|&r| (r as usize) < regs);
+    Equation { used, given_up, after, jump: jumps(i).then_some(i.a as usize) }
+}
+
+/// The rows of a code, `words` words each, and the sweeps that found them.
+#[derive(Clone, Debug, PartialEq, Eq)]
+pub struct Rows {
+    pub words: usize,
+    pub rows: Vec<u64>,
+    pub full: u64,
+    pub abandoned: u64,
+}
+
+impl Rows {
+    pub fn row(&self, k: usize) -> &[u64] { &self.rows[k * self.words..][..self.words] }
+}
+
+/// How a sweep ends.
+enum Swept {
+    Abandoned,
+    /// Whether it changed a row, and swept a jump to its own position or back.
+    Full(bool, bool),
+}
+
+fn sweep(equations: &[Equation], from: usize, words: usize, rows: &mut [u64]) -> Swept {
+    let (mut changed, mut back) = (false, false);
+    let mut row = vec![0; words];
+    for k in (from..equations.len()).rev() {
+        let e = &equations[k];
+        if e.jump.is_some_and(|to| to < from) { return Swept::Abandoned }
+        back |= e.jump.is_some_and(|to| to <= k);
+        row.fill(0);
+        for &at in &e.after { for w in 0..words { row[w] |= rows[at * words + w] } }
+        for &r in &e.given_up { row[r as usize / 64] &= !(1 << (r % 64)) }
+        for &r in &e.used { row[r as usize / 64] |= 1 << (r % 64) }
+        let old = &mut rows[k * words..][..words];
+        changed |= *old != *row;
+        old.copy_from_slice(&row);
+    }
+    Swept::Full(changed, back)
+}
+
+pub fn words(regs: usize) -> usize { regs.div_ceil(64).max(1) }
+
+pub fn level(i: &Ins) -> bool { fact(i.op).level || i.marks & DUNDER != 0 }
+
+/// The rows by the word route, or by the wide one.
+pub fn rows(code: &[Ins], regs: usize, force_wide: bool) -> Rows {
+    let n = code.len();
+    let equations: Vec<Equation> = (0..n).map(|k| equation(code, k, regs)).collect();
+    let mut from = if regs > 64 || force_wide { 0 } else { code.iter().position(level).unwrap_or(n) };
+    let mut found = Rows { words: words(regs), rows: vec![0; (n + 1) * words(regs)], full: 0, abandoned: 0 };
+    loop {
+        match sweep(&equations, from, found.words, &mut found.rows) {
+            Swept::Abandoned => {
+                found.abandoned += 1;
+                found.rows.fill(0);
+                from = 0;
+            }
+            Swept::Full(changed, back) => {
+                found.full += 1;
+                if !(changed && back) { return found }
+            }
+        }
+    }
+}
+
+/// The least solution, by asking every equation until none changes: what the rows must be from the final start on.
+pub fn least(code: &[Ins], regs: usize) -> Vec<u64> {
+    let equations: Vec<Equation> = (0..code.len()).map(|k| equation(code, k, regs)).collect();
+    let mut rows = vec![0; (code.len() + 1) * words(regs)];
+    while matches!(sweep(&equations, 0, words(regs), &mut rows), Swept::Full(true, _)) {}
+    rows
+}
+
+/// Where the level at `k` resumes, and its result register.
+pub fn resume(code: &[Ins], k: usize) -> (usize, Option<u16>) {
+    let i = &code[k];
+    match i.op {
+        op::JumpIfFalseR => (k, None),
+        op::Call => (k + 1, None),
+        _ if is_call(i) => { let s = if wide(i) { k + 2 } else { k + 1 }; (s, code.get(s).map(|t| t.a)) }
+        _ => (k + 1, Some(i.a)),
+    }
+}
+
+/// The kept list of each position, empty where there is no level. `early` reads a JumpIfFalseR's own row as still empty, as
+/// the Rust does at 65 registers or more where no jump goes to itself or back.
+pub fn kept(code: &[Ins], found: &Rows, tries: &[(usize, usize)], early: bool) -> Vec<Vec<u16>> {
+    let n = code.len();
+    let has = |k: usize, r: u16| found.row(k.min(n))[r as usize / 64] >> (r % 64) & 1 != 0;
+    let registers = 0..(found.words * 64) as u16;
+    (0..n).map(|k| {
+        if !level(&code[k]) { return vec![] }
+        let (s, result) = resume(code, k);
+        let unread = early && code[k].op == op::JumpIfFalseR;
+        let mut list: Vec<u16> = registers.clone().filter(|&r| !unread && has(s, r) && Some(r) != result).collect();
+        for &(_, h) in tries.iter().filter(|&&(s, h)| s < k && k < h) {
+            let more: Vec<u16> = registers.clone().filter(|&r| has(h, r) && !list.contains(&r)).collect();
+            list.extend(more);
+        }
+        list
+    }).collect()
+}
+
+/// Whether some jump goes to its own position or back.
+pub fn goes_back(code: &[Ins]) -> bool { code.iter().enumerate().any(|(k, i)| jumps(i) && i.a as usize <= k) }

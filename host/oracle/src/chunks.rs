@@ -1,0 +1,186 @@
+//! Random chunks: constants, operators over them, jumps among them, Phis, and tables that follow.
+
+use crate::{model::facts::fact, question::*, questions::lend, rng::Rng};
+use turniploom::op::{self, *};
+
+const BINARY: [u16; 17] = [Add, Sub, Mul, Div, Mod, FloorDiv, Eq, NotEq, Lt, Gt, LtEq, GtEq, BitAnd, BitOr, BitXor, Shl, Shr];
+const LEAST: i64 = -140_737_488_355_328;
+const INTS: [i64; 28] = [
+    0, 1, -1, 2, -2, 3, 7, -7, 10, 46, 47, 48, 61, 62, 63, 64, LEAST, LEAST + 1, -LEAST, -LEAST - 1, LEAST - 1, 1 << 24, -(1 << 23), 1 << 46, 11_863_283, i64::MIN, i64::MAX, 255,
+];
+const FLOATS: [f64; 18] = [
+    0.0, -0.0, 1.0, -1.0, 2.0, 0.5, 3.5, 0.1, 1e308, -1e308, f64::INFINITY, f64::NEG_INFINITY, f64::NAN, f64::MIN_POSITIVE, 5e-324, 140_737_488_355_328.0, 1e-300, 7.0,
+];
+
+fn constant(rng: &mut Rng) -> (u8, u64) {
+    match rng.below(20) {
+        0 => (0, rng.next()),
+        1 => (3, rng.below(2) as u64),
+        2..12 => (1, rng.pick(&INTS) as u64),
+        12 => (1, (rng.next() as i64 >> 17) as u64),
+        13 => (2, rng.next()),
+        14 => (2, rng.pick(&[0xFFF8_0000_0000_0000, 0x7FF8_0000_0000_0001, 0xFFF0_0000_0000_0001, 0x7FF0_0000_0000_0001])),
+        _ => (2, rng.pick(&FLOATS).to_bits()),
+    }
+}
+
+/// A chunk under way.
+#[derive(Default)]
+struct Chunk {
+    code: Vec<[u16; 3]>,
+    kinds: Vec<u8>,
+    words: Vec<u64>,
+    phi_map: Vec<u32>,
+    phi_sources: Vec<u16>,
+    stmt_pos: Vec<u32>,
+    call_byte_pos: Vec<u32>,
+}
+
+pub fn random(rng: &mut Rng) -> Question {
+    let mut c = Chunk::default();
+    let full = rng.once_in(4_000);
+    let count = if full { 65_534 + rng.below(3) } else { rng.pick(&[0, 1, 2, 3, 4, 6, 9]) };
+    for _ in 0..count {
+        let (k, w) = if full { (1, rng.next() % 97 + 1_000) } else { constant(rng) };
+        c.kinds.push(k);
+        c.words.push(w);
+    }
+    if full { for k in 0..6 { (c.kinds[k], c.words[k]) = constant(rng) } }
+    let length = rng.weighted(&[(1, 0), (6, 3), (8, 6), (8, 12), (4, 24), (1, 90)]);
+    while c.code.len() < length { piece(rng, &mut c, count) }
+    aim(rng, &mut c);
+    tables(rng, &mut c);
+    lent(rng, c)
+}
+
+fn piece(rng: &mut Rng, c: &mut Chunk, count: usize) {
+    let load = |rng: &mut Rng| [LoadConst, 0, if rng.once_in(30) { rng.pick(&[count, count + 1, 65_535]) } else { rng.below(count.clamp(1, 6)) } as u16];
+    match rng.below(16) {
+        0..7 => {
+            let (a, b) = (load(rng), load(rng));
+            let o = rng.pick(&BINARY);
+            c.code.extend([a, b, [o, 0, 0]]);
+        }
+        7 | 8 => {
+            let (a, o) = (load(rng), rng.pick(&[Not, Minus]));
+            c.code.extend([a, [o, 0, 0]]);
+        }
+        9 => c.code.push(load(rng)),
+        10 => c.code.push([rng.pick(&BINARY), 0, 0]),
+        11 => c.code.push([rng.pick(&[Not, Minus]), 0, 0]),
+        12 | 13 => {
+            // Before an operand, where a jump may skip into what would fold.
+            c.code.push([rng.pick(&[Jump, JumpIfFalse, JumpIfFalseOrPop, JumpIfTrueOrPop, ForIter, SetupExcept, SetupFinally]), 1, 0]);
+        }
+        14 => c.code.push([op::Phi, 0, rng.below(3) as u16]),
+        _ => c.code.push([rng.pick(&[LoadTrue, LoadNone, LoadName, PopTop, Pow, JumpIfFalseR, 0]), 0, rng.below(4) as u16]),
+    }
+}
+
+/// Gives each jump a target, and a few instructions marks that are not the Rust's.
+fn aim(rng: &mut Rng, c: &mut Chunk) {
+    let n = c.code.len();
+    let strange = rng.once_in(12);
+    for k in 0..n {
+        let o = c.code[k][0];
+        if strange && rng.once_in(3) && o != LoadConst && o != op::Phi && fact(o).folding == 0 { c.code[k][1] ^= 1 }
+        if c.code[k][1] != 0 {
+            let to = match rng.below(8) {
+                0..4 => k + 1 + rng.below(5),
+                4 => rng.pick(&[n, n + 1, 65_535]),
+                _ => rng.below(n + 1),
+            };
+            c.code[k][2] = to.min(65_535) as u16;
+        }
+    }
+}
+
+fn tables(rng: &mut Rng, c: &mut Chunk) {
+    let n = c.code.len();
+    let pairs = rng.below(5);
+    for _ in 0..pairs {
+        let a = rng.below(3) as u16;
+        c.phi_sources.extend([a, if rng.once_in(2) { a } else { rng.below(3) as u16 }]);
+    }
+    if !rng.once_in(4) { c.phi_map = (0..n).map(|_| if rng.once_in(12) { rng.pick(&[4, 5, u32::MAX]) } else { rng.below(pairs + 1) as u32 }).collect() }
+    for _ in 0..rng.below(4) { c.stmt_pos.extend([rng.below(n + 3) as u32, rng.next() as u32]) }
+    for _ in 0..rng.below(3) { c.call_byte_pos.extend([if rng.once_in(8) { u32::MAX } else { rng.below(n + 2) as u32 }, 7]) }
+}
+
+/// The question: each table in a buffer with the room it needs, or not quite.
+fn lent(rng: &mut Rng, c: Chunk) -> Question {
+    let n = c.code.len();
+    let mut code = c.code.as_flattened().to_vec();
+    let counted = |pred: fn(u16) -> bool| c.code.iter().filter(|i| i[0] <= 190 && pred(i[0])).count();
+    let room = c.kinds.len().max((c.kinds.len() + counted(|o| fact(o).folding != 0)).min(65_535));
+    let sources = c.phi_sources.len().max(2 * counted(|o| o == op::Phi));
+    fn buffer<T: Copy + TryFrom<u64>>(rng: &mut Rng, table: &[T], needed: usize) -> Vec<T> {
+        let mut b: Vec<T> = lend(rng, needed.max(table.len()));
+        let kept = b.len().min(table.len());
+        b[..kept].copy_from_slice(&table[..kept]);
+        b
+    }
+    let mut counts = [c.kinds.len(), c.phi_map.len(), c.phi_sources.len(), c.stmt_pos.len(), c.call_byte_pos.len()].map(|v| v as u64);
+    let (mut kinds, mut words) = (buffer(rng, &c.kinds, room), buffer(rng, &c.words, room));
+    // Buffers are mostly exactly full or longer; a few tables break a rule.
+    match rng.below(60) {
+        0 => counts[rng.below(5)] += 1,
+        1 => counts[rng.below(5)] = rng.pick(&[65_537, u64::MAX, 2, 3]),
+        2 if !kinds.is_empty() => { let k = rng.below(kinds.len()); (kinds[k], words.get_mut(k).map(|w| *w = 2)).1.unwrap_or(()); kinds[k] = rng.pick(&[3, 4, 255]) }
+        3 if n > 0 => { let k = rng.below(n); code[3 * k] = rng.pick(&[191, 256, 0, LoadConst, Phi, Add]); code[3 * k + 1] = rng.pick(&[0, 1, 2, 3, 0x8000]) }
+        4 => { code.push(0) }
+        _ => {}
+    }
+    let args = vec![
+        Arg::U16(code), Arg::U8(kinds), Arg::U64(words), Arg::N(counts[0]),
+        Arg::U32(buffer(rng, &c.phi_map, n)), Arg::N(counts[1]), Arg::U16(buffer(rng, &c.phi_sources, sources)), Arg::N(counts[2]),
+        Arg::U32(buffer(rng, &c.stmt_pos, 0)), Arg::N(counts[3]), Arg::U32(buffer(rng, &c.call_byte_pos, 0)), Arg::N(counts[4]),
+        Arg::U8(lend(rng, n)), Arg::U32(lend(rng, n + 1)), Arg::N(rng.once_in(3).into()),
+    ];
+    Question { call: Fold, args }
+}
+
+/// Some 300 telling constants: powers of two and their neighbours up to and past the limits, zeros of both signs, NaNs with
+/// payload and sign, infinities, subnormals, halves, bools and a constant of no kind.
+pub fn telling() -> Vec<(u8, u64)> {
+    let powers = (0..64).flat_map(|k| [-1, 0, 1].map(|d| (1i64 << k).wrapping_add(d)));
+    let mut ints: Vec<i64> = powers.chain(INTS).flat_map(|i| [i, i.wrapping_neg()]).filter(|i| i.unsigned_abs() <= 1 << 50 || i.count_ones() < 2).collect();
+    ints.sort();
+    ints.dedup();
+    ints.retain(|i| i.unsigned_abs() < 70 || i.unsigned_abs() > 1 << 44 || i.unsigned_abs().is_power_of_two());
+    let halves = (0..6).map(|k| k as f64 + 0.5);
+    let scaled = [-1074, -1073, -1022, -53, -1, 52, 53, 54, 1023].map(|k| 2f64.powi(k));
+    let floats = FLOATS.into_iter().chain(halves).chain(scaled).flat_map(|f| [f, -f, f64::from_bits(f.to_bits().wrapping_add(1))]);
+    let mut all: Vec<(u8, u64)> = ints.into_iter().map(|i| (1, i as u64)).chain(floats.map(|f| (2, f.to_bits()))).collect();
+    all.extend([(3, 0), (3, 1), (0, 5)]);
+    all.extend([0xFFF8_0000_0000_0000, 0x7FF0_0000_0000_0001, 0xFFF0_0000_0000_0001, 0x7FFF_FFFF_FFFF_FFFF].map(|w| (2, w)));
+    all.sort();
+    all.dedup();
+    all
+}
+
+/// A chunk of this code over these constants.
+fn pool(pair: &[(u8, u64)], code: Vec<[u16; 3]>) -> Chunk {
+    Chunk { code, kinds: pair.iter().map(|p| p.0).collect(), words: pair.iter().map(|p| p.1).collect(), ..Chunk::default() }
+}
+
+/// Every operator over every pair of constants.
+pub fn pairs(rng: &mut Rng, constants: &[(u8, u64)], take: &mut dyn FnMut(Question)) {
+    for &a in constants {
+        for o in [Not, Minus] { take(lent(rng, pool(&[a], vec![[LoadConst, 0, 0], [o, 0, 0]]))) }
+        for &b in constants {
+            for o in BINARY { take(lent(rng, pool(&[a, b], vec![[LoadConst, 0, 0], [LoadConst, 0, 1], [o, 0, 0]]))) }
+        }
+    }
+}
+
+/// Every operator over every pair of the listed constants, and the longest chunk.
+pub fn systematic(rng: &mut Rng, take: &mut dyn FnMut(Question)) {
+    let mut constants: Vec<(u8, u64)> = INTS.iter().map(|&i| (1, i as u64)).chain(FLOATS.iter().map(|f| (2, f.to_bits()))).collect();
+    constants.extend([(3, 0), (3, 1), (0, 5), (2, 0xFFF8_0000_0000_0000), (2, 0x7FF0_0000_0000_0001)]);
+    pairs(rng, &constants, take);
+    for n in [65_535, 65_536] {
+        let code = (0..n).map(|k| match k % 8 { 0 | 1 => [LoadConst, 0, 0], 2 => [Add, 0, 0], 3 => [Jump, 1, (k % 65_536) as u16], _ => [PopTop, 0, 0] }).collect();
+        take(lent(rng, pool(&[(1, 1)], code)));
+    }
+}

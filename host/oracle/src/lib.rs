@@ -1,0 +1,15 @@
+//! The comparison of the port with the Rust and with a plain model of document 01.
+
+pub mod bodies;
+pub mod chunks;
+pub mod compare;
+pub mod hostile;
+pub mod house;
+pub mod original;
+pub mod port;
+pub mod questions;
+pub mod record;
+pub mod rng;
+pub mod shrink;
+
+pub use model::{self, question};

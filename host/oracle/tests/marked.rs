@@ -1,0 +1,141 @@
+//! The marked examples of document 01: the model has them, and so has the Rust but for the listed difference of P4.
+
+use oracle::{model::{self, rows}, original, port, question::*};
+use turniploom::{Ins, abi, op};
+
+fn i(op: u16, a: u16, b: u16, c: u16, x: u16) -> Ins { Ins { op, marks: 0, a, b, c, x } }
+
+/// The reply on which the model, the Rust and, where it has the call, the port agree.
+fn agreed(q: &Question) -> Reply {
+    let model = model::ask(q);
+    if let Some(rust) = original::ask(q, &model) { assert!(rust == model || original::listed(q, &model, &rust).is_some(), "{q:?}\n{rust:?}\n{model:?}") }
+    if let Some(port) = port::ask(q) { assert_eq!(port, model) }
+    model
+}
+
+struct Told {
+    refusal: u8,
+    rows: Vec<u64>,
+    lists: Vec<Vec<u16>>,
+    full: u64,
+    abandoned: u64,
+}
+
+fn kept(code: &[Ins], regs: usize, tries: &[u32], wide: bool) -> Told {
+    let n = code.len();
+    let args = vec![
+        Arg::U16(abi::words(code).to_vec()), Arg::N(regs as u64), Arg::U32(tries.to_vec()), Arg::N(wide.into()),
+        Arg::U64(vec![9; (n + 1) * rows::words(regs)]), Arg::U32(vec![9; n + 1]), Arg::U16(vec![9; n * regs]),
+    ];
+    let mut r = agreed(&Question { call: Kept, args });
+    let (rows, offsets, list) = (r.lent.u64("rows").clone(), r.lent.u32("offsets").clone(), r.lent.u16("list").clone());
+    let lists = if r.answer.refusal == 0 { offsets.windows(2).map(|o| list[o[0] as usize..o[1] as usize].to_vec()).collect() } else { vec![] };
+    Told { refusal: r.answer.refusal, rows, lists, full: r.answer.second, abandoned: r.answer.third }
+}
+
+fn code_k() -> Vec<Ins> {
+    vec![i(op::LoadGlobalR, 0, 7, 0, 0), i(op::LoadGlobalR, 1, 9, 0, 0), i(op::CallR, 1, 0, 0, 0), i(op::StoreTopR, 2, 0, 0, 0), i(op::AddR, 3, 0, 2, 0), i(op::ReturnR, 0, 3, 0, 0)]
+}
+
+#[test]
+fn p1() {
+    let t = kept(&code_k(), 4, &[], false);
+    assert_eq!((t.rows, t.full, t.abandoned), (vec![0, 0, 3, 1, 5, 8, 0], 1, 0));
+    assert_eq!(t.lists[2], [0]);
+    let q = Question { call: GlobalOf, args: vec![Arg::U16(abi::words(&code_k()).to_vec()), Arg::N(2)] };
+    assert_eq!(agreed(&q).values(), [0, 1, 9, 0, 0]);
+}
+
+#[test]
+fn p2_and_p3() {
+    assert_eq!(kept(&code_k(), 4, &[1, 5], false).lists[2], [0, 3]);
+    assert_eq!(kept(&code_k(), 4, &[2, 5], false).lists[2], [0]);
+    assert_eq!(kept(&code_k(), 4, &[3, 2], false).refusal, 4);
+    assert_eq!(kept(&code_k(), 4, &[6, 9], false).refusal, 0);
+}
+
+#[test]
+fn p4() {
+    let code = [i(op::JumpIfFalseR, 2, 0, 0, 0), i(op::ReturnR, 0, 1, 0, 0), i(op::ReturnR, 0, 2, 0, 0)];
+    for regs in [64, 65] { assert_eq!(kept(&code, regs, &[], false).lists[0], [0, 1, 2]) }
+}
+
+#[test]
+fn p5() {
+    let code = [i(op::Move, 1, 0, 0, 0), i(op::LenR, 2, 1, 0, 0), i(op::JumpIfFalseR, 4, 1, 0, 0), i(op::Jump, 0, 0, 0, 0), i(op::ReturnR, 0, 2, 0, 0)];
+    let t = kept(&code, 3, &[], false);
+    assert_eq!((t.rows, t.full, t.abandoned), (vec![1, 3, 7, 1, 4, 0], 3, 1));
+}
+
+#[test]
+fn p6() {
+    let code = [i(op::PushRegs, 5, 0, 0, 1), i(op::CallGlobalR, 3, 0, 0, 0), i(op::StoreTopR, 1, 0, 0, 0), i(op::StoreTopR, 5, 0, 0, 0), i(op::ReturnR, 0, 5, 0, 0)];
+    assert_eq!(kept(&code, 6, &[], false).lists[1], [5]);
+}
+
+/// What a chunk becomes: its instructions and its pool.
+fn fold(code: &[[u16; 3]], pool: &[(u8, u64)], strict: bool) -> (Vec<[u16; 3]>, Vec<(u8, u64)>) {
+    let n = code.len();
+    let room = |mut v: Vec<u64>| { v.resize(pool.len() + n, 0); v };
+    let args = vec![
+        Arg::U16(code.as_flattened().to_vec()), Arg::U8(room(pool.iter().map(|c| c.0.into()).collect()).iter().map(|&k| k as u8).collect()),
+        Arg::U64(room(pool.iter().map(|c| c.1).collect())), Arg::N(pool.len() as u64), Arg::U32(vec![0; n]), Arg::N(0), Arg::U16(vec![0; 2 * n]), Arg::N(0),
+        Arg::U32(vec![]), Arg::N(0), Arg::U32(vec![]), Arg::N(0), Arg::U8(vec![9; n]), Arg::U32(vec![9; n + 1]), Arg::N(strict.into()),
+    ];
+    let mut r = agreed(&Question { call: Fold, args });
+    assert_eq!(r.answer.refusal, 0);
+    let code = r.lent.u16("code")[..3 * r.answer.first as usize].chunks(3).map(|w| [w[0], w[1], w[2]]).collect();
+    let pool = (0..r.answer.second as usize).map(|k| (r.lent.u8("kinds")[k], r.lent.u64("words")[k])).collect();
+    (code, pool)
+}
+
+fn int(i: i64) -> (u8, u64) { (1, i as u64) }
+
+fn float(f: f64) -> (u8, u64) { (2, f.to_bits()) }
+
+/// The result of a fold, or none.
+fn result(o: u16, operands: &[(u8, u64)]) -> Option<(u8, u64)> {
+    let loads = (0..operands.len() as u16).map(|k| [op::LoadConst, 0, k]);
+    let code: Vec<[u16; 3]> = loads.chain([[o, 0, 0]]).collect();
+    let (folded, pool) = fold(&code, operands, false);
+    (folded.len() == 1).then(|| pool[folded[0][2] as usize])
+}
+
+#[test]
+fn p7_to_p12() {
+    assert_eq!(result(op::FloorDiv, &[int(-7), int(2)]), Some(int(-4)));
+    assert_eq!(result(op::Mod, &[int(-7), int(2)]), Some(int(1)));
+    assert_eq!(result(op::Mod, &[int(7), int(-2)]), Some(int(-1)));
+    assert_eq!(result(op::Shl, &[int(-1), int(47)]), Some(int(-140_737_488_355_328)));
+    assert_eq!(result(op::Shl, &[int(1), int(47)]), None);
+    assert_eq!(result(op::Shl, &[int(0), int(62)]), Some(int(0)));
+    assert_eq!(result(op::Shl, &[int(0), int(63)]), None);
+    assert_eq!(result(op::Minus, &[int(-140_737_488_355_328)]), None);
+    assert_eq!(result(op::Div, &[int(7), int(2)]), None);
+    assert_eq!(result(op::Div, &[int(7), float(2.0)]), Some(float(3.5)));
+    assert_eq!(fold(&[[op::LoadConst, 0, 0], [op::Minus, 0, 0]], &[float(0.0)], false), (vec![[op::LoadConst, 0, 1]], vec![float(0.0), float(-0.0)]));
+}
+
+#[test]
+fn p13() {
+    let code = [[op::LoadConst, 0, 0], [op::LoadConst, 0, 1], [op::Add, 0, 0], [op::Jump, 1, 2]];
+    let pool = [int(2), int(3)];
+    assert_eq!(fold(&code, &pool, false), (vec![[op::LoadConst, 0, 2], [op::Jump, 1, 1]], vec![int(2), int(3), int(5)]));
+    assert_eq!(fold(&code, &pool, true), (code.to_vec(), pool.to_vec()));
+}
+
+/// The sweeps end at the least solution of the row equations, on both routes.
+#[test]
+fn sweeps_end_at_the_least_solution() {
+    let mut rng = oracle::rng::Rng::new(7, 0);
+    for _ in 0..20_000 {
+        let regs = rng.pick(&[3, 8, 64, 65, 130]);
+        let code = oracle::bodies::body(&mut rng, Kept, regs);
+        let least = rows::least(&code, regs);
+        assert_eq!(rows::rows(&code, regs, true).rows, least);
+        let word = rows::rows(&code, regs, false);
+        let start = if word.abandoned > 0 || regs > 64 { 0 } else { code.iter().position(rows::level).unwrap_or(code.len()) };
+        assert!(word.rows[..start].iter().all(|&w| w == 0));
+        if regs <= 64 { assert_eq!(word.rows[start..], least[start..]) }
+    }
+}

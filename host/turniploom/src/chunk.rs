@@ -1,0 +1,120 @@
+//! The call of optimizer.rs over a plain chunk, as near the Rust's as a refusal allows.
+
+/// An instruction of a chunk: three words.
+#[derive(Clone, Copy, Debug, Default, PartialEq, Eq)]
+pub struct Instruction {
+    /// The opcode's number, one of [`crate::op`] or 0 for any other.
+    pub opcode: u16,
+    /// The mark [`JUMP`], or 0.
+    pub marks: u16,
+    /// The operand.
+    pub operand: u16,
+}
+
+/// The mark of a chunk's instruction whose operand is a position.
+pub const JUMP: u16 = 1;
+
+/// A constant of a chunk.
+#[derive(Clone, Copy, Debug, PartialEq)]
+pub enum Constant {
+    /// One that is never folded, with a word of the host's own.
+    Other(u64),
+    /// An int.
+    Int(i64),
+    /// A float.
+    Float(f64),
+    /// A bool.
+    Bool(bool),
+}
+
+/// A chunk with its tables.
+#[derive(Clone, Debug, Default, PartialEq)]
+pub struct Chunk {
+    /// The instructions.
+    pub instructions: Vec<Instruction>,
+    /// The constants that they load.
+    pub constants: Vec<Constant>,
+    /// For each instruction, the index of a Phi's sources; or empty.
+    pub phi_map: Vec<usize>,
+    /// The sources of Phis.
+    pub phi_sources: Vec<(u16, u16)>,
+    /// Positions of statements, each with a number of the host's own.
+    pub stmt_pos: Vec<(u32, u32)>,
+    /// Positions of calls, each with a number of the host's own.
+    pub call_byte_pos: Vec<(u32, u32)>,
+}
+
+/// Folds the constants of a chunk, drops the Phis that do nothing, and moves all that names a position. In strict mode
+/// nothing folds that some jump lands in. A refused chunk is as it was.
+///
+/// P13 of document 01: 2 + 3 folds, and the jump follows; in strict mode the jump keeps it from folding.
+///
+/// ```
+/// use turniploom::{Chunk, Constant::Int, Instruction, JUMP, constant_fold, op::*};
+/// let p13 = Chunk {
+///     instructions: vec![
+///         Instruction { opcode: LoadConst, marks: 0, operand: 0 },
+///         Instruction { opcode: LoadConst, marks: 0, operand: 1 },
+///         Instruction { opcode: Add, marks: 0, operand: 0 },
+///         Instruction { opcode: Jump, marks: JUMP, operand: 2 },
+///     ],
+///     constants: vec![Int(2), Int(3)],
+///     ..Chunk::default()
+/// };
+/// let mut strict = p13.clone();
+/// constant_fold(&mut strict, true)?;
+/// assert_eq!(strict, p13);
+///
+/// let mut plain = p13;
+/// constant_fold(&mut plain, false)?;
+/// assert_eq!(plain.constants, [Int(2), Int(3), Int(5)]);
+/// assert_eq!(plain.instructions, [
+///     Instruction { opcode: LoadConst, marks: 0, operand: 2 },
+///     Instruction { opcode: Jump, marks: JUMP, operand: 1 },
+/// ]);
+/// # Ok::<(), turniploom::Refusal>(())
+/// ```
+#[cfg(exported = "fold")]
+pub fn constant_fold(chunk: &mut Chunk, strict: bool) -> Result<(), crate::Refusal> {
+    let n = chunk.instructions.len();
+    let count = chunk.constants.len();
+    let mut code: Vec<u16> = chunk.instructions.iter().flat_map(|i| [i.opcode, i.marks, i.operand]).collect();
+    // Room for a constant and a pair from every instruction is always enough.
+    let (mut kinds, mut words): (Vec<u8>, Vec<u64>) = chunk.constants.iter().map(|&c| stored(c)).unzip();
+    kinds.resize(count + n, 0);
+    words.resize(count + n, 0);
+    // An index past 32 bits lies past every table, as the largest of 32 bits does.
+    let mut phi_map: Vec<u32> = chunk.phi_map.iter().map(|&p| u32::try_from(p).unwrap_or(u32::MAX)).collect();
+    phi_map.resize(n.max(phi_map.len()), 0);
+    let mut sources: Vec<u16> = chunk.phi_sources.iter().flat_map(|&(a, b)| [a, b]).collect();
+    let pairs = sources.len();
+    sources.resize(pairs.max(2 * n), 0);
+    let mut stmts = flat(&chunk.stmt_pos);
+    let mut calls = flat(&chunk.call_byte_pos);
+    let (stmt_count, call_count) = (stmts.len(), calls.len());
+    let (mut dead, mut remap) = (vec![0; n], vec![0; n + 1]);
+    let folded = crate::abi::fold(
+        &mut code, &mut kinds, &mut words, count, &mut phi_map, chunk.phi_map.len(), &mut sources, pairs, &mut stmts, stmt_count,
+        &mut calls, call_count, &mut dead, &mut remap, strict,
+    ).granted()?;
+    chunk.instructions = code.chunks(3).take(folded.first as usize).map(|w| Instruction { opcode: w[0], marks: w[1], operand: w[2] }).collect();
+    chunk.constants.extend((count..folded.second as usize).map(|k| if kinds[k] == 1 { Constant::Int(words[k] as i64) } else { Constant::Float(f64::from_bits(words[k])) }));
+    chunk.phi_map = phi_map[..folded.third as usize].iter().map(|&p| p as usize).collect();
+    chunk.phi_sources = sources[..folded.fourth as usize].chunks(2).map(|p| (p[0], p[1])).collect();
+    chunk.stmt_pos = stmts.chunks(2).map(|p| (p[0], p[1])).collect();
+    chunk.call_byte_pos = calls.chunks(2).map(|p| (p[0], p[1])).collect();
+    Ok(())
+}
+
+#[cfg(exported = "fold")]
+fn stored(constant: Constant) -> (u8, u64) {
+    match constant {
+        Constant::Other(word) => (0, word),
+        Constant::Int(i) => (1, i as u64),
+        Constant::Float(f) => (2, f.to_bits()),
+        Constant::Bool(b) => (3, b.into()),
+    }
+}
+
+#[cfg(exported = "fold")]
+fn flat(pairs: &[(u32, u32)]) -> Vec<u32> { pairs.iter().flat_map(|&(at, byte)| [at, byte]).collect() }

@@ -1,0 +1,74 @@
+/* A host in C: document 01's P1 and P13 through the header, each call only where the archive has it (-DHAVE_..). */
+#include "turniploom.h"
+#include <stdio.h>
+#include <string.h>
+
+static int failed;
+#define SHOW(holds) do { if (!(holds)) { printf("line %d: not so: %s\n", __LINE__, #holds); failed = 1; } } while (0)
+
+/* Code K, six words an instruction: opcode, marks, a, b, c, x. */
+static const uint16_t K[] = {
+    TURNIPLOOM_LoadGlobalR, 0, 0, 7, 0, 0, TURNIPLOOM_LoadGlobalR, 0, 1, 9, 0, 0, TURNIPLOOM_CallR, 0, 1, 0, 0, 0,
+    TURNIPLOOM_StoreTopR, 0, 2, 0, 0, 0,   TURNIPLOOM_AddR, 0, 3, 0, 2, 0,        TURNIPLOOM_ReturnR, 0, 0, 3, 0, 0,
+};
+enum { WORDS = sizeof K / sizeof K[0] };
+
+int main(void) {
+    (void)K;
+#ifdef HAVE_kinds
+    SHOW(turniploom_kinds(K, WORDS, 4).first == 13);
+    turniploom_answer refused = turniploom_kinds(K, WORDS - 1, 4);
+    SHOW(refused.refusal == TURNIPLOOM_CODE && refused.first == WORDS - 1 && refused.second == 0);
+    refused = turniploom_kinds(K, WORDS, 6);
+    SHOW(refused.refusal == TURNIPLOOM_POSITION && refused.first == 6);
+#endif
+#ifdef HAVE_role
+    turniploom_answer role = turniploom_role(K, WORDS, 4);
+    SHOW(role.refusal == 0 && role.first == 1 && role.second == 1 && role.third == 6 && role.fourth == 0);
+#endif
+#ifdef HAVE_writes
+    SHOW(turniploom_writes(K, WORDS, 4, 3).first == 1 && turniploom_writes(K, WORDS, 4, 0).first == 0);
+#endif
+#ifdef HAVE_global_of
+    turniploom_answer callee = turniploom_global_of(K, WORDS, 2);
+    SHOW(callee.first == 1 && callee.second == 9);
+#endif
+#ifdef HAVE_pure
+    SHOW(turniploom_pure(K, WORDS).first == 1);
+#endif
+#ifdef HAVE_targets
+    static const uint32_t try_to_5[] = {1, 5};
+    uint8_t landed[7];
+    SHOW(turniploom_targets(K, WORDS, try_to_5, 2, landed, 7).refusal == 0 && landed[5] == 1 && landed[4] == 0);
+#endif
+#ifdef HAVE_kept
+    static const uint32_t try_1_5[] = {1, 5};
+    static const uint64_t p1[] = {0, 0, 3, 1, 5, 8, 0};
+    uint64_t rows[7];
+    uint32_t offsets[7];
+    uint16_t list[2] = {9, 9};
+    turniploom_answer kept = turniploom_kept(K, WORDS, 4, try_1_5, 0, false, rows, 7, offsets, 7, list, 2);
+    SHOW(kept.refusal == 0 && kept.first == 1 && kept.second == 1 && kept.third == 0);
+    SHOW(memcmp(rows, p1, sizeof p1) == 0 && offsets[2] == 0 && offsets[3] == 1 && list[0] == 0 && list[1] == 9);
+    kept = turniploom_kept(K, WORDS, 4, try_1_5, 2, false, rows, 7, offsets, 7, list, 1);
+    SHOW(kept.refusal == TURNIPLOOM_BUFFER && kept.first == 3 && kept.second == 2);
+    kept = turniploom_kept(K, WORDS, 4, try_1_5, 2, false, rows, 7, offsets, 7, list, 2);
+    SHOW(kept.refusal == 0 && kept.first == 2 && list[0] == 0 && list[1] == 3);
+#endif
+#ifdef HAVE_fold
+    uint16_t chunk[] = {TURNIPLOOM_LoadConst, 0, 0, TURNIPLOOM_LoadConst, 0, 1, TURNIPLOOM_Add, 0, 0, TURNIPLOOM_Jump, TURNIPLOOM_IS_JUMP, 2};
+    static const uint16_t p13[] = {TURNIPLOOM_LoadConst, 0, 2, TURNIPLOOM_Jump, TURNIPLOOM_IS_JUMP, 1, 0, 0, 0, 0, 0, 0};
+    uint8_t kinds[3] = {TURNIPLOOM_INT, TURNIPLOOM_INT, 0}, dead[4];
+    uint64_t words[3] = {2, 3, 0};
+    uint32_t phi_map[4] = {0}, remap[5], none[1];
+    uint16_t phi_sources[1];
+    turniploom_answer folded = turniploom_fold(chunk, 12, kinds, 3, words, 3, 2, phi_map, 4, 0, phi_sources, 0, 0, none, 0, 0, none, 0, 0,
+                                               dead, 4, remap, 5, true);
+    SHOW(folded.refusal == 0 && folded.first == 4 && folded.second == 2);
+    folded = turniploom_fold(chunk, 12, kinds, 3, words, 3, 2, phi_map, 4, 0, phi_sources, 0, 0, none, 0, 0, none, 0, 0, dead, 4, remap, 5, false);
+    SHOW(folded.refusal == 0 && folded.first == 2 && folded.second == 3 && memcmp(chunk, p13, sizeof p13) == 0);
+    SHOW(kinds[2] == TURNIPLOOM_INT && words[2] == 5 && dead[0] == 0 && dead[1] == 1 && dead[2] == 1 && dead[3] == 0 && remap[4] == 2);
+#endif
+    puts(failed ? "not all is well" : "all is well");
+    return failed;
+}

@@ -1,0 +1,64 @@
+//! The lower level lends the caller's own buffers and allocates nothing.
+
+use std::{alloc::{GlobalAlloc, Layout, System}, cell::Cell};
+use turniploom::{Ins, abi, op::*};
+
+/// Counts what this thread allocates.
+struct Counting;
+
+thread_local! { static ALLOCATED: Cell<usize> = const { Cell::new(0) } }
+
+// SAFETY: every request goes to the system's allocator as it is.
+unsafe impl GlobalAlloc for Counting {
+    unsafe fn alloc(&self, layout: Layout) -> *mut u8 {
+        ALLOCATED.set(ALLOCATED.get() + 1);
+        unsafe { System.alloc(layout) }
+    }
+    unsafe fn dealloc(&self, at: *mut u8, layout: Layout) { unsafe { System.dealloc(at, layout) } }
+}
+
+#[global_allocator]
+static COUNTING: Counting = Counting;
+
+/// Document 01's code K.
+const K: [Ins; 6] = [
+    Ins::new(LoadGlobalR, 0, 7, 0, 0), Ins::new(LoadGlobalR, 1, 9, 0, 0), Ins::new(CallR, 1, 0, 0, 0), Ins::new(StoreTopR, 2, 0, 0, 0),
+    Ins::new(AddR, 3, 0, 2, 0), Ins::new(ReturnR, 0, 3, 0, 0),
+];
+
+#[test]
+fn no_call_allocates() {
+    let code = abi::words(&K);
+    let (mut seen, mut todo, mut depths) = ([9u8; 7], [9u32; 7], [9u32; 7]);
+    let (mut rows, mut offsets, mut list) = ([9u64; 7], [9u32; 7], [9u16; 8]);
+    let before = ALLOCATED.get();
+    #[cfg(exported = "kinds")]
+    assert_eq!(abi::kinds(code, 4).first, 13);
+    #[cfg(exported = "role")]
+    assert_eq!(abi::role(code, 4).third, 6);
+    #[cfg(exported = "global_of")]
+    assert_eq!(abi::global_of(code, 2).second, 9);
+    #[cfg(exported = "gen_pure")]
+    assert_eq!((abi::gen_pure(code, &mut seen, &mut todo).first, seen, todo), (1, [0; 7], [0; 7]));
+    #[cfg(exported = "loops_around")]
+    assert_eq!((abi::loops_around(code, &mut depths).refusal, depths), (0, [0; 7]));
+    #[cfg(exported = "kept")]
+    {
+        assert_eq!(abi::kept(code, 4, &[1, 5], false, &mut rows, &mut offsets, &mut list).first, 2);
+        assert_eq!((rows, offsets, list), ([0, 0, 3, 1, 5, 8, 0], [0, 0, 0, 2, 2, 2, 2], [0, 3, 9, 9, 9, 9, 9, 9]));
+    }
+    let _ = (code, &mut seen, &mut todo, &mut depths, &mut rows, &mut offsets, &mut list);
+    assert_eq!(ALLOCATED.get(), before);
+}
+
+#[test]
+#[cfg(exported = "fold")]
+fn folding_allocates_nothing() {
+    let mut code = [LoadConst, 0, 0, LoadConst, 0, 1, Add, 0, 0, Jump, 1, 2];
+    let (mut kinds, mut words, mut dead, mut remap) = ([1, 1, 0], [2, 3, 0], [9; 4], [9; 5]);
+    let before = ALLOCATED.get();
+    let a = abi::fold(&mut code, &mut kinds, &mut words, 2, &mut [0; 4], 0, &mut [], 0, &mut [], 0, &mut [], 0, &mut dead, &mut remap, false);
+    assert_eq!(ALLOCATED.get(), before);
+    assert_eq!((a.refusal, a.first, a.second, code), (0, 2, 3, [LoadConst, 0, 2, Jump, 1, 1, 0, 0, 0, 0, 0, 0]));
+    assert_eq!((kinds, words, dead, remap), ([1, 1, 1], [2, 3, 5], [0, 1, 1, 0], [0, 1, 1, 1, 2]));
+}

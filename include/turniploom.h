@@ -1,0 +1,135 @@
+/* The proved calls of turniploom, for C. Link with libturniploom.a, which `rt staticlib turniploom` makes.
+ *
+ * A slice is a pointer and a length in elements. No call asks anything of its input but that each pointer has as many elements
+ * as its length says (a length of 0 may come with any pointer that is not null), that buffers lent to be written do not overlap
+ * anything else, and that a bool is one. Nothing is allocated. docs/BUFFERS.md has the order of the tests and what each buffer
+ * holds afterwards. */
+#ifndef TURNIPLOOM_H
+#define TURNIPLOOM_H
+
+#include <stdbool.h>
+#include <stddef.h>
+#include <stdint.h>
+
+#ifdef __cplusplus
+extern "C" {
+#endif
+
+/* What every call returns. `refusal` is 0 for an answer, else one of the numbers below; `first` and `second` are then what the
+ * refusal also returns. A value that is not used is 0. */
+typedef struct {
+    uint8_t refusal;
+    uint64_t first, second, third, fourth;
+} turniploom_answer;
+
+enum turniploom_refusal {
+    TURNIPLOOM_CODE = 1,      /* length no multiple of the stride, or too many instructions: length */
+    TURNIPLOOM_RECORD = 2,    /* an instruction breaks a record rule: first position */
+    TURNIPLOOM_REGISTERS = 3, /* more than 1,024 registers: the number */
+    TURNIPLOOM_TRY = 4,       /* a try breaks its rule: first index */
+    TURNIPLOOM_BUFFER = 5,    /* a lent buffer is too short: buffer, length needed */
+    TURNIPLOOM_POSITION = 6,  /* a position at the end or beyond, or not one of the four calls: position */
+    TURNIPLOOM_TABLE = 7      /* a table of the chunk breaks its rule: table number */
+};
+
+/* Marks of an instruction: six words, opcode, marks, a, b, c, x. */
+enum turniploom_mark { TURNIPLOOM_WIDE = 1, TURNIPLOOM_DUNDER = 2, TURNIPLOOM_IS_REGISTER = 4 };
+
+/* The mark of a chunk's instruction: three words, opcode, marks, operand. */
+enum turniploom_chunk_mark { TURNIPLOOM_IS_JUMP = 1 };
+
+/* The kind of a constant. */
+enum turniploom_kind { TURNIPLOOM_OTHER = 0, TURNIPLOOM_INT = 1, TURNIPLOOM_FLOAT = 2, TURNIPLOOM_BOOL = 3 };
+
+/* Roles. kinds: the bits 1 writes a; 2, 4, 8 reads a, b, c; 16 jumps to a; 32 none. role: 1, writes a, read fields, jumps; or 0. */
+turniploom_answer turniploom_kinds(const uint16_t *code, size_t code_len, size_t at);
+turniploom_answer turniploom_role(const uint16_t *code, size_t code_len, size_t at);
+turniploom_answer turniploom_field(const uint16_t *code, size_t code_len, size_t at, uint8_t f);
+turniploom_answer turniploom_writes(const uint16_t *code, size_t code_len, size_t at, uint16_t r);
+
+/* Walks. Truth is 1; params_written and passed give bits. Marks, waiting positions and out are n + 1 long. */
+turniploom_answer turniploom_pure(const uint16_t *code, size_t code_len);
+turniploom_answer turniploom_flat(const uint16_t *code, size_t code_len);
+turniploom_answer turniploom_guarded(const uint16_t *code, size_t code_len);
+turniploom_answer turniploom_returns(const uint16_t *code, size_t code_len, size_t at);
+turniploom_answer turniploom_params_written(const uint16_t *code, size_t code_len, size_t arity);
+turniploom_answer turniploom_passed(const uint16_t *code, size_t code_len, size_t at, size_t arity);
+turniploom_answer turniploom_gen_pure(const uint16_t *code, size_t code_len, uint8_t *seen, size_t seen_len, uint32_t *todo, size_t todo_len);
+turniploom_answer turniploom_dead_phi(const uint16_t *code, size_t code_len, size_t at, uint16_t r, uint8_t *seen, size_t seen_len,
+                                      uint32_t *todo, size_t todo_len);
+turniploom_answer turniploom_loops_around(const uint16_t *code, size_t code_len, uint32_t *out, size_t out_len);
+turniploom_answer turniploom_targets(const uint16_t *code, size_t code_len, const uint32_t *tries, size_t tries_len, uint8_t *out, size_t out_len);
+
+/* Callee tracing. Nothing found is first 0; found is first 1, then binding; position; position and register. */
+turniploom_answer turniploom_global_of(const uint16_t *code, size_t code_len, size_t at);
+turniploom_answer turniploom_pushed_back(const uint16_t *code, size_t code_len, size_t at, uint16_t r);
+turniploom_answer turniploom_stack_callee(const uint16_t *code, size_t code_len, size_t at, uint16_t count);
+
+/* Kept registers: list length, full sweeps, abandoned sweeps. rows is (n + 1) times max(1, registers / 64 rounded up) long,
+ * offsets n + 1. A list too short is refused with the length it needs. The list of position k is list[offsets[k]] up to
+ * list[offsets[k + 1]]. */
+turniploom_answer turniploom_kept(const uint16_t *code, size_t code_len, size_t regs, const uint32_t *tries, size_t tries_len, bool wide,
+                                  uint64_t *rows, size_t rows_len, uint32_t *offsets, size_t offsets_len, uint16_t *list, size_t list_len);
+
+/* Folding: instructions, constants, phi_map entries, phi_sources words. kinds and words need max(count, min(65,535, count +
+ * folding operators)) entries, phi_map n, phi_sources two for each pair or Phi, dead n, remap n + 1. */
+turniploom_answer turniploom_fold(uint16_t *code, size_t code_len, uint8_t *kinds, size_t kinds_len, uint64_t *words, size_t words_len,
+                                  size_t constants, uint32_t *phi_map, size_t phi_map_len, size_t phi_map_count, uint16_t *phi_sources,
+                                  size_t phi_sources_len, size_t phi_sources_count, uint32_t *stmt_pos, size_t stmt_pos_len,
+                                  size_t stmt_pos_count, uint32_t *call_byte_pos, size_t call_byte_pos_len, size_t call_byte_pos_count,
+                                  uint8_t *dead, size_t dead_len, uint32_t *remap, size_t remap_len, bool strict);
+
+/* Opcode numbers, as docs/OPCODES.md lists them. 0 is any other. */
+enum turniploom_opcode {
+    TURNIPLOOM_LoadConst = 2, TURNIPLOOM_LoadName = 4, TURNIPLOOM_StoreName = 6, TURNIPLOOM_Call = 8, TURNIPLOOM_PopTop = 10,
+    TURNIPLOOM_ReturnValue = 12, TURNIPLOOM_BuildString = 14, TURNIPLOOM_CallPrint = 16, TURNIPLOOM_CallLen = 18,
+    TURNIPLOOM_FormatValue = 20, TURNIPLOOM_CallAbs = 22, TURNIPLOOM_Minus = 24, TURNIPLOOM_CallStr = 26, TURNIPLOOM_CallInt = 28,
+    TURNIPLOOM_CallRange = 30, TURNIPLOOM_Phi = 32, TURNIPLOOM_CallChr = 34, TURNIPLOOM_CallType = 36,
+    TURNIPLOOM_MakeFunction = 38, TURNIPLOOM_Add = 40, TURNIPLOOM_Sub = 42, TURNIPLOOM_Mul = 44, TURNIPLOOM_Div = 46,
+    TURNIPLOOM_Eq = 48, TURNIPLOOM_CallFloat = 50, TURNIPLOOM_CallBool = 52, TURNIPLOOM_CallRound = 54, TURNIPLOOM_CallMin = 56,
+    TURNIPLOOM_CallMax = 58, TURNIPLOOM_CallSum = 60, TURNIPLOOM_CallEnumerate = 62, TURNIPLOOM_CallZip = 64,
+    TURNIPLOOM_CallList = 66, TURNIPLOOM_CallTuple = 68, TURNIPLOOM_CallDict = 70, TURNIPLOOM_CallIsInstance = 72,
+    TURNIPLOOM_CallSet = 74, TURNIPLOOM_CallInput = 76, TURNIPLOOM_CallOrd = 78, TURNIPLOOM_BuildDict = 80,
+    TURNIPLOOM_BuildList = 82, TURNIPLOOM_NotEq = 84, TURNIPLOOM_Lt = 86, TURNIPLOOM_Gt = 88, TURNIPLOOM_LtEq = 90,
+    TURNIPLOOM_GtEq = 92, TURNIPLOOM_Not = 94, TURNIPLOOM_JumpIfFalse = 96, TURNIPLOOM_Jump = 98, TURNIPLOOM_GetIter = 100,
+    TURNIPLOOM_ForIter = 102, TURNIPLOOM_GetItem = 104, TURNIPLOOM_Mod = 106, TURNIPLOOM_Pow = 108, TURNIPLOOM_FloorDiv = 110,
+    TURNIPLOOM_LoadTrue = 112, TURNIPLOOM_LoadFalse = 114, TURNIPLOOM_LoadNone = 116, TURNIPLOOM_LoadAttr = 118,
+    TURNIPLOOM_StoreAttr = 120, TURNIPLOOM_BuildSlice = 122, TURNIPLOOM_SetupExcept = 124, TURNIPLOOM_PopExcept = 126,
+    TURNIPLOOM_Raise = 128, TURNIPLOOM_BitAnd = 130, TURNIPLOOM_BitOr = 132, TURNIPLOOM_BitXor = 134, TURNIPLOOM_BitNot = 136,
+    TURNIPLOOM_Shl = 138, TURNIPLOOM_Shr = 140, TURNIPLOOM_In = 142, TURNIPLOOM_NotIn = 144, TURNIPLOOM_Is = 146,
+    TURNIPLOOM_IsNot = 148, TURNIPLOOM_UnpackSequence = 150, TURNIPLOOM_BuildTuple = 152, TURNIPLOOM_WithEnter = 154,
+    TURNIPLOOM_WithExit = 156, TURNIPLOOM_Yield = 158, TURNIPLOOM_SetupFinally = 160, TURNIPLOOM_BeginFinally = 162,
+    TURNIPLOOM_EndFinally = 164, TURNIPLOOM_Del = 166, TURNIPLOOM_Assert = 168, TURNIPLOOM_UnpackArgs = 170,
+    TURNIPLOOM_ListAppend = 172, TURNIPLOOM_SetAdd = 174, TURNIPLOOM_MapAdd = 176, TURNIPLOOM_BuildSet = 178,
+    TURNIPLOOM_LoadEllipsis = 180, TURNIPLOOM_MakeCoroutine = 182, TURNIPLOOM_StoreItem = 184, TURNIPLOOM_Dup2 = 186,
+    TURNIPLOOM_JumpIfFalseOrPop = 188, TURNIPLOOM_JumpIfTrueOrPop = 190, TURNIPLOOM_Dup = 1, TURNIPLOOM_CallMethod = 3,
+    TURNIPLOOM_CallMethodArgs = 5, TURNIPLOOM_CallAll = 7, TURNIPLOOM_CallAny = 9, TURNIPLOOM_CallBin = 11,
+    TURNIPLOOM_CallOct = 13, TURNIPLOOM_CallHex = 15, TURNIPLOOM_CallDivmod = 17, TURNIPLOOM_CallPow = 19,
+    TURNIPLOOM_CallRepr = 21, TURNIPLOOM_CallReversed = 23, TURNIPLOOM_PopIter = 25, TURNIPLOOM_DelItem = 27,
+    TURNIPLOOM_DelAttr = 29, TURNIPLOOM_DictUpdate = 31, TURNIPLOOM_SetUpdate = 33, TURNIPLOOM_ListExtend = 35,
+    TURNIPLOOM_MatchSeq = 37, TURNIPLOOM_InPlaceAdd = 39, TURNIPLOOM_InPlaceSub = 41, TURNIPLOOM_LoadYieldFrom = 43,
+    TURNIPLOOM_BeginArgs = 45, TURNIPLOOM_WithJudge = 47, TURNIPLOOM_Swap = 49, TURNIPLOOM_MatchClass = 51,
+    TURNIPLOOM_MatchMap = 53, TURNIPLOOM_CallSpread = 55, TURNIPLOOM_Move = 57, TURNIPLOOM_PushRegs = 59, TURNIPLOOM_AddR = 61,
+    TURNIPLOOM_SubR = 63, TURNIPLOOM_MulR = 65, TURNIPLOOM_DivR = 67, TURNIPLOOM_ModR = 69, TURNIPLOOM_FloorDivR = 71,
+    TURNIPLOOM_InPlaceAddR = 73, TURNIPLOOM_InPlaceSubR = 75, TURNIPLOOM_BitAndR = 77, TURNIPLOOM_BitOrR = 79,
+    TURNIPLOOM_BitXorR = 81, TURNIPLOOM_ShlR = 83, TURNIPLOOM_ShrR = 85, TURNIPLOOM_PowR = 87, TURNIPLOOM_EqR = 89,
+    TURNIPLOOM_NotEqR = 91, TURNIPLOOM_LtR = 93, TURNIPLOOM_LtEqR = 95, TURNIPLOOM_GtR = 97, TURNIPLOOM_GtEqR = 99,
+    TURNIPLOOM_MinusR = 101, TURNIPLOOM_NotR = 103, TURNIPLOOM_JumpIfFalseR = 105, TURNIPLOOM_ReturnR = 107,
+    TURNIPLOOM_GetItemR = 109, TURNIPLOOM_StoreItemR = 111, TURNIPLOOM_GetAttrR = 113, TURNIPLOOM_SetAttrR = 115,
+    TURNIPLOOM_LoadGlobalR = 117, TURNIPLOOM_StoreGlobalR = 119, TURNIPLOOM_LoadCellR = 121, TURNIPLOOM_StoreCellR = 123,
+    TURNIPLOOM_InR = 125, TURNIPLOOM_NotInR = 127, TURNIPLOOM_IsR = 129, TURNIPLOOM_IsNotR = 131, TURNIPLOOM_LenR = 133,
+    TURNIPLOOM_ListAppendR = 135, TURNIPLOOM_SetAddR = 137, TURNIPLOOM_MapAddR = 139, TURNIPLOOM_UnpackR = 141,
+    TURNIPLOOM_StoreTopR = 143, TURNIPLOOM_ForIterR = 145, TURNIPLOOM_JumpUnlessEq = 147, TURNIPLOOM_JumpUnlessNotEq = 149,
+    TURNIPLOOM_JumpUnlessLt = 151, TURNIPLOOM_JumpUnlessLtEq = 153, TURNIPLOOM_JumpUnlessGt = 155,
+    TURNIPLOOM_JumpUnlessGtEq = 157, TURNIPLOOM_CallR = 159, TURNIPLOOM_CallMethodR = 161, TURNIPLOOM_ArgsR = 163,
+    TURNIPLOOM_AppendR = 165, TURNIPLOOM_OwnResetR = 167, TURNIPLOOM_CallGlobalR = 169, TURNIPLOOM_CallSectionR = 171,
+    TURNIPLOOM_SectionR = 173, TURNIPLOOM_LoadGlobalAtR = 175, TURNIPLOOM_StoreGlobalAtR = 177, TURNIPLOOM_UnbindR = 179,
+    TURNIPLOOM_SuperR = 181, TURNIPLOOM_WrapCellR = 183, TURNIPLOOM_CallValueR = 185, TURNIPLOOM_CallSpreadR = 187,
+    TURNIPLOOM_ListPushR = 189
+};
+
+#ifdef __cplusplus
+}
+#endif
+
+#endif

@@ -53,7 +53,7 @@ RefusesTry regs w tries = (rows offsets list : List ℕ) → call.Outcome w regs
 
 -- an instruction of a chunk: a LoadConst, which names a constant, an operator without a mark, and a jump
 abbrev pub load : ℕ → List ℕ
-load x = op.LoadConst ∷ 0 ∷ x ∷ []
+load x = op.LoadConst ∷ 2 ∷ x ∷ []
 
 abbrev pub operator : ℕ → List ℕ
 operator o = o ∷ 0 ∷ 0 ∷ []

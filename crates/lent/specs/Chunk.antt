@@ -27,6 +27,10 @@ operandAt w k = getD w (stride * k + 2) 0
 abbrev pub jumps : List ℕ → ℕ → Bool
 jumps w k = eqb (markAt w k % 2) 1
 
+-- mark bit 1, 'names a constant'
+abbrev pub names : List ℕ → ℕ → Bool
+names w k = eqb (markAt w k / 2 % 2) 1
+
 abbrev pub isPhi : List ℕ → ℕ → Bool
 isPhi w k = eqb (opAt w k) Phi
 

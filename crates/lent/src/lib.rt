@@ -5,7 +5,7 @@ ghost use Prim.Native.Nat.{_^_, _<_, _≤_};
 ghost use lib.ListN.{length};
 ghost use mir.Val.{boolByte};
 ghost use Rattle.laws.specs.All.{every};
-ghost use Rattle.lent.specs.Chunk.{count, opAt, markAt, operandAt, jumps, folds, rules};
+ghost use Rattle.lent.specs.Chunk.{count, opAt, markAt, operandAt, jumps, names, folds, rules};
 ghost use Rattle.lent.specs.Tables.{constantKept, constantsKept, mapKept, pairsKept, tableOf};
 ghost use Rattle.lent.specs.Check.{firstBad, checkOf, tablesOf, tallyOf, constantRoom, sourceRoom, roomsOf, readyOf};
 use code::Checked;
@@ -72,6 +72,14 @@ pub fn is_jump(code: &[u16], k: usize) -> bool
     ensures { λ r. ⌜ r ≡ jumps (now (code .entry)) k ⌝ }
 {
     mark_at(code, k) % 2 == 1
+}
+
+// Whether instruction k names a constant.
+pub fn names_constant(code: &[u16], k: usize) -> bool
+    requires { ⌜ k < count (now code) ⌝ }
+    ensures { λ r. ⌜ r ≡ names (now (code .entry)) k ⌝ }
+{
+    mark_at(code, k) / 2 % 2 == 1
 }
 
 // Whether an opcode is a folding operator.
@@ -158,7 +166,7 @@ fn each_kept(kinds: &[u8], words: &[u64], constants: usize) -> bool
 }
 
 // Whether the constants keep their rule.
-fn constants_kept(kinds: &[u8], words: &[u64], constants: usize) -> bool
+pub fn constants_kept(kinds: &[u8], words: &[u64], constants: usize) -> bool
     ensures { λ r. ⌜ r ≡ constantsKept (now (kinds .entry)) (now (words .entry)) constants ⌝ }
 {
     let within = (constants <= 65536) & (constants <= kinds.len()) & (constants <= words.len());
@@ -169,7 +177,7 @@ fn constants_kept(kinds: &[u8], words: &[u64], constants: usize) -> bool
 }
 
 // Refusal 7 for one table.
-fn table(v: Checked, number: u8, kept: bool) -> Checked
+pub fn table(v: Checked, number: u8, kept: bool) -> Checked
     ensures { λ r. ⌜ r ≡ tableOf v number kept ⌝ }
 {
     match v {

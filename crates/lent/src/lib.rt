@@ -112,8 +112,11 @@ fn breaks(o: u16, marks: u16) -> bool
     ensures { λ r. ⌜ r ≡ not (rules o marks) ⌝ }
 {
     let jump = marks % 2 == 1;
-    let bare = (o == LoadConst) | (o == Phi) | is_folding(o);
-    let kept = (o <= LAST) & (marks <= 1) & (!jump | !bare);
+    let named = marks / 2 % 2 == 1;
+    let folding = is_folding(o);
+    let jump_kept = !jump | !((o == LoadConst) | (o == Phi) | folding);
+    let names_kept = ((o != LoadConst) | named) & (!named | !(jump | (o == Phi) | folding));
+    let kept = (o <= LAST) & (marks <= 3) & jump_kept & names_kept;
     !kept
 }
 

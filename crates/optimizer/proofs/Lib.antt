@@ -1,5 +1,5 @@
 pub mod Anew
 pub mod Idle
-pub mod Marked
+pub mod Examples
 pub mod Tested
 pub mod Whole

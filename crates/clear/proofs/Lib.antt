@@ -2,3 +2,8 @@ pub mod Marking
 pub mod Moving
 pub mod Whole
 pub mod Tested
+pub mod Kept
+pub mod Loads
+pub mod Twice
+pub mod Room
+pub mod Examples

@@ -25,7 +25,7 @@ use Rattle.clear.specs.declared.ClearAnswer.the-variants.{No}
 never : {A : Type 0} (n : ℕ) (r : Refusal) → Count n ≡ Refused r → A
 never n r e = let z : _≡_ {A = ℕ} 0 1 = cc in absurd (omega arith)
 
-table-met : (n : ℕ) (v : Checked) (t : ℕ) (kept : Bool) → Count n ≡ tableOf v t kept → (v ≡ Count n) × (kept ≡ true)
+pub table-met : (n : ℕ) (v : Checked) (t : ℕ) (kept : Bool) → Count n ≡ tableOf v t kept → (v ≡ Count n) × (kept ≡ true)
 table-met n (Refused r) t kept e = never n r e
 table-met n (Count m) t true e = (sym e, refl)
 table-met n (Count m) t false e = never n (Table t) e

@@ -24,7 +24,7 @@ use Rattle.clear.specs.declared.ClearAnswer.the-variants.{Is}
 
 -- ---- two tests, or two numberings, that agree below m
 
-many-ext : (f g : ℕ → Bool) (m : ℕ) → ((i : ℕ) → i < m → f i ≡ g i) → many f m ≡ many g m
+pub many-ext : (f g : ℕ → Bool) (m : ℕ) → ((i : ℕ) → i < m → f i ≡ g i) → many f m ≡ many g m
 unfolding many
 many-ext f g zero h = refl
 many-ext f g (suc m) h = rw (many-ext f g m (λ i l. h i (omega arith)), h m (omega arith))

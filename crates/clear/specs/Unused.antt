@@ -54,3 +54,7 @@ recoded number m w = each (insOf number m w) (count w)
 -- the first m words of scratch are told, the rest stays
 unfoldable pub numbered : (ℕ → ℕ) → ℕ → List ℕ → List ℕ
 numbered number m l = each (λ i. number i ∷ []) m ++ drop m l
+
+-- what an operand v loads of m entries: the one at v, and nothing at or past m
+unfoldable pub loaded : List ℕ → ℕ → ℕ → List ℕ
+loaded l m v = cond (ltb v m) (getD l v 0 ∷ []) []

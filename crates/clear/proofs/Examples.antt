@@ -1,0 +1,34 @@
+-- Document 01's P13 as the folding call leaves it, cleared; an operand past the count; scratch that is too short: computed from the definitions.
+-- Each buffer has one word more than is needed, which stays. Assumes nothing.
+use mathlib.Core.Path.{_≡_, refl}
+use mathlib.Core.List.{[], _∷_}
+use Rattle.code.specs.Op.{LoadConst, Jump}
+use Rattle.code.specs.declared.Refusal.the-variants.{Short}
+use Rattle.laws.specs.All.{every, many}
+use Rattle.laws.specs.Each.{each}
+use Rattle.laws.specs.Some.{some}
+use Rattle.laws.specs.Walk.{first}
+use Rattle.lent.specs.Chunk.{folds, rules}
+use Rattle.lent.specs.Check.{checkOf}
+use Rattle.clear.specs.Unused.{named, kept, pooled, renumbered, operandOf, recoded, numbered}
+use Rattle.clear.specs.Clear.{buffers, outcome, cleared, readyOf, clearCall}
+use Rattle.clear.specs.declared.ClearAnswer.the-variants.{Is, No}
+
+-- LoadConst 2; jump 1, pool 2, 3 and 5: 5 alone is left, and loaded
+pub p13-cleared : clearCall (buffers (LoadConst ∷ 2 ∷ 2 ∷ Jump ∷ 1 ∷ 1 ∷ 0 ∷ 0 ∷ 0 ∷ 0 ∷ 0 ∷ 0 ∷ []) (1 ∷ 1 ∷ 1 ∷ 9 ∷ []) (2 ∷ 3 ∷ 5 ∷ 9 ∷ []) (9 ∷ 9 ∷ 9 ∷ 9 ∷ [])) 3
+    ≡ outcome (Is 1) (buffers (LoadConst ∷ 2 ∷ 0 ∷ Jump ∷ 1 ∷ 1 ∷ 0 ∷ 0 ∷ 0 ∷ 0 ∷ 0 ∷ 0 ∷ []) (1 ∷ 0 ∷ 0 ∷ 9 ∷ []) (5 ∷ 0 ∷ 0 ∷ 9 ∷ []) (0 ∷ 0 ∷ 0 ∷ 9 ∷ []))
+unfolding clearCall cleared readyOf checkOf rules folds every many each first some named kept pooled renumbered operandOf recoded numbered
+p13-cleared = refl
+
+-- operands 7, 2, 0 and 2 of three constants: the second goes, and 7 stays
+pub past-the-count : clearCall (buffers (LoadConst ∷ 2 ∷ 7 ∷ LoadConst ∷ 2 ∷ 2 ∷ LoadConst ∷ 2 ∷ 0 ∷ LoadConst ∷ 2 ∷ 2 ∷ []) (1 ∷ 2 ∷ 3 ∷ 9 ∷ []) (4 ∷ 5 ∷ 1 ∷ 9 ∷ []) (9 ∷ 9 ∷ 9 ∷ 9 ∷ [])) 3
+    ≡ outcome (Is 2)
+    (buffers (LoadConst ∷ 2 ∷ 7 ∷ LoadConst ∷ 2 ∷ 1 ∷ LoadConst ∷ 2 ∷ 0 ∷ LoadConst ∷ 2 ∷ 1 ∷ []) (1 ∷ 3 ∷ 0 ∷ 9 ∷ []) (4 ∷ 1 ∷ 0 ∷ 9 ∷ []) (0 ∷ 1 ∷ 1 ∷ 9 ∷ []))
+unfolding clearCall cleared readyOf checkOf rules folds every many each first some named kept pooled renumbered operandOf recoded numbered
+past-the-count = refl
+
+-- three constants, and scratch of two words
+pub short-scratch : clearCall (buffers (LoadConst ∷ 2 ∷ 2 ∷ []) (1 ∷ 1 ∷ 1 ∷ []) (2 ∷ 3 ∷ 5 ∷ []) (9 ∷ 9 ∷ [])) 3
+    ≡ outcome (No (Short 1 3)) (buffers (LoadConst ∷ 2 ∷ 2 ∷ []) (1 ∷ 1 ∷ 1 ∷ []) (2 ∷ 3 ∷ 5 ∷ []) (9 ∷ 9 ∷ []))
+unfolding clearCall readyOf checkOf rules folds every first
+short-scratch = refl

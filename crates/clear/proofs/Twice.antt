@@ -1,0 +1,217 @@
+-- Running the clearing call twice changes nothing more. Assumes nothing.
+use Prim.Native.Nat.{ℕ, zero, suc, _+_, _-_, _*_, _/_, _≤_, _<_}
+use native.Mathlib.Nat.{sub-self, le-refl, eq-or-lt-of-le}
+use native.Mathlib.Numerals.{add-one}
+use native.Mathlib.Omega.{arith}
+use mathlib.Core.Path.{_≡_, refl, sym, ap, _∙_}
+use mathlib.Core.Logic.{⊎-elim}
+use mathlib.Core.Bool.{Bool, true, false, cond, not, _&&_, _||_}
+use mathlib.Core.List.{List, [], _∷_, _++_}
+use lib.Dec.{eqb, ltb, leb}
+use lib.ListN.{length, getD, take, drop, replicate, length-append, length-drop, take-append-drop}
+use lib.Seq.{set-getD, take-suc}
+use borrow.Author.Tests.{ltb-true, ltb-false, le-leb, le-ltb}
+use Rattle.laws.specs.All.{every, many}
+use Rattle.laws.specs.Each.{each}
+use Rattle.laws.specs.Walk.{first}
+use Rattle.laws.proofs.Branch.{and-true}
+use Rattle.laws.proofs.Each.{each-word}
+use Rattle.laws.proofs.Many.{many-few}
+use Rattle.code.specs.Answers.{asked}
+use Rattle.code.specs.Check.{roomOf}
+use Rattle.code.specs.declared.Refusal.{Refusal}
+use Rattle.code.specs.declared.Checked.{Checked}
+use Rattle.code.specs.declared.Checked.the-variants.{Count, No as Refused}
+use Rattle.code.proofs.Stages.{room-before}
+use Rattle.lent.specs.Chunk.{stride, count, opAt, markAt, operandAt, names, rules, breaksAt}
+use Rattle.lent.specs.Tables.{constantKept, within, constantsKept, tableOf}
+use Rattle.lent.specs.Check.{uneven, firstBad, checkOf}
+use Rattle.clear.specs.Unused.{named, before, keptAt, kept, pooled, renumbered, operandOf, recoded, numbered}
+use Rattle.clear.specs.Clear.{Buffers, buffers, Outcome, outcome, cleared, readyOf, clearCall, Held}
+use Rattle.clear.specs.declared.ClearAnswer.the-variants.{Is, No}
+use Rattle.clear.proofs.Moving.{Recoding, recoding-none, recoding-more, recoding-done}
+use Rattle.clear.proofs.Tested.{held-of, table-met}
+use Rattle.clear.proofs.Kept.{named-by, naming, onto, pooled-kept, pooled-length}
+use Rattle.clear.proofs.Loads.{recoded-length, recoded-count, recoded-op, recoded-mark, recoded-names, near-moves, operand-unmarked, operand-far, operand-near}
+
+-- ---- where every constant is named, nothing moves
+
+many-all : (f : ℕ → Bool) (n : ℕ) → ((j : ℕ) → j < n → f j ≡ true) → many f n ≡ n
+unfolding many
+many-all f zero h = refl
+many-all f (suc n) h = rw (many-all f n (λ j l. h j (omega arith)), h n (omega arith)) (omega arith)
+
+kept-all : (f : ℕ → Bool) (n : ℕ) (l : List ℕ) → ((j : ℕ) → j < n → f j ≡ true) → n ≤ length l → kept f n l ≡ take n l
+unfolding kept each
+kept-all f zero l h b = refl
+kept-all f (suc n) l h b = rw (h n (omega arith), kept-all f n l (λ j q. h j (omega arith)) (omega arith)) (sym (take-suc l n 0 b))
+
+pooled-all : (f : ℕ → Bool) (n : ℕ) (l : List ℕ) → ((j : ℕ) → j < n → f j ≡ true) → n ≤ length l → pooled f n l ≡ l
+unfolding pooled
+pooled-all f n l h b = rw (kept-all f n l h b, many-all f n h, sub-self n) (take-append-drop n l)
+
+module _ (number : ℕ → ℕ) (m : ℕ) (w : List ℕ) (long : length w ≡ stride * count w) (same : (k : ℕ) → k < count w → operandOf number m w k ≡ operandAt w k) where
+  still : (k : ℕ) → k ≤ count w → Recoding number m w w k
+  still zero h = recoding-none number m w
+  still (suc k) h =
+      let r = recoding-more (still k (omega arith)) (operandAt w k) (sym (same k h)) h long in
+      let z = rw (set-getD w (stride * k + 2) 0) at r in
+      rw (add-one k) at z
+
+  pub recoded-idle : recoded number m w ≡ w
+  recoded-idle = sym (recoding-done (still (count w) (le-refl (count w))) (le-refl (count w)) (le-refl (count w)) long)
+
+-- ---- after the call every constant is named
+
+module _ (w : List ℕ) (m : ℕ) where
+  pub all-named : (j : ℕ) → j < before w m → named (recoded (before w) m w) j ≡ true
+  all-named j h =
+      let p = onto (named w) m j h in
+      let x = naming w (p .place) (p .passes) in
+      let q : operandAt w (x .by) < m = rw (x .is) (p .below) in
+      named-by (recoded (before w) m w) j (x .by) (rw (recoded-count (before w) m w) (x .there)) (recoded-names (before w) m w (x .by) (x .there) ∙ x .mark)
+      (near-moves (before w) m w (x .by) (x .there) (x .mark) q ∙ ap (before w) (x .is) ∙ p .number)
+
+  abbrev after : List ℕ
+  after = recoded (before w) m w
+
+  same-operand : (k : ℕ) → operandOf (before after) (before w m) after k ≡ operandAt after k
+  same-operand k = go (names after k) refl (ltb (operandAt after k) (before w m)) refl
+    where
+      go : (n : Bool) → names after k ≡ n → (t : Bool) → ltb (operandAt after k) (before w m) ≡ t → operandOf (before after) (before w m) after k ≡ operandAt after k
+      go false n t e = operand-unmarked (before after) (before w m) after k n
+      go true n false e = operand-far (before after) (before w m) after k (ltb-false (operandAt after k) (before w m) e)
+      go true n true e =
+          let q = ltb-true (operandAt after k) (before w m) e in
+          operand-near (before after) (before w m) after k n q ∙ many-all (named after) (operandAt after k) (λ j l. all-named j (omega arith))
+
+  code-again : recoded (before after) (before w m) after ≡ after
+  code-again =
+      recoded-idle (before after) (before w m) after
+      (recoded-length (before w) m w ∙ ap (λ (x : ℕ). stride * x) (sym (recoded-count (before w) m w)))
+      (λ k h. same-operand k)
+
+  pool-again : (l : List ℕ) → m ≤ length l → pooled (named after) (before w m) (pooled (named w) m l) ≡ pooled (named w) m l
+  pool-again l h = pooled-all (named after) (before w m) (pooled (named w) m l) all-named (omega (arith, pooled-length (named w) m l h, many-few (named w) m))
+
+-- the same count, code, kinds and words
+pub record Again (b : Buffers) (r : ℕ) (o : Outcome) : Type 0 where
+  pub answer : o .answer ≡ Is r
+  pub code : o .after .code ≡ b .code
+  pub kinds : o .after .kinds ≡ b .kinds
+  pub words : o .after .words ≡ b .words
+
+cleared-again : (b : Buffers) (m : ℕ) → Held b m → Again (cleared b m .after) (before (b .code) m) (cleared (cleared b m .after) (before (b .code) m))
+unfolding cleared
+cleared-again b m h =
+    record {
+      answer = ap Is (many-all (named (after (b .code) m)) (before (b .code) m) (all-named (b .code) m));
+      code = code-again (b .code) m;
+      kinds = pool-again (b .code) m (b .kinds) (h .kinds);
+      words = pool-again (b .code) m (b .words) (h .words);
+    }
+
+-- ---- and it is not refused
+
+first-ext : (f g : ℕ → Bool) (n k : ℕ) → ((i : ℕ) → i < k + n → f i ≡ g i) → first f k n ≡ first g k n
+unfolding first
+first-ext f g zero k h = refl
+first-ext f g (suc n) k h = rw (h k (omega arith), first-ext f g n (suc k) (λ i l. h i (omega arith)))
+
+every-at : (f : ℕ → Bool) (n k : ℕ) → every f n ≡ true → k < n → f k ≡ true
+unfolding every
+every-at f zero k e h = absurd (omega arith)
+every-at f (suc n) k e h =
+    let p = and-true (every f n) (f n) e in
+    ⊎-elim (λ q. rw q (p .1)) (λ q. every-at f n k (p .0) q) (eq-or-lt-of-le (below k n h))
+  where
+    below : (k n : ℕ) → k < suc n → k ≤ n
+    below k n h = omega arith
+
+every-of : (f : ℕ → Bool) (n : ℕ) → ((k : ℕ) → k < n → f k ≡ true) → every f n ≡ true
+unfolding every
+every-of f zero h = refl
+every-of f (suc n) h = rw (every-of f n (λ k l. h k (omega arith)), h n (omega arith))
+
+module _ (number : ℕ → ℕ) (m : ℕ) (w : List ℕ) (long : length w ≡ stride * count w) where
+  breaks-same : (k : ℕ) → k < count w → breaksAt (recoded number m w) k ≡ breaksAt w k
+  breaks-same k h = rw (recoded-op number m w k h, recoded-mark number m w k h)
+
+  first-same : firstBad (recoded number m w) ≡ firstBad w
+  first-same =
+      ap (first (breaksAt (recoded number m w)) 0) (recoded-count number m w)
+      ∙ first-ext (breaksAt (recoded number m w)) (breaksAt w) (count w) 0 (λ i h. breaks-same i (omega arith))
+
+  pub check-same : checkOf (recoded number m w) ≡ checkOf w
+  unfolding checkOf
+  check-same = let e : length (recoded number m w) ≡ length w = recoded-length number m w ∙ sym long in rw (first-same, e)
+
+module _ (w kinds words : List ℕ) (m : ℕ) (hk : m ≤ length kinds) (hw : m ≤ length words) (few : m ≤ 65536) where
+  entry-kept : every (constantKept kinds words) m ≡ true → (j : ℕ) → j < before w m → constantKept (pooled (named w) m kinds) (pooled (named w) m words) j ≡ true
+  entry-kept e j h =
+      let p = onto (named w) m j h in
+      let k : getD (pooled (named w) m kinds) j 0 ≡ getD kinds (p .place) 0 = ap (λ (x : ℕ). getD (pooled (named w) m kinds) x 0) (sym (p .number)) ∙ pooled-kept (named w) m kinds (p .place) (p .below) (p .passes) in
+      let v : getD (pooled (named w) m words) j 0 ≡ getD words (p .place) 0 = ap (λ (x : ℕ). getD (pooled (named w) m words) x 0) (sym (p .number)) ∙ pooled-kept (named w) m words (p .place) (p .below) (p .passes) in
+      rw (k, v) (every-at (constantKept kinds words) m (p .place) e (p .below))
+
+  constants-same : every (constantKept kinds words) m ≡ true → constantsKept (pooled (named w) m kinds) (pooled (named w) m words) (before w m) ≡ true
+  constants-same e =
+      let f = many-few (named w) m in
+      let a : before w m ≤ 65536 = omega arith in
+      let b : before w m ≤ length (pooled (named w) m kinds) = omega (arith, pooled-length (named w) m kinds hk) in
+      let c : before w m ≤ length (pooled (named w) m words) = omega (arith, pooled-length (named w) m words hw) in
+      rw (
+        le-leb (before w m) 65536 a,
+        le-leb (before w m) (length (pooled (named w) m kinds)) b,
+        le-leb (before w m) (length (pooled (named w) m words)) c,
+        every-of (constantKept (pooled (named w) m kinds) (pooled (named w) m words)) (before w m) (entry-kept e),
+      )
+
+numbered-length : (number : ℕ → ℕ) (m : ℕ) (l : List ℕ) → m ≤ length l → length (numbered number m l) ≡ length l
+unfolding numbered
+numbered-length number m l h = length-append (each (λ i. number i ∷ []) m) (drop m l) ∙ omega (arith, each-word number m, length-drop m l)
+
+module _ (b : Buffers) (m n : ℕ) (ready : readyOf b m ≡ Count n) where
+  held : Held b m
+  held = held-of b m (Count n) (sym ready) n refl
+
+  ready-again : readyOf (cleared b m .after) (before (b .code) m) ≡ Count n
+  unfolding readyOf cleared
+  ready-again =
+      let v = tableOf (checkOf (b .code)) 1 (constantsKept (b .kinds) (b .words) m) in
+      let t = table-met n (checkOf (b .code)) 1 (constantsKept (b .kinds) (b .words) m) (sym (room-before n v 1 (length (b .scratch)) m (sym ready))) in
+      let e = and-true (within m (length (b .kinds)) (length (b .words))) (every (constantKept (b .kinds) (b .words)) m) (t .1) .1 in
+      let s : before (b .code) m ≤ length (numbered (before (b .code)) m (b .scratch)) = omega (arith, numbered-length (before (b .code)) m (b .scratch) (held .scratch), many-few (named (b .code)) m, held .scratch) in
+      rw (
+        check-same (before (b .code)) m (b .code) (held .whole),
+        t .0,
+        constants-same (b .code) (b .kinds) (b .words) m (held .kinds) (held .words) (held .few) e,
+        le-ltb (length (numbered (before (b .code)) m (b .scratch))) (before (b .code) m) s,
+      )
+
+  call-again : Again (cleared b m .after) (before (b .code) m) (clearCall (cleared b m .after) (before (b .code) m))
+  unfolding clearCall
+  call-again = rw ready-again (cleared-again b m held)
+
+  answered : clearCall b m ≡ outcome (Is (before (b .code) m)) (cleared b m .after)
+  unfolding clearCall cleared
+  answered = rw ready
+
+refused-call : (b : Buffers) (m : ℕ) (q : Refusal) → readyOf b m ≡ Refused q → clearCall b m ≡ outcome (No q) b
+unfolding clearCall
+refused-call b m q e = rw e
+
+-- an answer asked for again is the same answer
+pub clear-twice : (b : Buffers) (m r : ℕ) (a : Buffers) → clearCall b m ≡ outcome (Is r) a → Again a r (clearCall a r)
+clear-twice b m r a e = go (readyOf b m) refl
+  where
+    go : (v : Checked) → readyOf b m ≡ v → Again a r (clearCall a r)
+    go (Refused q) f =
+        let y : No q ≡ Is r = ap (λ (x : Outcome). x .answer) (sym (refused-call b m q f) ∙ e) in
+        absurd (let z : _≡_ {A = ℕ} 0 1 = cc in omega arith)
+    go (Count n) f =
+        let h : outcome (Is (before (b .code) m)) (cleared b m .after) ≡ outcome (Is r) a = sym (answered b m n f) ∙ e in
+        let y : Is (before (b .code) m) ≡ Is r = ap (λ (x : Outcome). x .answer) h in
+        let i : before (b .code) m ≡ r = cc in
+        let j : cleared b m .after ≡ a = ap (λ (x : Outcome). x .after) h in
+        rw (← i, ← j) (call-again b m n f)

@@ -20,7 +20,8 @@ use Rattle.kept.proofs.Alone.{outcome-one}
 use Rattle.lent.specs.declared.Counts.{Counts}
 use Rattle.optimizer.specs.Fold.{Buffers, Outcome}
 use Rattle.optimizer.specs.declared.FoldAnswer.{FoldAnswer}
-use Rattle.turniploom.specs.Answers.{By, filledTold, truthTold, keptTold, foldTold, TargetsTold, LoopsTold, DeadTold, GenTold, KeptTold, FoldTold}
+use Rattle.clear.specs.Clear as clearing
+use Rattle.turniploom.specs.Answers.{By, filledTold, truthTold, keptTold, foldTold, TargetsTold, LoopsTold, DeadTold, GenTold, KeptTold, FoldTold, clearTold, ClearTold}
 
 -- equal cases are told alike
 by-one : {A : Type 0} (f : A → Answer) {P Q : A → Type 0} {r r′ : Answer} (x : By f P r) (y : By f Q r′) → x .told ≡ y .told → r ≡ r′
@@ -58,3 +59,8 @@ pub one-fold : (strict : Bool) (b : Buffers) (c : Counts) (r r′ : Answer) (a a
 one-fold strict b c r r′ a a′ x y =
     let e = x .allowed ∙ sym (y .allowed) in
     (by-one foldTold x y (ap (λ (o : Outcome FoldAnswer). o .answer) e), ap (λ (o : Outcome FoldAnswer). o .after) e)
+
+pub one-clear : (b : clearing.Buffers) (m : ℕ) (r r′ : Answer) (a a′ : clearing.Buffers) → ClearTold b m r a → ClearTold b m r′ a′ → (r ≡ r′) × (a ≡ a′)
+one-clear b m r r′ a a′ x y =
+    let e = x .allowed ∙ sym (y .allowed) in
+    (by-one clearTold x y (ap (λ (o : clearing.Outcome). o .answer) e), ap (λ (o : clearing.Outcome). o .after) e)

@@ -1,3 +1,4 @@
+pub mod Again
 pub mod Anew
 pub mod Idle
 pub mod Examples

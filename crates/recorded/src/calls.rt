@@ -227,6 +227,198 @@ fn kept(code: &[u16], nums: &[u64], p: usize) -> bool {
     )
 }
 
+// fold: where the lists of a chunk stand after its kinds, and the last number.
+struct Lists {
+    words: usize,
+    map: usize,
+    sources: usize,
+    stmts: usize,
+    calls: usize,
+    dead: usize,
+    remap: usize,
+    strict: usize,
+}
+
+// The number after the list at a position.
+fn count_at(nums: &[u64], at: usize) -> usize {
+    super::number_at(nums, super::span_at(nums, at).to) as usize
+}
+
+// The position past the list at a position and the number after it.
+fn past(nums: &[u64], at: usize) -> usize {
+    super::on(nums, super::span_at(nums, at).to, 1)
+}
+
+fn lists_at(nums: &[u64], p: usize) -> Lists {
+    let words = super::span_at(nums, p).to;
+    let map = past(nums, words);
+    let sources = past(nums, map);
+    let stmts = past(nums, sources);
+    let calls = past(nums, stmts);
+    let dead = past(nums, calls);
+    let remap = super::span_at(nums, dead).to;
+    let strict = super::span_at(nums, remap).to;
+    Lists {
+        words,
+        map,
+        sources,
+        stmts,
+        calls,
+        dead,
+        remap,
+        strict,
+    }
+}
+
+fn is_at(n: Next) -> bool {
+    let Next::At(_) = n else {
+        return false;
+    };
+    true
+}
+
+// Each list of a chunk is put into its buffer.
+fn pool_given(nums: &[u64], p: usize, w: usize, kinds: &mut [u8], words: &mut [u64]) -> bool {
+    is_at(super::given8(nums, p, kinds)) & is_at(super::given64(nums, w, words))
+}
+
+fn phis_given(nums: &[u64], m: usize, s: usize, map: &mut [u32], sources: &mut [u16]) -> bool {
+    is_at(super::given32(nums, m, map)) & is_at(super::given16(nums, s, sources))
+}
+
+fn places_given(nums: &[u64], s: usize, c: usize, stmts: &mut [u32], calls: &mut [u32]) -> bool {
+    is_at(super::given32(nums, s, stmts)) & is_at(super::given32(nums, c, calls))
+}
+
+fn marks_given(nums: &[u64], d: usize, r: usize, dead: &mut [u8], remap: &mut [u32]) -> bool {
+    is_at(super::given8(nums, d, dead)) & is_at(super::given32(nums, r, remap))
+}
+
+// The answer and the nine buffers stand at e.
+fn told_chunk(
+    nums: &[u64],
+    e: usize,
+    a: Answer,
+    code: &[u16],
+    kinds: &[u8],
+    words: &[u64],
+    map: &[u32],
+    sources: &[u16],
+    stmts: &[u32],
+    calls: &[u32],
+    dead: &[u8],
+    remap: &[u32],
+) -> bool {
+    let Next::At(c) = told(nums, e, a) else {
+        return false;
+    };
+    let k = super::span_at(nums, c).to;
+    let w = super::span_at(nums, k).to;
+    let m = super::span_at(nums, w).to;
+    let s = super::span_at(nums, m).to;
+    let t = super::span_at(nums, s).to;
+    let b = super::span_at(nums, t).to;
+    let d = super::span_at(nums, b).to;
+    let r = super::span_at(nums, d).to;
+    let pool = is_at(super::kept16(nums, c, code))
+        & is_at(super::kept8(nums, k, kinds))
+        & is_at(super::kept64(nums, w, words));
+    let phis = is_at(super::kept32(nums, m, map)) & is_at(super::kept16(nums, s, sources));
+    let places = is_at(super::kept32(nums, t, stmts)) & is_at(super::kept32(nums, b, calls));
+    let marks = is_at(super::kept8(nums, d, dead)) & ends(nums, super::kept32(nums, r, remap));
+    pool & phis & places & marks
+}
+
+fn fold_on(
+    code: &mut [u16],
+    nums: &[u64],
+    p: usize,
+    l: Lists,
+    kinds: &mut [u8],
+    words: &mut [u64],
+    map: &mut [u32],
+    sources: &mut [u16],
+    stmts: &mut [u32],
+    calls: &mut [u32],
+    dead: &mut [u8],
+    remap: &mut [u32],
+) -> bool {
+    let pool = pool_given(nums, p, l.words, kinds, words);
+    let phis = phis_given(nums, l.map, l.sources, map, sources);
+    let places = places_given(nums, l.stmts, l.calls, stmts, calls);
+    let marks = marks_given(nums, l.dead, l.remap, dead, remap);
+    let a = turniploom::turniploom_fold(
+        code,
+        kinds,
+        words,
+        count_at(nums, l.words),
+        map,
+        count_at(nums, l.map),
+        sources,
+        count_at(nums, l.sources),
+        stmts,
+        count_at(nums, l.stmts),
+        calls,
+        count_at(nums, l.calls),
+        dead,
+        remap,
+        super::number_at(nums, l.strict) != 0,
+    );
+    let e = super::on(nums, l.strict, 1);
+    pool
+        & phis
+        & places
+        & marks
+        & told_chunk(
+            nums,
+            e,
+            a,
+            code,
+            kinds,
+            words,
+            map,
+            sources,
+            stmts,
+            calls,
+            dead,
+            remap,
+        )
+}
+
+fn fold(code: &mut [u16], nums: &[u64], p: usize) -> bool {
+    let l = lists_at(nums, p);
+    let k = room(nums, p);
+    let w = room(nums, l.words);
+    let m = room(nums, l.map);
+    let s = room(nums, l.sources);
+    let t = room(nums, l.stmts);
+    let c = room(nums, l.calls);
+    let d = room(nums, l.dead);
+    let r = room(nums, l.remap);
+    let mut kinds = no_bytes();
+    let mut words = no_rows();
+    let mut map = no_words();
+    let mut sources = no_code();
+    let mut stmts = no_words();
+    let mut calls = no_words();
+    let mut dead = no_bytes();
+    let mut remap = no_words();
+    fold_on(
+        code,
+        nums,
+        p,
+        l,
+        &mut kinds[..k],
+        &mut words[..w],
+        &mut map[..m],
+        &mut sources[..s],
+        &mut stmts[..t],
+        &mut calls[..c],
+        &mut dead[..d],
+        &mut remap[..r],
+    )
+}
+
 // Room for a list of each width. None is longer than 64.
 fn no_bytes() -> [u8; 64]
     ensures { λ r. ⌜ 64 ≡ length r ⌝ }
@@ -280,8 +472,11 @@ fn agrees_with(nums: &[u64], code: &mut [u16]) -> bool {
     let Next::At(p) = super::given16(nums, 1, code) else {
         return false;
     };
-    if (call < 1) | (18 < call) {
+    if (call < 1) | (19 < call) {
         return false;
+    }
+    if call == 19 {
+        return fold(code, nums, p);
     }
     agrees_on(call, code, nums, p)
 }
@@ -294,8 +489,8 @@ pub fn agrees(nums: &[u64]) -> bool {
 }
 
 // Counts a record that agrees for its call, or keeps the line of the first that does not.
-fn tally(nums: &[u64], line: u64, agree: &mut [u64; 20], other: &mut [u64; 20]) {
-    let k = super::least(super::number_at(nums, 0) as usize, 19);
+fn tally(nums: &[u64], line: u64, agree: &mut [u64; 21], other: &mut [u64; 21]) {
+    let k = super::least(super::number_at(nums, 0) as usize, 20);
     if agrees(nums) {
         agree[k] = std::num::wrapping_add_u64(agree[k], 1);
         return;
@@ -306,7 +501,7 @@ fn tally(nums: &[u64], line: u64, agree: &mut [u64; 20], other: &mut [u64; 20]) 
 }
 
 // Asks each record of the text anew, with room for the numbers of one.
-pub fn replay(text: &[u8], nums: &mut [u64], agree: &mut [u64; 20], other: &mut [u64; 20]) {
+pub fn replay(text: &[u8], nums: &mut [u64], agree: &mut [u64; 21], other: &mut [u64; 21]) {
     let mut at = 0;
     let mut line: u64 = 0;
     while at < text.len() {

@@ -22,6 +22,7 @@ fn name(call: usize) {
         16 => io::write_all(1, b"pushed_back "),
         17 => io::write_all(1, b"stack_callee "),
         18 => io::write_all(1, b"kept "),
+        19 => io::write_all(1, b"fold "),
         _ => io::write_all(1, b"other "),
     }
     ;
@@ -42,9 +43,9 @@ fn row(call: usize, agree: u64, other: u64) {
     io::write_all(1, b"\n");
 }
 
-fn rows(agree: &[u64; 20], other: &[u64; 20]) {
+fn rows(agree: &[u64; 21], other: &[u64; 21]) {
     let mut k = 0;
-    while k < 20 {
+    while k < 21 {
         row(k, agree[k], other[k]);
         k += 1;
     }
@@ -60,8 +61,8 @@ fn main() {
     let mut text = space();
     let n = io::read_full(0, &mut text);
     let mut nums = [0u64; 512];
-    let mut agree = [0u64; 20];
-    let mut other = [0u64; 20];
+    let mut agree = [0u64; 21];
+    let mut other = [0u64; 21];
     recorded::replay(&text[..n], &mut nums, &mut agree, &mut other);
     rows(&agree, &other);
 }

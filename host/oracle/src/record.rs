@@ -6,6 +6,8 @@ use std::{fmt::Write as _, fs, io};
 /// The size that a file stays below, and the instructions of a code.
 const BYTES: usize = 100_000;
 const INSTRUCTIONS: usize = 8;
+/// The numbers that a record may have.
+const NUMBERS: usize = 500;
 
 /// What a record shows.
 #[derive(Clone, Copy, PartialEq, Eq)]
@@ -58,5 +60,5 @@ fn record(q: &Question) -> Option<(String, Shows)> {
     let mut line = (q.call as u64).to_string();
     let numbers = q.args.iter().flat_map(Arg::numbers).chain(reply.values()).chain(reply.lent.buffers.iter().flat_map(Arg::numbers));
     for v in numbers { write!(line, " {v}").unwrap() }
-    Some((line + "\n", shows))
+    (line.split(' ').count() <= NUMBERS).then_some((line + "\n", shows))
 }

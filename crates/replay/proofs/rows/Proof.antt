@@ -5,10 +5,10 @@ use Rattle.replay.proofs.rows.Statement.{statement}
 use Rattle.replay.proofs.rows.Tie as tie
 
 abbrev Inv-loop : tie.InvT-loop
-Inv-loop agree other k₀ k = k ≤ 20
+Inv-loop agree other k₀ k = k ≤ 21
 
 abbrev μ-loop : tie.MeasureT-loop
-μ-loop agree other k₀ k = 20 - k
+μ-loop agree other k₀ k = 21 - k
 
 loop-holds : tie.Need-loop-holds Inv-loop μ-loop
 loop-holds c = search needs

@@ -6,4 +6,8 @@ pub mod Kept
 pub mod Loads
 pub mod Twice
 pub mod Room
+pub mod Alike
+pub mod Pools
+pub mod Attempts
+pub mod Refold
 pub mod Examples

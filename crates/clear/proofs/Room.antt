@@ -1,13 +1,12 @@
 -- Freed room serves the next fold: where folding had its buffers before, it has them after. Assumes nothing.
-use Prim.Native.Nat.{ℕ, _+_, _*_, _/_, _≤_, _<_, min, max}
+use Prim.Native.Nat.{ℕ, _≤_}
 use native.Mathlib.Omega.{arith}
-use mathlib.Core.Path.{_≡_, refl, sym, ap, _∙_}
-use mathlib.Core.Bool.{Bool}
+use mathlib.Core.Path.{_≡_, ap, _∙_}
 use mathlib.Core.List.{List}
 use lib.ListN.{length}
 use Rattle.laws.specs.All.{many}
 use Rattle.laws.proofs.Many.{many-few}
-use Rattle.lent.specs.Chunk.{stride, count, opAt, folds}
+use Rattle.lent.specs.Chunk.{count, opAt, folds}
 use Rattle.lent.specs.Check.{constantRoom}
 use Rattle.fold.specs.Plan.{Chunk, chunk}
 use Rattle.fold.specs.Pass.{Lent}

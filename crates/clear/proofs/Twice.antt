@@ -1,14 +1,14 @@
 -- Running the clearing call twice changes nothing more. Assumes nothing.
-use Prim.Native.Nat.{ℕ, zero, suc, _+_, _-_, _*_, _/_, _≤_, _<_}
+use Prim.Native.Nat.{ℕ, zero, suc, _+_, _*_, _≤_, _<_}
 use native.Mathlib.Nat.{sub-self, le-refl, eq-or-lt-of-le}
 use native.Mathlib.Numerals.{add-one}
 use native.Mathlib.Omega.{arith}
 use mathlib.Core.Path.{_≡_, refl, sym, ap, _∙_}
 use mathlib.Core.Logic.{⊎-elim}
-use mathlib.Core.Bool.{Bool, true, false, cond, not, _&&_, _||_}
-use mathlib.Core.List.{List, [], _∷_, _++_}
-use lib.Dec.{eqb, ltb, leb}
-use lib.ListN.{length, getD, take, drop, replicate, length-append, length-drop, take-append-drop}
+use mathlib.Core.Bool.{Bool, true, false, not}
+use mathlib.Core.List.{List, [], _∷_}
+use lib.Dec.{ltb}
+use lib.ListN.{length, getD, take, drop, length-append, length-drop, take-append-drop}
 use lib.Seq.{set-getD, take-suc}
 use borrow.Author.Tests.{ltb-true, ltb-false, le-leb, le-ltb}
 use Rattle.laws.specs.All.{every, many}
@@ -18,16 +18,15 @@ use Rattle.laws.proofs.Branch.{and-true}
 use Rattle.laws.proofs.Each.{each-word}
 use Rattle.laws.proofs.Many.{many-few}
 use Rattle.code.specs.Answers.{asked}
-use Rattle.code.specs.Check.{roomOf}
 use Rattle.code.specs.declared.Refusal.{Refusal}
 use Rattle.code.specs.declared.Checked.{Checked}
 use Rattle.code.specs.declared.Checked.the-variants.{Count, No as Refused}
 use Rattle.code.proofs.Stages.{room-before}
-use Rattle.lent.specs.Chunk.{stride, count, opAt, markAt, operandAt, names, rules, breaksAt}
+use Rattle.lent.specs.Chunk.{stride, count, operandAt, names, breaksAt}
 use Rattle.lent.specs.Tables.{constantKept, within, constantsKept, tableOf}
-use Rattle.lent.specs.Check.{uneven, firstBad, checkOf}
-use Rattle.clear.specs.Unused.{named, before, keptAt, kept, pooled, renumbered, operandOf, recoded, numbered}
-use Rattle.clear.specs.Clear.{Buffers, buffers, Outcome, outcome, cleared, readyOf, clearCall, Held}
+use Rattle.lent.specs.Check.{firstBad, checkOf}
+use Rattle.clear.specs.Unused.{named, before, kept, pooled, operandOf, recoded, numbered}
+use Rattle.clear.specs.Clear.{Buffers, Outcome, outcome, cleared, readyOf, clearCall, Held}
 use Rattle.clear.specs.declared.ClearAnswer.the-variants.{Is, No}
 use Rattle.clear.proofs.Moving.{Recoding, recoding-none, recoding-more, recoding-done}
 use Rattle.clear.proofs.Tested.{held-of, table-met}

@@ -10,4 +10,5 @@ pub mod Alike
 pub mod Pools
 pub mod Attempts
 pub mod Refold
+pub mod Accepts
 pub mod Examples

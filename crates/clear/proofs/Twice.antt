@@ -153,7 +153,7 @@ module _ (w kinds words : List ℕ) (m : ℕ) (hk : m ≤ length kinds) (hw : m 
       let v : getD (pooled (named w) m words) j 0 ≡ getD words (p .place) 0 = ap (λ (x : ℕ). getD (pooled (named w) m words) x 0) (sym (p .number)) ∙ pooled-kept (named w) m words (p .place) (p .below) (p .passes) in
       rw (k, v) (every-at (constantKept kinds words) m (p .place) e (p .below))
 
-  constants-same : every (constantKept kinds words) m ≡ true → constantsKept (pooled (named w) m kinds) (pooled (named w) m words) (before w m) ≡ true
+  pub constants-same : every (constantKept kinds words) m ≡ true → constantsKept (pooled (named w) m kinds) (pooled (named w) m words) (before w m) ≡ true
   constants-same e =
       let f = many-few (named w) m in
       let a : before w m ≤ 65536 = omega arith in

@@ -2,6 +2,7 @@ pub mod Marking
 pub mod Moving
 pub mod Whole
 pub mod Tested
+pub mod Answers
 pub mod Kept
 pub mod Loads
 pub mod Twice

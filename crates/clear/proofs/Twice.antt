@@ -18,7 +18,6 @@ use Rattle.laws.proofs.Branch.{and-true}
 use Rattle.laws.proofs.Each.{each-word}
 use Rattle.laws.proofs.Many.{many-few}
 use Rattle.code.specs.Answers.{asked}
-use Rattle.code.specs.declared.Refusal.{Refusal}
 use Rattle.code.specs.declared.Checked.{Checked}
 use Rattle.code.specs.declared.Checked.the-variants.{Count, No as Refused}
 use Rattle.code.proofs.Stages.{room-before}
@@ -28,6 +27,7 @@ use Rattle.lent.specs.Check.{firstBad, checkOf}
 use Rattle.clear.specs.Unused.{named, before, kept, pooled, operandOf, recoded, numbered}
 use Rattle.clear.specs.Clear.{Buffers, Outcome, outcome, cleared, readyOf, clearCall, Held}
 use Rattle.clear.specs.declared.ClearAnswer.the-variants.{Is, No}
+use Rattle.clear.proofs.Answers.{refused-call, answered-call}
 use Rattle.clear.proofs.Moving.{Recoding, recoding-none, recoding-more, recoding-done}
 use Rattle.clear.proofs.Tested.{held-of, table-met}
 use Rattle.clear.proofs.Kept.{named-by, naming, onto, pooled-kept, pooled-length}
@@ -192,14 +192,6 @@ module _ (b : Buffers) (m n : ℕ) (ready : readyOf b m ≡ Count n) where
   unfolding clearCall
   call-again = rw ready-again (cleared-again b m held)
 
-  answered : clearCall b m ≡ outcome (Is (before (b .code) m)) (cleared b m .after)
-  unfolding clearCall cleared
-  answered = rw ready
-
-refused-call : (b : Buffers) (m : ℕ) (q : Refusal) → readyOf b m ≡ Refused q → clearCall b m ≡ outcome (No q) b
-unfolding clearCall
-refused-call b m q e = rw e
-
 -- an answer asked for again is the same answer
 pub clear-twice : (b : Buffers) (m r : ℕ) (a : Buffers) → clearCall b m ≡ outcome (Is r) a → Again a r (clearCall a r)
 clear-twice b m r a e = go (readyOf b m) refl
@@ -209,7 +201,7 @@ clear-twice b m r a e = go (readyOf b m) refl
         let y : No q ≡ Is r = ap (λ (x : Outcome). x .answer) (sym (refused-call b m q f) ∙ e) in
         absurd (let z : _≡_ {A = ℕ} 0 1 = cc in omega arith)
     go (Count n) f =
-        let h : outcome (Is (before (b .code) m)) (cleared b m .after) ≡ outcome (Is r) a = sym (answered b m n f) ∙ e in
+        let h : outcome (Is (before (b .code) m)) (cleared b m .after) ≡ outcome (Is r) a = sym (answered-call b m n f) ∙ e in
         let y : Is (before (b .code) m) ≡ Is r = ap (λ (x : Outcome). x .answer) h in
         let i : before (b .code) m ≡ r = cc in
         let j : cleared b m .after ≡ a = ap (λ (x : Outcome). x .after) h in

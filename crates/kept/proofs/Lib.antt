@@ -10,4 +10,3 @@ pub mod Calls
 pub mod Parts
 pub mod Demand
 pub mod Alone
-pub mod Examples

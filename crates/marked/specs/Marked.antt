@@ -1,10 +1,8 @@
 -- Document 01's marked examples: P1 to P13 as one table, over the definitions that the contracts cite. Assumes nothing.
-use Prim.Native.Nat.{ℕ, suc, _+_, _-_}
+use Prim.Native.Nat.{ℕ, suc, _+_, _-_, _^_}
 use mathlib.Core.Path.{_≡_}
 use mathlib.Core.Bool.{Bool, true, false}
 use mathlib.Core.List.{List, [], _∷_, _++_}
-use lib.IntN.{ℤ, pos, negℤ}
-use lib.Ieee.{binary64, ofBits}
 use lib.ListN.{length, replicate}
 use Rattle.code.specs.Op as op
 use Rattle.code.specs.Ins.{count}
@@ -13,10 +11,6 @@ use Rattle.kept.specs.Answers as call
 use Rattle.kept.specs.declared.KeptAnswer.the-variants as kept
 use Rattle.callee.specs.Answers.{globalAnswer}
 use Rattle.callee.specs.declared.GlobalAnswer.the-variants as callee
-use Rattle.values.specs.Folds.{foldBinop, foldNeg}
-use Rattle.values.specs.declared.Val.the-variants.{Int, Float as Real}
-use Rattle.values.specs.declared.Maybe.the-variants.{Is, Nothing}
-use Rattle.values.specs.declared.Op.the-variants.{FloorDiv, Mod, Shl, Div}
 use Rattle.lent.specs.Chunk as chunk
 use Rattle.optimizer.specs.Fold.{buffers, Outcome, outcome, foldCall}
 use Rattle.optimizer.specs.declared.FoldAnswer.{FoldAnswer}
@@ -57,19 +51,13 @@ Keeps regs w tries rows k list full abandoned =
 abbrev pub RefusesTry : ℕ → List ℕ → List ℕ → Type 0
 RefusesTry regs w tries = (rows offsets list : List ℕ) → call.Outcome w regs tries false rows offsets list rows offsets list (kept.No (Try 0))
 
--- the number −n
-abbrev pub minus : ℕ → ℤ
-minus n = negℤ (pos n)
-
--- an instruction of a chunk without a mark
-abbrev pub plain : ℕ → ℕ → List ℕ
-plain o x = o ∷ 0 ∷ x ∷ []
-
--- a LoadConst, which names a constant
+-- an instruction of a chunk: a LoadConst, which names a constant, an operator without a mark, and a jump
 abbrev pub load : ℕ → List ℕ
 load x = op.LoadConst ∷ 2 ∷ x ∷ []
 
--- a jump
+abbrev pub operator : ℕ → List ℕ
+operator o = o ∷ 0 ∷ 0 ∷ []
+
 abbrev pub jump : ℕ → List ℕ
 jump x = op.Jump ∷ 1 ∷ x ∷ []
 
@@ -84,9 +72,46 @@ abbrev pub leaves : ℕ → ℕ → (code kinds words map dead remap : List ℕ)
 leaves instructions constants code kinds words map dead remap =
     outcome (fold.Is (record { instructions = instructions; constants = constants; map = 0; sources = 0 })) (buffers code kinds words map [] [] [] dead remap)
 
+-- a constant: its kind and its word
+abbrev pub Constant : Type 0
+Constant = ℕ × ℕ
+
+-- an int from 0 up, the int −n, and a float by its bits
+abbrev pub int : ℕ → Constant
+int n = (1, n)
+
+abbrev pub minus : ℕ → Constant
+minus n = (1, 2 ^ 64 - n)
+
+abbrev pub float : ℕ → Constant
+float bits = (2, bits)
+
+-- two constants and an operator over them, in a chunk with room for a third
+abbrev pub binary : ℕ → List ℕ
+binary o = load 0 ++ load 1 ++ operator o
+
+abbrev pub folding : ℕ → Constant → Constant → Outcome FoldAnswer
+folding o a b = called false (binary o) (a .0 ∷ b .0 ∷ 9 ∷ []) (a .1 ∷ b .1 ∷ 9 ∷ []) 2
+
+-- it becomes one LoadConst of a third constant
+abbrev pub Becomes : ℕ → Constant → Constant → Constant → Type 0
+Becomes o a b r = folding o a b ≡ leaves 1 3 (load 2 ++ replicate 6 0) (a .0 ∷ b .0 ∷ r .0 ∷ []) (a .1 ∷ b .1 ∷ r .1 ∷ []) (replicate 3 0) (0 ∷ 1 ∷ 1 ∷ []) (0 ∷ 1 ∷ 1 ∷ 1 ∷ [])
+
+-- it becomes one LoadConst of its first operand, which the result equals
+abbrev pub BecomesFirst : ℕ → Constant → Constant → Type 0
+BecomesFirst o a b = folding o a b ≡ leaves 1 2 (load 0 ++ replicate 6 0) (a .0 ∷ b .0 ∷ 9 ∷ []) (a .1 ∷ b .1 ∷ 9 ∷ []) (replicate 3 0) (0 ∷ 1 ∷ 1 ∷ []) (0 ∷ 1 ∷ 1 ∷ 1 ∷ [])
+
+-- it stays: all as lent, and no mark of death
+abbrev pub Stays : ℕ → Constant → Constant → Type 0
+Stays o a b = folding o a b ≡ leaves 3 2 (binary o) (a .0 ∷ b .0 ∷ 9 ∷ []) (a .1 ∷ b .1 ∷ 9 ∷ []) (room 3) (replicate 3 0) (room 4)
+
+-- Minus over one constant, in a chunk with room for a second
+abbrev pub negation : List ℕ
+negation = load 0 ++ operator op.Minus
+
 -- the code of P13
 abbrev pub code13 : List ℕ
-code13 = load 0 ++ load 1 ++ plain op.Add 0 ++ jump 2
+code13 = load 0 ++ load 1 ++ operator op.Add ++ jump 2
 
 pub record Marked : Type 0 where
   -- rows of K: 0, 0, 3, 1, 5, 8, 0; kept at 2: [0]; callee binding 9; one sweep
@@ -102,20 +127,18 @@ pub record Marked : Type 0 where
   -- kept at 1 is [5]
   pub p6 : Keeps 6 code6 [] (0 ∷ 32 ∷ 32 ∷ 32 ∷ 32 ∷ 0 ∷ []) 1 (5 ∷ []) 1 0
   -- −7 FloorDiv 2 is −4, Mod 1; 7 Mod −2 is −1
-  pub p7 : (foldBinop FloorDiv (Int (minus 7)) (Int (pos 2)) ≡ Is (Int (minus 4)))
-      × (foldBinop Mod (Int (minus 7)) (Int (pos 2)) ≡ Is (Int (pos 1)))
-      × (foldBinop Mod (Int (pos 7)) (Int (minus 2)) ≡ Is (Int (minus 1)))
+  pub p7 : Becomes op.FloorDiv (minus 7) (int 2) (minus 4) × Becomes op.Mod (minus 7) (int 2) (int 1) × Becomes op.Mod (int 7) (minus 2) (minus 1)
   -- −1 Shl 47 folds, 1 Shl 47 doesn't
-  pub p8 : (foldBinop Shl (Int (minus 1)) (Int (pos 47)) ≡ Is (Int (minus 140_737_488_355_328))) × (foldBinop Shl (Int (pos 1)) (Int (pos 47)) ≡ Nothing)
+  pub p8 : Becomes op.Shl (minus 1) (int 47) (minus 140_737_488_355_328) × Stays op.Shl (int 1) (int 47)
   -- 0 Shl 62 folds, 63 doesn't
-  pub p9 : (foldBinop Shl (Int (pos 0)) (Int (pos 62)) ≡ Is (Int (pos 0))) × (foldBinop Shl (Int (pos 0)) (Int (pos 63)) ≡ Nothing)
+  pub p9 : BecomesFirst op.Shl (int 0) (int 62) × Stays op.Shl (int 0) (int 63)
   -- Minus on the least int doesn't
-  pub p10 : foldNeg (Int (minus 140_737_488_355_328)) ≡ Nothing
+  pub p10 : called false negation (1 ∷ 9 ∷ []) (minus 140_737_488_355_328 .1 ∷ 9 ∷ []) 1
+      ≡ leaves 2 1 negation (1 ∷ 9 ∷ []) (minus 140_737_488_355_328 .1 ∷ 9 ∷ []) (room 2) (replicate 2 0) (room 3)
   -- 7 Div 2 stays; 7 Div 2.0 is 3.5
-  pub p11 : (foldBinop Div (Int (pos 7)) (Int (pos 2)) ≡ Nothing)
-      × (foldBinop Div (Int (pos 7)) (Real (ofBits binary64 0x4000_0000_0000_0000)) ≡ Is (Real (ofBits binary64 0x400c_0000_0000_0000)))
+  pub p11 : Stays op.Div (int 7) (int 2) × Becomes op.Div (int 7) (float 0x4000_0000_0000_0000) (float 0x400c_0000_0000_0000)
   -- Minus on 0.0 pushes a second constant
-  pub p12 : called false (load 0 ++ plain op.Minus 0) (2 ∷ 9 ∷ []) (0 ∷ 9 ∷ []) 1
+  pub p12 : called false negation (2 ∷ 9 ∷ []) (0 ∷ 9 ∷ []) 1
       ≡ leaves 1 2 (load 1 ++ replicate 3 0) (2 ∷ 2 ∷ []) (0 ∷ 0x8000_0000_0000_0000 ∷ []) (0 ∷ 0 ∷ []) (0 ∷ 1 ∷ []) (0 ∷ 1 ∷ 1 ∷ [])
   -- pool 2 and 3: becomes LoadConst 2; jump 1. In strict mode nothing folds
   pub p13 : (called false code13 (1 ∷ 1 ∷ 9 ∷ []) (2 ∷ 3 ∷ 9 ∷ []) 2

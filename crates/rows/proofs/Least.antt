@@ -8,7 +8,7 @@ use lib.Dec.{ltb}
 use Rattle.code.specs.Ins.{count}
 use Rattle.flow.specs.Flow.{Least}
 use Rattle.flow.specs.Sweep.{row, backs, startOf}
-use Rattle.flow.proofs.Answer.{found-one, found-least, found-below, found-regs, found-few}
+use Rattle.flow.proofs.Answer.{found-one, found-least, found-below, found-regs, found-few, found-lost}
 use Rattle.steps.specs.Level.{firstLevel}
 use Rattle.steps.specs.Code.{usedAt, flow}
 use Rattle.rows.specs.Route.{firstOf, rowsIn, Rows}
@@ -45,8 +45,9 @@ module _ (wide : Bool) (regs : ℕ) (w buf : List ℕ) (full lost : ℕ) (found 
   rows-regs = found-regs (flow regs w) (firstOf wide regs w) inside (rowsIn regs w buf) full lost found (λ k. set-lt regs regs (usedAt w k) (le-refl regs))
 
   -- full sweeps are at most the jumps to their own position or back and two more, and at most one sweep is abandoned
-  pub rows-few : full ≤ backs (flow regs w) start + 2
-  rows-few = found-few (flow regs w) (firstOf wide regs w) inside (rowsIn regs w buf) full lost found
+  pub rows-few : (full ≤ backs (flow regs w) start + 2) × (lost ≤ 1)
+  rows-few =
+      (found-few (flow regs w) (firstOf wide regs w) inside (rowsIn regs w buf) full lost found, found-lost (flow regs w) (firstOf wide regs w) inside (rowsIn regs w buf) full lost found)
 
   -- any other answer has these rows and counts
   pub rows-one : (buf′ : List ℕ) (full′ lost′ : ℕ) → Rows wide regs w buf′ full′ lost′ → (rowsIn regs w buf ≡ rowsIn regs w buf′) × (full ≡ full′) × (lost ≡ lost′)

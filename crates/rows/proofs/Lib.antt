@@ -3,4 +3,3 @@ pub mod Words
 pub mod Sweeps
 pub mod Routes
 pub mod Least
-pub mod Examples

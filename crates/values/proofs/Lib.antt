@@ -5,4 +5,3 @@ pub mod Complement
 pub mod Word
 pub mod Order
 pub mod Arms
-pub mod Marked

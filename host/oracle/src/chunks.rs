@@ -191,7 +191,7 @@ pub fn telling() -> Vec<(u8, u64)> {
     let mut ints: Vec<i64> = powers.chain(INTS).flat_map(|i| [i, i.wrapping_neg()]).filter(|i| i.unsigned_abs() <= 1 << 50 || i.count_ones() < 2).collect();
     ints.sort();
     ints.dedup();
-    ints.retain(|i| i.unsigned_abs() < 70 || i.unsigned_abs() > 1 << 44 || i.unsigned_abs().is_power_of_two());
+    ints.retain(|i| i.unsigned_abs() < 70 || i.unsigned_abs() > 1 << 31 || i.unsigned_abs().is_power_of_two());
     let halves = (0..6).map(|k| k as f64 + 0.5);
     let scaled = [-1074, -1073, -1022, -53, -1, 52, 53, 54, 1023].map(|k| 2f64.powi(k));
     let floats = FLOATS.into_iter().chain(halves).chain(scaled).flat_map(|f| [f, -f, f64::from_bits(f.to_bits().wrapping_add(1))]);

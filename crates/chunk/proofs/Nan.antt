@@ -1,4 +1,4 @@
--- Document 01's P12 and the single NaN, computed from the definitions. Assumes nothing.
+-- The single NaN, computed from the definitions. Assumes nothing.
 use mathlib.Core.Path.{_≡_, refl}
 use mathlib.Core.List.{[], _∷_}
 use lib.Ieee.{binary64, nan, ofBits, toBits}
@@ -6,12 +6,6 @@ use Rattle.values.specs.declared.Val.the-variants.{Float as Real}
 use Rattle.laws.specs.Walk.{first}
 use Rattle.chunk.specs.Pool.{stored, findOrPush, findOrPushConst}
 use Rattle.chunk.specs.declared.Kept.the-variants.{At}
-
--- Minus on 0.0 pushes a second constant: -0.0 is not found as 0.0
-pub p12 : findOrPushConst (2 ∷ 0 ∷ []) (0 ∷ 0 ∷ []) 1 (Real (ofBits binary64 0x8000_0000_0000_0000))
-    ≡ stored (At 1 2) (2 ∷ 2 ∷ []) (0 ∷ 0x8000_0000_0000_0000 ∷ [])
-unfolding findOrPushConst findOrPush first ofBits toBits
-p12 = refl
 
 -- the bits of the single NaN
 pub the-nan : toBits binary64 nan ≡ 0x7ff8_0000_0000_0000

@@ -1,0 +1,66 @@
+-- Any two results that an exported call's statement allows are equal, with every lent word. Where the statement is an equation, that is its form;
+-- these are the others. Assumes nothing.
+use mathlib.Core.Path.{_≡_, sym, ap, _∙_}
+use mathlib.Core.Bool.{Bool}
+use mathlib.Core.List.{List}
+use Prim.Native.Nat.{ℕ, _+_}
+use lib.ListN.{length}
+use Rattle.code.specs.Ins.{count}
+use Rattle.code.specs.Check.{checkOf, insideOf, triedOf, roomOf}
+use Rattle.code.specs.declared.Answer.{Answer}
+use Rattle.flow.specs.Words.{Small}
+use Rattle.surveys.specs.Answers.{targetMark}
+use Rattle.surveys.specs.Loops.{depth}
+use Rattle.surveys.proofs.Filling.{one-filling}
+use Rattle.phis.specs.Phi.{Dead}
+use Rattle.phis.specs.Generator.{GenPure}
+use Rattle.phis.specs.Answers.{roomBoth}
+use Rattle.phis.proofs.Telling.{one-answer}
+use Rattle.kept.proofs.Alone.{outcome-one}
+use Rattle.lent.specs.declared.Counts.{Counts}
+use Rattle.optimizer.specs.Fold.{Buffers, Outcome}
+use Rattle.optimizer.specs.declared.FoldAnswer.{FoldAnswer}
+use Rattle.clear.specs.Clear as clearing
+use Rattle.turniploom.specs.Answers.{By, filledTold, truthTold, keptTold, foldTold, TargetsTold, LoopsTold, DeadTold, GenTold, KeptTold, FoldTold, clearTold, ClearTold}
+
+-- equal cases are told alike
+by-one : {A : Type 0} (f : A → Answer) {P Q : A → Type 0} {r r′ : Answer} (x : By f P r) (y : By f Q r′) → x .told ≡ y .told → r ≡ r′
+by-one f x y e = x .is ∙ ap f e ∙ sym (y .is)
+
+pub one-targets : (w t out : List ℕ) (r r′ : Answer) (a a′ : List ℕ) → TargetsTold w t out r a → TargetsTold w t out r′ a′ → (r ≡ r′) × (a ≡ a′)
+one-targets w t out r r′ a a′ x y =
+    let (e, z) = one-filling (roomOf (triedOf (checkOf w) t) 1 (length out) (count w + 1)) (count w + 1) (targetMark w t) out (x .told) (y .told) a a′ (x .allowed) (y .allowed) in
+    (by-one filledTold x y e, z)
+
+pub one-loops : (w out : List ℕ) (r r′ : Answer) (a a′ : List ℕ) → LoopsTold w out r a → LoopsTold w out r′ a′ → (r ≡ r′) × (a ≡ a′)
+one-loops w out r r′ a a′ x y =
+    let (e, z) = one-filling (roomOf (checkOf w) 1 (length out) (count w + 1)) (count w + 1) (depth w) out (x .told) (y .told) a a′ (x .allowed) (y .allowed) in
+    (by-one filledTold x y e, z)
+
+pub one-dead : (w : List ℕ) (k q : ℕ) (seen todo : List ℕ) (r r′ : Answer) (a a′ b b′ : List ℕ) → DeadTold w k q seen todo r a b → DeadTold w k q seen todo r′ a′ b′
+    → (r ≡ r′) × (a ≡ a′) × (b ≡ b′)
+one-dead w k q seen todo r r′ a a′ b b′ x y =
+    let (e, z, t) = one-answer (roomBoth (insideOf (checkOf w) k) w seen todo) (Dead w k q) (count w + 1) seen todo (x .told) (y .told) a a′ b b′ (x .allowed) (y .allowed) in
+    (by-one truthTold x y e, z, t)
+
+pub one-gen : (w seen todo : List ℕ) (r r′ : Answer) (a a′ b b′ : List ℕ) → GenTold w seen todo r a b → GenTold w seen todo r′ a′ b′ → (r ≡ r′) × (a ≡ a′) × (b ≡ b′)
+one-gen w seen todo r r′ a a′ b b′ x y =
+    let (e, z, t) = one-answer (roomBoth (checkOf w) w seen todo) (GenPure w) (count w + 1) seen todo (x .told) (y .told) a a′ b b′ (x .allowed) (y .allowed) in
+    (by-one truthTold x y e, z, t)
+
+-- the scratch is words of 64 bits, as every lent u64 is
+pub one-kept : (w : List ℕ) (regs : ℕ) (tries : List ℕ) (wide : Bool) (rows offsets list : List ℕ) (r r′ : Answer) (a a′ b b′ c c′ : List ℕ) → Small 64 a → Small 64 a′
+    → KeptTold w regs tries wide rows offsets list a b c r → KeptTold w regs tries wide rows offsets list a′ b′ c′ r′ → (r ≡ r′) × (a ≡ a′) × (b ≡ b′) × (c ≡ c′)
+one-kept w regs tries wide rows offsets list r r′ a a′ b b′ c c′ s s′ x y =
+    let (p, q, t, e) = outcome-one w regs tries wide rows offsets list s s′ (x .allowed) (y .allowed) in
+    (by-one keptTold x y e, p, q, t)
+
+pub one-fold : (strict : Bool) (b : Buffers) (c : Counts) (r r′ : Answer) (a a′ : Buffers) → FoldTold strict b c r a → FoldTold strict b c r′ a′ → (r ≡ r′) × (a ≡ a′)
+one-fold strict b c r r′ a a′ x y =
+    let e = x .allowed ∙ sym (y .allowed) in
+    (by-one foldTold x y (ap (λ (o : Outcome FoldAnswer). o .answer) e), ap (λ (o : Outcome FoldAnswer). o .after) e)
+
+pub one-clear : (b : clearing.Buffers) (m : ℕ) (r r′ : Answer) (a a′ : clearing.Buffers) → ClearTold b m r a → ClearTold b m r′ a′ → (r ≡ r′) × (a ≡ a′)
+one-clear b m r r′ a a′ x y =
+    let e = x .allowed ∙ sym (y .allowed) in
+    (by-one clearTold x y (ap (λ (o : clearing.Outcome). o .answer) e), ap (λ (o : clearing.Outcome). o .after) e)

@@ -1,8 +1,10 @@
--- Document 01's P13 as the folding call leaves it, cleared; an operand past the count; scratch that is too short: computed from the definitions.
+-- Document 01's P13 as the folding call leaves it, cleared; an operand past the count; scratch that is too short; why `refold` wants every operand below the count:
+-- computed from the definitions.
 -- Each buffer has one word more than is needed, which stays. Assumes nothing.
 use mathlib.Core.Path.{_≡_, refl}
 use mathlib.Core.List.{[], _∷_}
-use Rattle.code.specs.Op.{LoadConst, Jump}
+use mathlib.Core.Bool.{false}
+use Rattle.code.specs.Op.{LoadConst, Add, Jump}
 use Rattle.code.specs.declared.Refusal.the-variants.{Short}
 use Rattle.laws.specs.All.{every, many}
 use Rattle.laws.specs.Each.{each}
@@ -10,9 +12,15 @@ use Rattle.laws.specs.Some.{some}
 use Rattle.laws.specs.Walk.{first}
 use Rattle.lent.specs.Chunk.{folds, rules}
 use Rattle.lent.specs.Check.{checkOf}
-use Rattle.clear.specs.Unused.{named, kept, pooled, renumbered, operandOf, recoded, numbered}
+use Rattle.values.specs.Folds.{foldBinop, ints, inRange}
+use Rattle.chunk.specs.Pool.{toVal, constToVal, findOrPush, findOrPushConst}
+use Rattle.fold.specs.Plan.{Chunk, chunk, page, kindOf, prevLive, lands, skipsInto, blocked, tryFoldBinop, planFor, planAt}
+use Rattle.fold.specs.Plan as plan
+use Rattle.fold.specs.Pass.{constLoad, markOf, put, landed, applied, tryFold, folded, foldAll}
+use Rattle.clear.specs.Unused.{named, kept, pooled, renumbered, operandOf, recoded, numbered, loaded}
 use Rattle.clear.specs.Clear.{buffers, outcome, cleared, readyOf, clearCall}
 use Rattle.clear.specs.declared.ClearAnswer.the-variants.{Is, No}
+use Rattle.clear.proofs.Room.{clearedChunk}
 
 -- LoadConst 2; jump 1, pool 2, 3 and 5: 5 alone is left, and loaded
 pub p13-cleared : clearCall (buffers (LoadConst ∷ 2 ∷ 2 ∷ Jump ∷ 1 ∷ 1 ∷ 0 ∷ 0 ∷ 0 ∷ 0 ∷ 0 ∷ 0 ∷ []) (1 ∷ 1 ∷ 1 ∷ 9 ∷ []) (2 ∷ 3 ∷ 5 ∷ 9 ∷ []) (9 ∷ 9 ∷ 9 ∷ 9 ∷ [])) 3
@@ -32,3 +40,17 @@ pub short-scratch : clearCall (buffers (LoadConst ∷ 2 ∷ 2 ∷ []) (1 ∷ 1 �
     ≡ outcome (No (Short 1 3)) (buffers (LoadConst ∷ 2 ∷ 2 ∷ []) (1 ∷ 1 ∷ 1 ∷ []) (2 ∷ 3 ∷ 5 ∷ []) (9 ∷ 9 ∷ []))
 unfolding clearCall readyOf checkOf rules folds every first
 short-scratch = refl
+
+-- 2 + 3 with a constant 7 that nobody names, and a LoadConst past the count
+abbrev late : Chunk
+late = chunk (LoadConst ∷ 2 ∷ 1 ∷ LoadConst ∷ 2 ∷ 2 ∷ Add ∷ 0 ∷ 0 ∷ LoadConst ∷ 2 ∷ 3 ∷ []) (0 ∷ 0 ∷ 0 ∷ 0 ∷ []) (1 ∷ 1 ∷ 1 ∷ 0 ∷ []) (7 ∷ 2 ∷ 3 ∷ 0 ∷ []) 3
+
+-- uncleared, the sum is pushed to 3, where the last LoadConst loads it
+pub late-load : loaded (foldAll false late .words) (foldAll false late .constants) 3 ≡ 5 ∷ []
+unfolding loaded foldAll folded tryFold applied landed put markOf constLoad planAt planFor kindOf page tryFoldBinop prevLive plan.operandOf blocked lands skipsInto constToVal toVal foldBinop ints inRange findOrPushConst findOrPush first
+late-load = refl
+
+-- cleared, it is pushed to 2, and the last LoadConst still loads nothing
+pub late-none : loaded (foldAll false (clearedChunk late) .words) (foldAll false (clearedChunk late) .constants) 3 ≡ []
+unfolding loaded foldAll folded tryFold applied landed put markOf constLoad planAt planFor kindOf page tryFoldBinop prevLive plan.operandOf blocked lands skipsInto constToVal toVal foldBinop ints inRange findOrPushConst findOrPush first many each some named kept pooled renumbered operandOf recoded
+late-none = refl

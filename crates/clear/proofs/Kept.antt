@@ -4,7 +4,7 @@ use native.Mathlib.Nat.{eq-or-lt-of-le}
 use native.Mathlib.Omega.{arith}
 use mathlib.Core.Path.{_≡_, refl, sym, ap, _∙_}
 use mathlib.Core.Logic.{⊎-elim}
-use mathlib.Core.Bool.{Bool, true, false, cond, _&&_, _||_, false≢true}
+use mathlib.Core.Bool.{Bool, true, false, _||_, false≢true}
 use mathlib.Core.List.{List, [], _∷_, _++_, append-nil, append-assoc}
 use lib.Dec.{eqb}
 use lib.ListN.{length, getD, drop, replicate, length-append, length-replicate, length-drop, getD-replicate, List·getD-append}
@@ -18,7 +18,7 @@ use Rattle.laws.proofs.Branch.{and-true}
 use Rattle.laws.proofs.Many.{many-few}
 use Rattle.laws.proofs.Some.{passes-at}
 use Rattle.lent.specs.Chunk.{count, operandAt, names}
-use Rattle.clear.specs.Unused.{namesIt, named, before, keptAt, kept, pooled}
+use Rattle.clear.specs.Unused.{namesIt, named, keptAt, kept, pooled}
 
 below-suc : (i m : ℕ) → i < suc m → i ≤ m
 below-suc i m h = omega arith

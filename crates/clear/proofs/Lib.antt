@@ -2,8 +2,14 @@ pub mod Marking
 pub mod Moving
 pub mod Whole
 pub mod Tested
+pub mod Answers
 pub mod Kept
 pub mod Loads
 pub mod Twice
 pub mod Room
+pub mod Alike
+pub mod Pools
+pub mod Attempts
+pub mod Refold
+pub mod Accepts
 pub mod Examples

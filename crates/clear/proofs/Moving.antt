@@ -1,15 +1,14 @@
 -- Laws of `kept`, `freed` and `recoded`, for the loops that write them in place. Assumes nothing.
-use Prim.Native.Nat.{ℕ, zero, suc, _+_, _-_, _*_, _/_, _≤_, _<_}
+use Prim.Native.Nat.{ℕ, _+_, _-_, _*_, _≤_, _<_}
 use native.Mathlib.Nat.{sub-self, le-refl}
 use native.Mathlib.Omega.{arith}
 use mathlib.Core.Path.{_≡_, refl, sym, ap, _∙_}
-use mathlib.Core.Bool.{Bool, true, false, cond, not, _&&_}
+use mathlib.Core.Bool.{Bool, true, false, not}
 use mathlib.Core.List.{List, [], _∷_, _++_, append-nil, append-assoc}
 use lib.Dec.{eqb, ltb}
-use lib.ListN.{length, getD, set, take, drop, replicate, replicate-append-replicate, length-append, length-drop}
-use lib.Seq.{set-getD, drop-drop}
+use lib.ListN.{length, getD, set, take, drop, replicate, replicate-append-replicate}
+use lib.Seq.{set-getD}
 use borrow.Author.Tests.{lt-ltb, le-ltb}
-use mir.Val.{boolByte}
 use Rattle.laws.specs.All.{many}
 use Rattle.laws.specs.Each.{each}
 use Rattle.laws.proofs.Many.{many-more, many-few}

@@ -1,13 +1,12 @@
 -- Freed room serves the next fold: where folding had its buffers before, it has them after. Assumes nothing.
-use Prim.Native.Nat.{ℕ, _+_, _*_, _/_, _≤_, _<_, min, max}
+use Prim.Native.Nat.{ℕ, _≤_}
 use native.Mathlib.Omega.{arith}
-use mathlib.Core.Path.{_≡_, refl, sym, ap, _∙_}
-use mathlib.Core.Bool.{Bool}
+use mathlib.Core.Path.{_≡_, ap, _∙_}
 use mathlib.Core.List.{List}
 use lib.ListN.{length}
 use Rattle.laws.specs.All.{many}
 use Rattle.laws.proofs.Many.{many-few}
-use Rattle.lent.specs.Chunk.{stride, count, opAt, folds}
+use Rattle.lent.specs.Chunk.{count, opAt, folds}
 use Rattle.lent.specs.Check.{constantRoom}
 use Rattle.fold.specs.Plan.{Chunk, chunk}
 use Rattle.fold.specs.Pass.{Lent}
@@ -26,13 +25,13 @@ clearedChunk s =
     let w = s .code in
     chunk (recoded (before w) (s .constants) w) (s .dead) (pooled (named w) (s .constants) (s .kinds)) (pooled (named w) (s .constants) (s .words)) (before w (s .constants))
 
-operators-same : (number : ℕ → ℕ) (m : ℕ) (w : List ℕ)
+pub operators-same : (number : ℕ → ℕ) (m : ℕ) (w : List ℕ)
     → many (λ k. folds (opAt (recoded number m w) k)) (count (recoded number m w)) ≡ many (λ k. folds (opAt w k)) (count w)
 operators-same number m w =
     ap (many (λ k. folds (opAt (recoded number m w) k))) (recoded-count number m w)
     ∙ many-ext (λ k. folds (opAt (recoded number m w) k)) (λ k. folds (opAt w k)) (count w) (λ k h. ap folds (recoded-op number m w k h))
 
-room-down : (a b f n : ℕ) → a ≤ b → constantRoom b f ≤ n → constantRoom a f ≤ n
+pub room-down : (a b f n : ℕ) → a ≤ b → constantRoom b f ≤ n → constantRoom a f ≤ n
 room-down a b f n h l = omega arith
 
 pub room-after : (s : Chunk) → Lent s → Lent (clearedChunk s)

@@ -1,5 +1,5 @@
 -- What the tests of the clearing call leave of the buffers, and what it answers by them. Assumes nothing.
-use Prim.Native.Nat.{ℕ, _*_, _%_, _≤_}
+use Prim.Native.Nat.{ℕ, _*_, _%_}
 use native.Mathlib.Omega.{arith}
 use mathlib.Core.Path.{_≡_, refl, sym, _∙_}
 use mathlib.Core.Bool.{Bool, true, false, not}
@@ -17,12 +17,12 @@ use Rattle.code.specs.declared.Checked.{Checked}
 use Rattle.code.specs.declared.Checked.the-variants.{Count, No as Refused}
 use Rattle.lent.specs.Chunk.{stride, count}
 use Rattle.lent.specs.Tables.{constantKept, within, constantsKept, tableOf}
-use Rattle.lent.specs.Check.{uneven, firstBad, checkOf}
+use Rattle.lent.specs.Check.{uneven, checkOf}
 use Rattle.lent.proofs.Kept.{few, kinds-there, words-there}
 use Rattle.clear.specs.Clear.{Buffers, Outcome, outcome, cleared, readyOf, clearCall, Held}
 use Rattle.clear.specs.declared.ClearAnswer.the-variants.{No}
 
-never : {A : Type 0} (n : ℕ) (r : Refusal) → Count n ≡ Refused r → A
+pub never : {A : Type 0} (n : ℕ) (r : Refusal) → Count n ≡ Refused r → A
 never n r e = let z : _≡_ {A = ℕ} 0 1 = cc in absurd (omega arith)
 
 pub table-met : (n : ℕ) (v : Checked) (t : ℕ) (kept : Bool) → Count n ≡ tableOf v t kept → (v ≡ Count n) × (kept ≡ true)
@@ -30,7 +30,7 @@ table-met n (Refused r) t kept e = never n r e
 table-met n (Count m) t true e = (sym e, refl)
 table-met n (Count m) t false e = never n (Table t) e
 
-check-met : (n : ℕ) (w : List ℕ) → Count n ≡ checkOf w → length w % stride ≡ 0
+pub check-met : (n : ℕ) (w : List ℕ) → Count n ≡ checkOf w → length w % stride ≡ 0
 unfolding checkOf
 check-met n w h = go (uneven w) refl h
   where
@@ -38,7 +38,7 @@ check-met n w h = go (uneven w) refl h
     go true e h = never n (Length (length w)) (rw e at h)
     go false e h = eqb-true (length w % stride) 0 (not-false _ (or-false (not (eqb (length w % stride) 0)) (ltb 65535 (count w)) e .0))
 
-whole-of : (w : List ℕ) → length w % stride ≡ 0 → length w ≡ stride * count w
+pub whole-of : (w : List ℕ) → length w % stride ≡ 0 → length w ≡ stride * count w
 whole-of w e = omega arith
 
 module _ (b : Buffers) (m : ℕ) (v : Checked) (e : v ≡ readyOf b m) where

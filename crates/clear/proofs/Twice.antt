@@ -1,14 +1,14 @@
 -- Running the clearing call twice changes nothing more. Assumes nothing.
-use Prim.Native.Nat.{ℕ, zero, suc, _+_, _-_, _*_, _/_, _≤_, _<_}
+use Prim.Native.Nat.{ℕ, zero, suc, _+_, _*_, _≤_, _<_}
 use native.Mathlib.Nat.{sub-self, le-refl, eq-or-lt-of-le}
 use native.Mathlib.Numerals.{add-one}
 use native.Mathlib.Omega.{arith}
 use mathlib.Core.Path.{_≡_, refl, sym, ap, _∙_}
 use mathlib.Core.Logic.{⊎-elim}
-use mathlib.Core.Bool.{Bool, true, false, cond, not, _&&_, _||_}
-use mathlib.Core.List.{List, [], _∷_, _++_}
-use lib.Dec.{eqb, ltb, leb}
-use lib.ListN.{length, getD, take, drop, replicate, length-append, length-drop, take-append-drop}
+use mathlib.Core.Bool.{Bool, true, false, not}
+use mathlib.Core.List.{List, [], _∷_}
+use lib.Dec.{ltb}
+use lib.ListN.{length, getD, take, drop, length-append, length-drop, take-append-drop}
 use lib.Seq.{set-getD, take-suc}
 use borrow.Author.Tests.{ltb-true, ltb-false, le-leb, le-ltb}
 use Rattle.laws.specs.All.{every, many}
@@ -18,17 +18,16 @@ use Rattle.laws.proofs.Branch.{and-true}
 use Rattle.laws.proofs.Each.{each-word}
 use Rattle.laws.proofs.Many.{many-few}
 use Rattle.code.specs.Answers.{asked}
-use Rattle.code.specs.Check.{roomOf}
-use Rattle.code.specs.declared.Refusal.{Refusal}
 use Rattle.code.specs.declared.Checked.{Checked}
 use Rattle.code.specs.declared.Checked.the-variants.{Count, No as Refused}
 use Rattle.code.proofs.Stages.{room-before}
-use Rattle.lent.specs.Chunk.{stride, count, opAt, markAt, operandAt, names, rules, breaksAt}
+use Rattle.lent.specs.Chunk.{stride, count, operandAt, names, breaksAt}
 use Rattle.lent.specs.Tables.{constantKept, within, constantsKept, tableOf}
-use Rattle.lent.specs.Check.{uneven, firstBad, checkOf}
-use Rattle.clear.specs.Unused.{named, before, keptAt, kept, pooled, renumbered, operandOf, recoded, numbered}
-use Rattle.clear.specs.Clear.{Buffers, buffers, Outcome, outcome, cleared, readyOf, clearCall, Held}
+use Rattle.lent.specs.Check.{firstBad, checkOf}
+use Rattle.clear.specs.Unused.{named, before, kept, pooled, operandOf, recoded, numbered}
+use Rattle.clear.specs.Clear.{Buffers, Outcome, outcome, cleared, readyOf, clearCall, Held}
 use Rattle.clear.specs.declared.ClearAnswer.the-variants.{Is, No}
+use Rattle.clear.proofs.Answers.{refused-call, answered-call}
 use Rattle.clear.proofs.Moving.{Recoding, recoding-none, recoding-more, recoding-done}
 use Rattle.clear.proofs.Tested.{held-of, table-met}
 use Rattle.clear.proofs.Kept.{named-by, naming, onto, pooled-kept, pooled-length}
@@ -154,7 +153,7 @@ module _ (w kinds words : List ℕ) (m : ℕ) (hk : m ≤ length kinds) (hw : m 
       let v : getD (pooled (named w) m words) j 0 ≡ getD words (p .place) 0 = ap (λ (x : ℕ). getD (pooled (named w) m words) x 0) (sym (p .number)) ∙ pooled-kept (named w) m words (p .place) (p .below) (p .passes) in
       rw (k, v) (every-at (constantKept kinds words) m (p .place) e (p .below))
 
-  constants-same : every (constantKept kinds words) m ≡ true → constantsKept (pooled (named w) m kinds) (pooled (named w) m words) (before w m) ≡ true
+  pub constants-same : every (constantKept kinds words) m ≡ true → constantsKept (pooled (named w) m kinds) (pooled (named w) m words) (before w m) ≡ true
   constants-same e =
       let f = many-few (named w) m in
       let a : before w m ≤ 65536 = omega arith in
@@ -193,14 +192,6 @@ module _ (b : Buffers) (m n : ℕ) (ready : readyOf b m ≡ Count n) where
   unfolding clearCall
   call-again = rw ready-again (cleared-again b m held)
 
-  answered : clearCall b m ≡ outcome (Is (before (b .code) m)) (cleared b m .after)
-  unfolding clearCall cleared
-  answered = rw ready
-
-refused-call : (b : Buffers) (m : ℕ) (q : Refusal) → readyOf b m ≡ Refused q → clearCall b m ≡ outcome (No q) b
-unfolding clearCall
-refused-call b m q e = rw e
-
 -- an answer asked for again is the same answer
 pub clear-twice : (b : Buffers) (m r : ℕ) (a : Buffers) → clearCall b m ≡ outcome (Is r) a → Again a r (clearCall a r)
 clear-twice b m r a e = go (readyOf b m) refl
@@ -210,7 +201,7 @@ clear-twice b m r a e = go (readyOf b m) refl
         let y : No q ≡ Is r = ap (λ (x : Outcome). x .answer) (sym (refused-call b m q f) ∙ e) in
         absurd (let z : _≡_ {A = ℕ} 0 1 = cc in omega arith)
     go (Count n) f =
-        let h : outcome (Is (before (b .code) m)) (cleared b m .after) ≡ outcome (Is r) a = sym (answered b m n f) ∙ e in
+        let h : outcome (Is (before (b .code) m)) (cleared b m .after) ≡ outcome (Is r) a = sym (answered-call b m n f) ∙ e in
         let y : Is (before (b .code) m) ≡ Is r = ap (λ (x : Outcome). x .answer) h in
         let i : before (b .code) m ≡ r = cc in
         let j : cleared b m .after ≡ a = ap (λ (x : Outcome). x .after) h in

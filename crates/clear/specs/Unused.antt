@@ -1,10 +1,9 @@
 -- What is left of a pool when the constants that nobody names go: document 02, wish 1. Assumes nothing.
-use Prim.Native.Nat.{ℕ, _+_, _-_, _≤_, _<_}
-use mathlib.Core.Path.{_≡_}
+use Prim.Native.Nat.{ℕ, _-_}
 use mathlib.Core.Bool.{Bool, cond, _&&_}
 use mathlib.Core.List.{List, [], _∷_, _++_}
 use lib.Dec.{eqb, ltb}
-use lib.ListN.{length, getD, drop, replicate}
+use lib.ListN.{getD, drop, replicate}
 use Rattle.laws.specs.All.{many}
 use Rattle.laws.specs.Some.{some}
 use Rattle.laws.specs.Each.{each}

@@ -1,0 +1,219 @@
+-- An attempt to fold keeps two chunks alike that differ only in where their constants stand. Assumes nothing.
+use Prim.Native.Nat.{ℕ, _+_, _*_, _/_, _%_, _<_}
+use native.Mathlib.Omega.{arith}
+use mathlib.Core.Path.{_≡_, refl, sym, ap, _∙_}
+use mathlib.Core.Bool.{Bool, true, false, cond, false≢true}
+use mathlib.Core.List.{List}
+use lib.Dec.{eqb}
+use lib.ListN.{length, getD, set, length-set}
+use lib.Seq.{getD-set-same, getD-set-other}
+use mir.Syntax.{w64}
+use mir.Val.{ofZ}
+use lib.Ieee.{binary64, toBits}
+use Rattle.code.specs.Op.{LoadConst, LoadTrue, LoadFalse}
+use Rattle.lent.specs.Chunk.{stride, count, markAt, operandAt, names}
+use Rattle.values.specs.declared.Val.{Val}
+use Rattle.values.specs.declared.Val.the-variants.{Int, Float as Real, Bool as Truth}
+use Rattle.chunk.specs.Pool.{Stored, stored, findOrPush, findOrPushConst}
+use Rattle.chunk.specs.declared.Kept.the-variants.{At}
+use Rattle.fold.specs.Plan.{Chunk, chunk, planAt}
+use Rattle.fold.specs.Pass.{loadOf, constLoad, markOf, put, landed, applied, tryFold, Ready}
+use Rattle.fold.specs.declared.Plan.{Plan}
+use Rattle.fold.specs.declared.Plan.the-variants.{Stay, Put}
+use Rattle.fold.proofs.Planned.{planned}
+use Rattle.fold.proofs.Grown.{put-other, put-here, put-long}
+use Rattle.clear.proofs.Alike.{SameLoad, Alike, plan-same}
+use Rattle.clear.proofs.Pools.{cases, Grew, grew-none, Pools, fewer, stepped}
+
+-- ---- a load that is put at p
+
+module _ (w : List ℕ) (p o x : ℕ) where
+  mark-other : (k : ℕ) → (k ≡ p → ⊥) → markAt (put w p o x) k ≡ markAt w k
+  unfolding put
+  mark-other k h =
+      getD-set-other (set (set w (stride * p) o) (stride * p + 1) (markOf o)) (stride * p + 2) (stride * k + 1) x 0 (λ e. omega arith)
+      ∙ getD-set-other (set w (stride * p) o) (stride * p + 1) (stride * k + 1) (markOf o) 0 (λ e. h (omega arith))
+      ∙ getD-set-other w (stride * p) (stride * k + 1) o 0 (λ e. omega arith)
+
+  operand-other : (k : ℕ) → (k ≡ p → ⊥) → operandAt (put w p o x) k ≡ operandAt w k
+  unfolding put
+  operand-other k h =
+      getD-set-other (set (set w (stride * p) o) (stride * p + 1) (markOf o)) (stride * p + 2) (stride * k + 2) x 0 (λ e. h (omega arith))
+      ∙ getD-set-other (set w (stride * p) o) (stride * p + 1) (stride * k + 2) (markOf o) 0 (λ e. omega arith)
+      ∙ getD-set-other w (stride * p) (stride * k + 2) o 0 (λ e. omega arith)
+
+  module _ (h : p < count w) where
+    mark-here : markAt (put w p o x) p ≡ markOf o
+    unfolding put
+    mark-here =
+        getD-set-other (set (set w (stride * p) o) (stride * p + 1) (markOf o)) (stride * p + 2) (stride * p + 1) x 0 (λ e. omega arith)
+        ∙ getD-set-same (set w (stride * p) o) (stride * p + 1) (markOf o) 0 (rw (length-set w (stride * p) o) (omega arith))
+
+    operand-here : operandAt (put w p o x) p ≡ x
+    unfolding put
+    operand-here =
+        getD-set-same (set (set w (stride * p) o) (stride * p + 1) (markOf o)) (stride * p + 2) x 0
+        (rw (length-set (set w (stride * p) o) (stride * p + 1) (markOf o), length-set w (stride * p) o) (omega arith))
+
+names-of : (o : ℕ) → eqb (markOf o / 2 % 2) 1 ≡ eqb o LoadConst
+unfolding markOf
+names-of o = go (eqb o LoadConst)
+  where
+    go : (b : Bool) → eqb (cond b 2 0 / 2 % 2) 1 ≡ b
+    go true = refl
+    go false = refl
+
+jumps-of : (o : ℕ) → eqb (markOf o % 2) 1 ≡ false
+unfolding markOf
+jumps-of o = go (eqb o LoadConst)
+  where
+    go : (b : Bool) → eqb (cond b 2 0 % 2) 1 ≡ false
+    go true = refl
+    go false = refl
+
+abbrev nameMark : ℕ → Bool
+nameMark x = eqb (x / 2 % 2) 1
+
+abbrev jumpMark : ℕ → Bool
+jumpMark x = eqb (x % 2) 1
+
+-- the chunk with it
+abbrev wrote : Chunk → (p q i o x : ℕ) → (kinds words : List ℕ) → ℕ → Chunk
+wrote s p q i o x kinds words n = chunk (put (s .code) p o x) (set (set (s .dead) q 1) i 1) kinds words n
+
+load-grew : {s t : Chunk} {v u : ℕ} {S T : Chunk} → Grew (s .kinds) (s .words) (s .constants) (S .kinds) (S .words) (S .constants)
+    → Grew (t .kinds) (t .words) (t .constants) (T .kinds) (T .words) (T .constants) → SameLoad s t v u → SameLoad S T v u
+load-grew {v = v} {u = u} gs gt l =
+    record {
+      there = omega (arith, l .there, gs .more);
+      here = omega (arith, l .here, gt .more);
+      kind = gs .kind v (l .there) ∙ l .kind ∙ sym (gt .kind u (l .here));
+      word = gs .word v (l .there) ∙ l .word ∙ sym (gt .word u (l .here));
+    }
+
+module _ {s t : Chunk} (a : Alike s t) (p q i o x y : ℕ) (h : p < count (s .code)) (ks ws : List ℕ) (n : ℕ) (kt wt : List ℕ) (m : ℕ)
+    (gs : Grew (s .kinds) (s .words) (s .constants) ks ws n) (gt : Grew (t .kinds) (t .words) (t .constants) kt wt m)
+    (con : eqb o LoadConst ≡ true → SameLoad (wrote s p q i o x ks ws n) (wrote t p q i o y kt wt m) x y) (non : eqb o LoadConst ≡ false → x ≡ y) where
+  h′ : p < count (t .code)
+  h′ = omega (arith, a .long)
+
+  names-here : names (put (s .code) p o x) p ≡ eqb o LoadConst
+  names-here = ap nameMark (mark-here (s .code) p o x h) ∙ names-of o
+
+  names-other : (k : ℕ) → (k ≡ p → ⊥) → names (put (s .code) p o x) k ≡ names (s .code) k
+  names-other k z = ap nameMark (mark-other (s .code) p o x k z)
+
+  wrote-plain : (k : ℕ) → names (put (s .code) p o x) k ≡ false → operandAt (put (s .code) p o x) k ≡ operandAt (put (t .code) p o y) k
+  wrote-plain k e =
+      cases k p
+      (λ z. rw z (operand-here (s .code) p o x h ∙ non (sym names-here ∙ (rw z at e)) ∙ sym (operand-here (t .code) p o y h′)))
+      (λ z. operand-other (s .code) p o x k z ∙ a .plain k (sym (names-other k z) ∙ e) ∙ sym (operand-other (t .code) p o y k z))
+
+  wrote-loads : (k : ℕ) → names (put (s .code) p o x) k ≡ true
+      → SameLoad (wrote s p q i o x ks ws n) (wrote t p q i o y kt wt m) (operandAt (put (s .code) p o x) k) (operandAt (put (t .code) p o y) k)
+  wrote-loads k e =
+      cases k p
+      (λ z. rw (z, operand-here (s .code) p o x h, operand-here (t .code) p o y h′) (con (sym names-here ∙ (rw z at e))))
+      (λ z. rw (operand-other (s .code) p o x k z, operand-other (t .code) p o y k z) (load-grew {s = s} {t = t} gs gt (a .loads k (sym (names-other k z) ∙ e))))
+
+  put-alike : Alike (wrote s p q i o x ks ws n) (wrote t p q i o y kt wt m)
+  put-alike =
+      record {
+        long = put-long (s .code) p o x ∙ a .long ∙ sym (put-long (t .code) p o y);
+        dead = ap (λ (d : List ℕ). set (set d q 1) i 1) (a .dead);
+        ops = λ k.
+            cases k p (λ z. rw z (put-here (s .code) p o x h ∙ sym (put-here (t .code) p o y h′)))
+            (λ z. put-other (s .code) p o x k z ∙ a .ops k ∙ sym (put-other (t .code) p o y k z));
+        marks = λ k.
+            cases k p (λ z. rw z (mark-here (s .code) p o x h ∙ sym (mark-here (t .code) p o y h′)))
+            (λ z. mark-other (s .code) p o x k z ∙ a .marks k ∙ sym (mark-other (t .code) p o y k z));
+        plain = wrote-plain;
+        loads = wrote-loads;
+        consts = λ k e.
+            cases k p
+            (λ z. rw z (names-here ∙ sym (ap (λ (u : ℕ). eqb u LoadConst) (put-here (s .code) p o x h)) ∙ (rw z at e)))
+            (λ z. names-other k z ∙ a .consts k (sym (ap (λ (u : ℕ). eqb u LoadConst) (put-other (s .code) p o x k z)) ∙ e));
+        apart = λ k e.
+            cases k p
+            (λ z. rw z (ap jumpMark (mark-here (s .code) p o x h) ∙ jumps-of o))
+            (λ z. ap jumpMark (mark-other (s .code) p o x k z) ∙ a .apart k (sym (names-other k z) ∙ e));
+      }
+
+-- ---- both chunks, with their pools
+
+pub record Sim (s t : Chunk) : Type 0 where
+  pub alike : Alike s t
+  pub pools : Pools (s .kinds) (s .words) (s .constants) (t .kinds) (t .words) (t .constants)
+
+abbrev pub settled : Stored → (p q i : ℕ) → Chunk → Chunk
+settled r p q i s = landed (loadOf (r .kept)) (r .kinds) (r .words) p q i s
+
+settled-at : (r : Stored) (x n : ℕ) (ks ws : List ℕ) (p q i : ℕ) (s : Chunk) → stored (At x n) ks ws ≡ r → settled r p q i s ≡ wrote s p q i LoadConst x ks ws n
+unfolding landed
+settled-at r x n ks ws p q i s e = rw (← e)
+
+module _ {s t : Chunk} (z : Sim s t) (p q i : ℕ) (h : p < count (s .code)) where
+  module _ (few : s .constants < 65535) (a : s .constants < length (s .kinds)) (b : s .constants < length (s .words)) (c : t .constants < length (t .kinds))
+      (d : t .constants < length (t .words)) where
+    pool-sim : (k w : ℕ) → Sim (settled (findOrPush (s .kinds) (s .words) (s .constants) k w) p q i s) (settled (findOrPush (t .kinds) (t .words) (t .constants) k w) p q i t)
+    pool-sim k w =
+        let r = stepped (s .kinds) (s .words) (s .constants) (t .kinds) (t .words) (t .constants) k w (z .pools) few a b c d in
+        rw (settled-at _ (r .x) (r .n′) (r .ks′) (r .ws′) p q i s (r .in-s), settled-at _ (r .y) (r .m′) (r .kt′) (r .wt′) p q i t (r .in-t))
+        (record {
+          alike =
+              put-alike (z .alike) p q i LoadConst (r .x) (r .y) h (r .ks′) (r .ws′) (r .n′) (r .kt′) (r .wt′) (r .m′) (r .grew-s) (r .grew-t)
+              (λ e. record { there = r .there; here = r .here; kind = r .kind; word = r .word }) (λ e. absurd (false≢true (sym e)));
+          pools = r .pools;
+        })
+
+  truth-sim : (o : ℕ) → eqb o LoadConst ≡ false → Sim (wrote s p q i o 0 (s .kinds) (s .words) (s .constants)) (wrote t p q i o 0 (t .kinds) (t .words) (t .constants))
+  truth-sim o e =
+      record {
+        alike =
+            put-alike (z .alike) p q i o 0 0 h (s .kinds) (s .words) (s .constants) (t .kinds) (t .words) (t .constants) (grew-none (s .kinds) (s .words) (s .constants))
+            (grew-none (t .kinds) (t .words) (t .constants)) (λ f. absurd (false≢true (sym e ∙ f))) (λ f. refl);
+        pools = z .pools;
+      }
+
+  put-sim : (v : Val) → s .constants < 65535 → s .constants < length (s .kinds) → s .constants < length (s .words) → t .constants < length (t .kinds) → t .constants < length (t .words)
+      → Sim (applied (Put p q v) i s) (applied (Put p q v) i t)
+  unfolding applied landed constLoad findOrPushConst
+  put-sim (Int x) few a b c d = pool-sim few a b c d 1 (ofZ w64 x)
+  put-sim (Real x) few a b c d = pool-sim few a b c d 2 (toBits binary64 x)
+  put-sim (Truth true) few a b c d = truth-sim LoadTrue refl
+  put-sim (Truth false) few a b c d = truth-sim LoadFalse refl
+
+-- one attempt
+module _ (strict : Bool) (i : ℕ) (s : Chunk) where
+  pub try-live : (plan : Plan) → eqb (getD (s .dead) i 0) 0 ≡ true → planAt strict i s ≡ plan → tryFold strict i s ≡ applied plan i s
+  unfolding tryFold
+  try-live plan e f = rw e (ap (λ (x : Plan). applied x i s) f)
+
+  pub try-dead : eqb (getD (s .dead) i 0) 0 ≡ false → tryFold strict i s ≡ s
+  unfolding tryFold
+  try-dead e = rw e
+
+applied-sim : (strict : Bool) (i : ℕ) (s t : Chunk) → Sim s t → s .constants < 65535 → Ready s i → Ready t i → (plan : Plan) → planAt strict i s ≡ plan → planAt strict i t ≡ plan
+    → Sim (applied plan i s) (applied plan i t)
+unfolding applied
+applied-sim strict i s t z few r r′ Stay e f = z
+applied-sim strict i s t z few r r′ (Put p q v) e f =
+    let x = planned strict i s e in
+    let y = planned strict i t f in
+    let m = r .room (x .operator) in
+    let m′ = r′ .room (y .operator) in
+    let w = fewer (z .pools) in
+    put-sim z p q i (omega (arith, x .first, r .readable .here)) v few (m .kinds-more few) (m .words-more few) (m′ .kinds-more (omega arith)) (m′ .words-more (omega arith))
+
+pub try-sim : (strict : Bool) (i : ℕ) (s t : Chunk) → Sim s t → s .constants < 65535 → Ready s i → Ready t i → Sim (tryFold strict i s) (tryFold strict i t)
+try-sim strict i s t z few r r′ = go (eqb (getD (s .dead) i 0) 0) refl
+  where
+    go : (b : Bool) → eqb (getD (s .dead) i 0) 0 ≡ b → Sim (tryFold strict i s) (tryFold strict i t)
+    go true e =
+        let f : eqb (getD (t .dead) i 0) 0 ≡ true = ap (λ (d : List ℕ). eqb (getD d i 0) 0) (sym (z .alike .dead)) ∙ e in
+        let plan = planAt strict i t in
+        let g = plan-same (z .alike) strict i in
+        rw (try-live strict i s plan e g, try-live strict i t plan f refl) (applied-sim strict i s t z few r r′ plan g refl)
+    go false e =
+        let f : eqb (getD (t .dead) i 0) 0 ≡ false = ap (λ (d : List ℕ). eqb (getD d i 0) 0) (sym (z .alike .dead)) ∙ e in
+        rw (try-dead strict i s e, try-dead strict i t f) z

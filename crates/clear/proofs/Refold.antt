@@ -1,0 +1,296 @@
+-- Folding a cleared chunk does what folding it uncleared does: instruction by instruction the same opcode, marks, dead mark and load.
+-- Where the uncleared pool reaches 65,535 the cleared one may fold more. Assumes nothing.
+use Prim.Native.Nat.{ℕ, zero, suc, _+_, _-_, _*_, _/_, _%_, _≤_, _<_}
+use native.Mathlib.Nat.{le-refl}
+use native.Mathlib.Omega.{arith}
+use native.Mathlib.Numerals.{add-one}
+use mathlib.Core.Path.{_≡_, refl, sym, ap, _∙_}
+use mathlib.Core.Bool.{Bool, true, false, cond, not, _&&_, _||_, false≢true}
+use mathlib.Core.List.{List}
+use lib.Dec.{eqb, ltb, leb}
+use lib.ListN.{length, getD, set, length-set, List·getD-eq-default}
+use mir.Syntax.{w64}
+use mir.Val.{ofZ}
+use lib.Ieee.{binary64, toBits}
+use borrow.Author.Tests.{ltb-true, ltb-false, not-false}
+use Rattle.laws.proofs.Branch.{and-true, or-false}
+use Rattle.laws.proofs.Walk.{none-passed}
+use Rattle.code.specs.Op.{last, LoadConst, Phi}
+use Rattle.code.specs.declared.Refusal.the-variants.{Length, Record}
+use Rattle.code.specs.declared.Checked.the-variants.{Count}
+use Rattle.lent.specs.Chunk.{stride, count, opAt, markAt, operandAt, names, folds, jumpKept, namesKept, rules, breaksAt}
+use Rattle.lent.specs.Check.{uneven, firstBad, checkOf}
+use Rattle.values.specs.declared.Val.{Val}
+use Rattle.values.specs.declared.Val.the-variants.{Int, Float as Real, Bool as Truth}
+use Rattle.chunk.specs.Pool.{position, stored, findOrPush, findOrPushConst}
+use Rattle.chunk.specs.declared.Kept.the-variants.{At, Full}
+use Rattle.fold.specs.Plan.{Chunk, chunk, planAt}
+use Rattle.fold.specs.Pass.{constLoad, put, landed, applied, tryFold, folded, foldAll, Lent}
+use Rattle.fold.specs.declared.Plan.{Plan}
+use Rattle.fold.specs.declared.Plan.the-variants.{Stay, Put}
+use Rattle.fold.proofs.Grown.{put-long, Held, held-none, held-more, held-ready}
+use Rattle.clear.specs.Unused.{named, before, pooled, recoded}
+use Rattle.clear.proofs.Kept.{named-by, in-order, onto, pooled-kept}
+use Rattle.clear.proofs.Loads.{recoded-length, recoded-count, recoded-op, recoded-mark, unmarked-stays, near-moves}
+use Rattle.clear.proofs.Tested.{check-met, whole-of, never}
+use Rattle.clear.proofs.Room.{clearedChunk, room-after}
+use Rattle.clear.proofs.Alike.{SameLoad, Alike}
+use Rattle.clear.proofs.Pools.{Pools}
+use Rattle.clear.proofs.Attempts.{Sim, settled, try-live, try-dead, try-sim}
+
+-- ---- lengths stay, and the count never falls
+
+record Long (s t : Chunk) : Type 0 where
+  code : length (t .code) ≡ length (s .code)
+  dead : length (t .dead) ≡ length (s .dead)
+  kinds : length (t .kinds) ≡ length (s .kinds)
+  words : length (t .words) ≡ length (s .words)
+  more : s .constants ≤ t .constants
+
+long-same : (s : Chunk) → Long s s
+long-same s = record { code = refl; dead = refl; kinds = refl; words = refl; more = omega arith }
+
+module _ (p q i : ℕ) (s : Chunk) where
+  long-wrote : (o x : ℕ) (ks ws : List ℕ) (n : ℕ) → length ks ≡ length (s .kinds) → length ws ≡ length (s .words) → s .constants ≤ n
+      → Long s (chunk (put (s .code) p o x) (set (set (s .dead) q 1) i 1) ks ws n)
+  long-wrote o x ks ws n a b h =
+      record { code = put-long (s .code) p o x; dead = length-set (set (s .dead) q 1) i 1 ∙ length-set (s .dead) q 1; kinds = a; words = b; more = h }
+
+  long-pool : (k w : ℕ) → Long s (settled (findOrPush (s .kinds) (s .words) (s .constants) k w) p q i s)
+  unfolding findOrPush landed
+  long-pool k w = go (ltb (position (s .kinds) (s .words) (s .constants) k w) (s .constants)) (ltb (s .constants) 65535)
+    where
+      n : ℕ
+      n = s .constants
+
+      go : (a b : Bool)
+          → Long s
+          (settled
+          (cond a (stored (At (position (s .kinds) (s .words) n k w) n) (s .kinds) (s .words))
+          (cond b (stored (At n (n + 1)) (set (s .kinds) n k) (set (s .words) n w)) (stored Full (s .kinds) (s .words))))
+          p q i s)
+      go true b = long-wrote LoadConst (position (s .kinds) (s .words) n k w) (s .kinds) (s .words) n refl refl (omega arith)
+      go false true = long-wrote LoadConst n (set (s .kinds) n k) (set (s .words) n w) (n + 1) (length-set (s .kinds) n k) (length-set (s .words) n w) (omega arith)
+      go false false = long-same s
+
+  long-put : (v : Val) → Long s (applied (Put p q v) i s)
+  unfolding applied landed constLoad findOrPushConst
+  long-put (Int x) = long-pool 1 (ofZ w64 x)
+  long-put (Real x) = long-pool 2 (toBits binary64 x)
+  long-put (Truth true) = long-wrote _ 0 (s .kinds) (s .words) (s .constants) refl refl (omega arith)
+  long-put (Truth false) = long-wrote _ 0 (s .kinds) (s .words) (s .constants) refl refl (omega arith)
+
+long-applied : (plan : Plan) (i : ℕ) (s : Chunk) → Long s (applied plan i s)
+unfolding applied
+long-applied Stay i s = long-same s
+long-applied (Put p q v) i s = long-put p q i s v
+
+long-try : (strict : Bool) (i : ℕ) (s : Chunk) → Long s (tryFold strict i s)
+long-try strict i s = go (eqb (getD (s .dead) i 0) 0) refl
+  where
+    go : (b : Bool) → eqb (getD (s .dead) i 0) 0 ≡ b → Long s (tryFold strict i s)
+    go true e = rw (try-live strict i s (planAt strict i s) e refl) (long-applied (planAt strict i s) i s)
+    go false e = rw (try-dead strict i s e) (long-same s)
+
+-- ---- the pass
+
+module _ (strict : Bool) (s : Chunk) where
+  folded-next : (k : ℕ) → folded strict (suc k) s ≡ tryFold strict k (folded strict k s)
+  unfolding folded
+  folded-next k = refl
+
+  folded-none : folded strict 0 s ≡ s
+  unfolding folded
+  folded-none = refl
+
+  more-on : (d k : ℕ) → folded strict k s .constants ≤ folded strict (d + k) s .constants
+  more-on zero k = let e : 0 + k ≡ k = omega arith in rw e (omega arith)
+  more-on (suc d) k =
+      let e : suc d + k ≡ suc (d + k) = omega arith in
+      let l = long-try strict (d + k) (folded strict (d + k) s) in
+      rw (e, folded-next (d + k)) (omega (arith, more-on d k, l .more))
+
+  more-up : (k n : ℕ) → k ≤ n → folded strict k s .constants ≤ folded strict n s .constants
+  more-up k n h = let e : (n - k) + k ≡ n = omega arith in rw e at (more-on (n - k) k)
+
+  held-at : Lent s → (k : ℕ) → k ≤ count (s .code) → Held strict s (folded strict k s) k
+  held-at x zero h = rw folded-none (held-none strict s)
+  held-at x (suc k) h =
+      let g = held-at x k (omega arith) in
+      let l = long-try strict k (folded strict k s) in
+      let z = held-more g refl h x (tryFold strict k (folded strict k s)) refl (l .code) (l .dead) (l .kinds) (l .words) in
+      rw (folded-next k) (rw (add-one k) at z)
+
+all-is : (strict : Bool) (s : Chunk) (n : ℕ) → n ≡ count (s .code) → foldAll strict s ≡ folded strict n s
+unfolding foldAll
+all-is strict s n c = ap (λ (k : ℕ). folded strict k s) (sym c)
+
+sim-to : {a b a′ b′ : Chunk} → a ≡ a′ → b ≡ b′ → Sim a′ b′ → Sim a b
+sim-to e f z = rw (e, f) z
+
+before-it : (k n : ℕ) → suc k ≤ n → k ≤ n
+before-it k n h = omega arith
+
+before-end : (k n m : ℕ) → n ≡ m → suc k ≤ n → k ≤ m
+before-end k n m e h = omega arith
+
+below-limit : (a b : ℕ) → a ≤ b → b < 65535 → a < 65535
+below-limit a b h l = omega arith
+
+module _ (strict : Bool) (s t : Chunk) (n : ℕ) (c : n ≡ count (s .code)) (c′ : n ≡ count (t .code)) (x : Lent s) (y : Lent t) (few : folded strict n s .constants < 65535) (z : Sim s t) where
+  sim-at : (k : ℕ) → k ≤ n → Sim (folded strict k s) (folded strict k t)
+  sim-at zero h = sim-to (folded-none strict s) (folded-none strict t) z
+  sim-at (suc k) h =
+      let a = held-at strict s x k (before-end k n (count (s .code)) c h) in
+      let b = held-at strict t y k (before-end k n (count (t .code)) c′ h) in
+      let l = below-limit (folded strict k s .constants) (folded strict n s .constants) (more-up strict s k n (before-it k n h)) few in
+      sim-to (folded-next strict s k) (folded-next strict t k)
+      (try-sim strict k (folded strict k s) (folded strict k t) (sim-at k (before-it k n h)) l (held-ready a c h x) (held-ready b c′ h y))
+
+  sim-all : Sim (foldAll strict s) (foldAll strict t)
+  sim-all = sim-to (all-is strict s n c) (all-is strict t n c′) (sim-at n (le-refl n))
+
+-- ---- what the record rules say of an accepted chunk
+
+accepted-at : (n : ℕ) (w : List ℕ) → checkOf w ≡ Count n → (k : ℕ) → k < count w → rules (opAt w k) (markAt w k) ≡ true
+unfolding checkOf
+accepted-at n w e k h = go (uneven w) refl (ltb (firstBad w) (count w)) refl e
+  where
+    go : (u : Bool) → uneven w ≡ u → (b : Bool) → ltb (firstBad w) (count w) ≡ b → checkOf w ≡ Count n → rules (opAt w k) (markAt w k) ≡ true
+    go true f b g e = never n (Length (length w)) (sym (rw f at e))
+    go false f true g e = never n (Record (firstBad w)) (sym (rw (f, g) at e))
+    go false f false g e =
+        let l = ltb-false (firstBad w) (count w) g in
+        not-false (rules (opAt w k) (markAt w k)) (none-passed (breaksAt w) k (count w) 0 (omega arith) (omega arith) (omega arith))
+
+or-left : (a b : Bool) → not a || b ≡ true → a ≡ true → b ≡ true
+or-left true b e h = e
+or-left false b e h = absurd (false≢true h)
+
+not-or : (a b : Bool) → not (a || b) ≡ true → a ≡ false
+not-or true b e = absurd (false≢true e)
+not-or false b e = refl
+
+module _ (o marks : ℕ) (e : rules o marks ≡ true) where
+  abbrev jump : Bool
+  jump = eqb (marks % 2) 1
+
+  abbrev naming : Bool
+  naming = eqb (marks / 2 % 2) 1
+
+  kept : namesKept o jump naming ≡ true
+  unfolding rules
+  kept = and-true (leb o last && leb marks 3 && jumpKept o jump) (namesKept o jump naming) e .1
+
+  rule-const : eqb o LoadConst ≡ true → naming ≡ true
+  rule-const h = or-left (eqb o LoadConst) naming (and-true (not (eqb o LoadConst) || naming) (not naming || not (jump || eqb o Phi || folds o)) kept .0) h
+
+  rule-apart : naming ≡ true → jump ≡ false
+  rule-apart h =
+      let d = or-left naming (not (jump || eqb o Phi || folds o)) (and-true (not (eqb o LoadConst) || naming) (not naming || not (jump || eqb o Phi || folds o)) kept .1) h in
+      or-false jump (eqb o Phi) (not-or (jump || eqb o Phi) (folds o) d) .0
+
+-- ---- a chunk and the cleared one
+
+-- past the end there are zeros
+module _ (w : List ℕ) (k : ℕ) (long : length w ≡ stride * count w) (h : count w ≤ k) where
+  op-past : opAt w k ≡ 0
+  op-past = List·getD-eq-default w 0 (past 0)
+    where
+      past : (j : ℕ) → length w ≤ stride * k
+      past j = omega arith
+
+  mark-past : markAt w k ≡ 0
+  mark-past = List·getD-eq-default w 0 (past 1)
+    where
+      past : (j : ℕ) → length w ≤ stride * k + 1
+      past j = omega arith
+
+  operand-past : operandAt w k ≡ 0
+  operand-past = List·getD-eq-default w 0 (past 2)
+    where
+      past : (j : ℕ) → length w ≤ stride * k + 2
+      past j = omega arith
+
+in-or-past : {X : Type 0} (k n : ℕ) → (k < n → X) → (n ≤ k → X) → X
+in-or-past {X} k n y z = go (ltb k n) refl
+  where
+    go : (t : Bool) → ltb k n ≡ t → X
+    go true e = y (ltb-true k n e)
+    go false e = z (ltb-false k n e)
+
+-- every operand of an instruction with the mark names a constant that is there
+abbrev pub AllThere : List ℕ → ℕ → Type 0
+AllThere w m = (k : ℕ) → k < count w → names w k ≡ true → operandAt w k < m
+
+module _ (n : ℕ) (s : Chunk) (ok : checkOf (s .code) ≡ Count n) (there : AllThere (s .code) (s .constants)) where
+  abbrev w : List ℕ
+  w = s .code
+
+  abbrev m : ℕ
+  m = s .constants
+
+  abbrev w′ : List ℕ
+  w′ = recoded (before w) m w
+
+  long : length w ≡ stride * count w
+  long = whole-of w (check-met n w (sym ok))
+
+  long′ : length w′ ≡ stride * count w′
+  long′ = recoded-length (before w) m w ∙ ap (λ (x : ℕ). stride * x) (sym (recoded-count (before w) m w))
+
+  past′ : (k : ℕ) → count w ≤ k → count w′ ≤ k
+  past′ k h = rw (recoded-count (before w) m w) h
+
+  unmarked-past : (k : ℕ) → count w ≤ k → names w k ≡ true → ⊥
+  unmarked-past k h e = false≢true (sym (ap (λ (x : ℕ). eqb (x / 2 % 2) 1) (mark-past w k long h)) ∙ e)
+
+  start-load : (k : ℕ) → k < count w → names w k ≡ true → SameLoad s (clearedChunk s) (operandAt w k) (operandAt w′ k)
+  start-load k h e =
+      let v = operandAt w k in
+      let l = there k h e in
+      let y : named w v ≡ true = named-by w v k h e refl in
+      rw (near-moves (before w) m w k h e l)
+      (record {
+        there = l;
+        here = in-order (named w) v m l y;
+        kind = sym (pooled-kept (named w) m (s .kinds) v l y);
+        word = sym (pooled-kept (named w) m (s .words) v l y);
+      })
+
+  start-alike : Alike s (clearedChunk s)
+  start-alike =
+      record {
+        long = long ∙ sym (recoded-length (before w) m w);
+        dead = refl;
+        ops = λ k. in-or-past k (count w) (λ h. sym (recoded-op (before w) m w k h)) (λ h. op-past w k long h ∙ sym (op-past w′ k long′ (past′ k h)));
+        marks = λ k. in-or-past k (count w) (λ h. sym (recoded-mark (before w) m w k h)) (λ h. mark-past w k long h ∙ sym (mark-past w′ k long′ (past′ k h)));
+        plain = λ k e.
+            in-or-past k (count w) (λ h. sym (unmarked-stays (before w) m w k h e)) (λ h. operand-past w k long h ∙ sym (operand-past w′ k long′ (past′ k h)));
+        loads = λ k e. in-or-past k (count w) (λ h. start-load k h e) (λ h. absurd (unmarked-past k h e));
+        consts = λ k e.
+            in-or-past k (count w) (λ h. rule-const (opAt w k) (markAt w k) (accepted-at n w ok k h) e)
+            (λ h. absurd (false≢true (sym (ap (λ (x : ℕ). eqb x LoadConst) (op-past w k long h)) ∙ e)));
+        apart = λ k e. in-or-past k (count w) (λ h. rule-apart (opAt w k) (markAt w k) (accepted-at n w ok k h) e) (λ h. absurd (unmarked-past k h e));
+      }
+
+  start-pools : Pools (s .kinds) (s .words) m (pooled (named w) m (s .kinds)) (pooled (named w) m (s .words)) (before w m)
+  start-pools =
+      record {
+        used = named w;
+        count = refl;
+        forth = λ i h e. record { at = before w i; inside = in-order (named w) i m h e; kind = pooled-kept (named w) m (s .kinds) i h e; word = pooled-kept (named w) m (s .words) i h e };
+        back = λ j h.
+            let p = onto (named w) m j h in
+            record {
+              at = p .place;
+              inside = p .below;
+              kind = sym (pooled-kept (named w) m (s .kinds) (p .place) (p .below) (p .passes)) ∙ ap (λ (x : ℕ). getD (pooled (named w) m (s .kinds)) x 0) (p .number);
+              word = sym (pooled-kept (named w) m (s .words) (p .place) (p .below) (p .passes)) ∙ ap (λ (x : ℕ). getD (pooled (named w) m (s .words)) x 0) (p .number);
+            };
+      }
+
+  -- folding before and after
+  pub refold : (strict : Bool) → Lent s → foldAll strict s .constants < 65535 → Alike (foldAll strict s) (foldAll strict (clearedChunk s))
+  refold strict x few =
+      sim-all strict s (clearedChunk s) (count w) refl (sym (recoded-count (before w) m w)) x (room-after s x) (rw (all-is strict s (count w) refl) at few) (record { alike = start-alike; pools = start-pools }) .alike

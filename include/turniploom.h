@@ -35,8 +35,9 @@ enum turniploom_refusal {
 /* Marks of an instruction: six words, opcode, marks, a, b, c, x. */
 enum turniploom_mark { TURNIPLOOM_WIDE = 1, TURNIPLOOM_DUNDER = 2, TURNIPLOOM_IS_REGISTER = 4 };
 
-/* The mark of a chunk's instruction: three words, opcode, marks, operand. */
-enum turniploom_chunk_mark { TURNIPLOOM_IS_JUMP = 1 };
+/* The marks of a chunk's instruction: three words, opcode, marks, operand. Every LoadConst names a constant; a jump, a Phi and a
+ * folding operator never do. */
+enum turniploom_chunk_mark { TURNIPLOOM_IS_JUMP = 1, TURNIPLOOM_NAMES_CONSTANT = 2 };
 
 /* The kind of a constant. */
 enum turniploom_kind { TURNIPLOOM_OTHER = 0, TURNIPLOOM_INT = 1, TURNIPLOOM_FLOAT = 2, TURNIPLOOM_BOOL = 3 };
@@ -78,6 +79,11 @@ turniploom_answer turniploom_fold(uint16_t *code, size_t code_len, uint8_t *kind
                                   size_t phi_sources_len, size_t phi_sources_count, uint32_t *stmt_pos, size_t stmt_pos_len,
                                   size_t stmt_pos_count, uint32_t *call_byte_pos, size_t call_byte_pos_len, size_t call_byte_pos_count,
                                   uint8_t *dead, size_t dead_len, uint32_t *remap, size_t remap_len, bool strict);
+
+/* Clearing: the new count of constants. Those that no instruction names are dropped, the others keep their order, what names them is
+ * renumbered, and freed entries are 0. scratch needs as many entries as there are constants. */
+turniploom_answer turniploom_clear(uint16_t *code, size_t code_len, uint8_t *kinds, size_t kinds_len, uint64_t *words, size_t words_len,
+                                   size_t constants, uint32_t *scratch, size_t scratch_len);
 
 /* Opcode numbers, as docs/OPCODES.md lists them. 0 is any other. */
 enum turniploom_opcode {

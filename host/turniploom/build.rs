@@ -3,9 +3,9 @@
 use std::{env, path::{Path, PathBuf}, process::Command};
 
 /// The calls, each exported as `turniploom_NAME`.
-const CALLS: [&str; 19] = [
+const CALLS: [&str; 20] = [
     "kinds", "role", "field", "writes", "pure", "flat", "guarded", "returns", "params_written", "passed", "gen_pure", "dead_phi",
-    "loops_around", "targets", "global_of", "pushed_back", "stack_callee", "kept", "fold",
+    "loops_around", "targets", "global_of", "pushed_back", "stack_callee", "kept", "fold", "clear",
 ];
 
 fn main() {

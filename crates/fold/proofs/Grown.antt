@@ -19,7 +19,7 @@ use Rattle.chunk.specs.declared.Kept.{Kept}
 use Rattle.chunk.specs.declared.Kept.the-variants.{At, Full}
 use Rattle.chunk.proofs.Store.{kept-few}
 use Rattle.fold.specs.Plan.{Chunk, planAt}
-use Rattle.fold.specs.Pass.{Loading, loadOf, constLoad, put, landed, applied, tryFold, folded, foldAll, Readable, Ready, Lent}
+use Rattle.fold.specs.Pass.{Loading, loadOf, constLoad, markOf, put, landed, applied, tryFold, folded, foldAll, Readable, Ready, Lent}
 use Rattle.fold.specs.declared.Loaded.{Loaded}
 use Rattle.fold.specs.declared.Loaded.the-variants.{As, No}
 use Rattle.fold.specs.declared.Plan.{Plan}
@@ -36,15 +36,15 @@ pub record Grown (s t : Chunk) (i : ℕ) : Type 0 where
 pub put-other : (w : List ℕ) (p o x k : ℕ) → (k ≡ p → ⊥) → opAt (put w p o x) k ≡ opAt w k
 unfolding put
 put-other w p o x k h =
-    getD-set-other (set (set w (stride * p) o) (stride * p + 1) 0) (stride * p + 2) (stride * k) x 0 (λ e. omega arith)
-    ∙ getD-set-other (set w (stride * p) o) (stride * p + 1) (stride * k) 0 0 (λ e. omega arith)
+    getD-set-other (set (set w (stride * p) o) (stride * p + 1) (markOf o)) (stride * p + 2) (stride * k) x 0 (λ e. omega arith)
+    ∙ getD-set-other (set w (stride * p) o) (stride * p + 1) (stride * k) (markOf o) 0 (λ e. omega arith)
     ∙ getD-set-other w (stride * p) (stride * k) o 0 (λ e. h (omega arith))
 
 pub put-here : (w : List ℕ) (p o x : ℕ) → p < count w → opAt (put w p o x) p ≡ o
 unfolding put
 put-here w p o x h =
-    getD-set-other (set (set w (stride * p) o) (stride * p + 1) 0) (stride * p + 2) (stride * p) x 0 (λ e. omega arith)
-    ∙ getD-set-other (set w (stride * p) o) (stride * p + 1) (stride * p) 0 0 (λ e. omega arith)
+    getD-set-other (set (set w (stride * p) o) (stride * p + 1) (markOf o)) (stride * p + 2) (stride * p) x 0 (λ e. omega arith)
+    ∙ getD-set-other (set w (stride * p) o) (stride * p + 1) (stride * p) (markOf o) 0 (λ e. omega arith)
     ∙ getD-set-same w (stride * p) o 0 (omega arith)
 
 pub put-long : (w : List ℕ) (p o x : ℕ) → length (put w p o x) ≡ length w

@@ -4,4 +4,3 @@ pub mod Ways
 pub mod Planned
 pub mod Grown
 pub mod Passed
-pub mod Marked

@@ -43,9 +43,14 @@ constLoad (Int z) kinds words n = fromPool (findOrPushConst kinds words n (Int z
 constLoad (Real x) kinds words n = fromPool (findOrPushConst kinds words n (Real x))
 constLoad (Truth b) kinds words n = loading (As (cond b LoadTrue LoadFalse) 0 n) kinds words
 
--- an instruction with no mark, at p
+-- LoadConst has 'names a constant', bit 1; LoadTrue and LoadFalse drop it
+unfoldable pub markOf : ℕ → ℕ
+markOf o = cond (eqb o LoadConst) 2 0
+
+-- a load with its mark, at p
 unfoldable pub put : List ℕ → ℕ → ℕ → ℕ → List ℕ
-put w p o x = set (set (set w (stride * p) o) (stride * p + 1) 0) (stride * p + 2) x
+unfolding markOf
+put w p o x = set (set (set w (stride * p) o) (stride * p + 1) (markOf o)) (stride * p + 2) x
 
 -- the result stands in the first operand's place; the operator and any second operand die
 unfoldable pub landed : Loaded → List ℕ → List ℕ → ℕ → ℕ → ℕ → Chunk → Chunk

@@ -12,7 +12,7 @@ ghost use Rattle.lent.specs.Chunk.{count};
 ghost use Rattle.values.specs.Folds.{Sound};
 ghost use Rattle.chunk.specs.Pool.{Room, findOrPushConst};
 ghost use Rattle.fold.specs.Plan.{chunk, kindOf, prevLive, operandOf, lands, skipsInto, landsAny, blocked, foldUnary, tryFoldBinop, tryFoldUnary, planAt};
-ghost use Rattle.fold.specs.Pass.{loading, fromPool, constLoad, put, applied, tryFold, foldAll, Readable, Ready, Lent};
+ghost use Rattle.fold.specs.Pass.{loading, fromPool, constLoad, markOf, put, applied, tryFold, foldAll, Readable, Ready, Lent};
 
 // A position, where there is one.
 pub enum Found {
@@ -311,13 +311,23 @@ fn apply(
     more
 }
 
-// An instruction with no mark.
+// The marks of a load: LoadConst names a constant.
+fn marks_of(o: u16) -> u16
+    ensures { λ r. ⌜ r ≡ markOf o ⌝ }
+{
+    if o == LoadConst {
+        return 2;
+    }
+    0
+}
+
+// A load with its mark.
 fn put_at(code: &mut [u16], p: usize, o: u16, x: u16)
     requires { ⌜ p < count (now code) ⌝ }
     ensures { λ _. ⌜ now (code .exit) ≡ put (now (code .entry)) p o x ⌝ }
 {
     code[STRIDE * p] = o;
-    code[STRIDE * p + 1] = 0;
+    code[STRIDE * p + 1] = marks_of(o);
     code[STRIDE * p + 2] = x;
 }
 

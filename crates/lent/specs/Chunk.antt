@@ -27,6 +27,10 @@ operandAt w k = getD w (stride * k + 2) 0
 abbrev pub jumps : List ℕ → ℕ → Bool
 jumps w k = eqb (markAt w k % 2) 1
 
+-- mark bit 1, 'names a constant'
+abbrev pub names : List ℕ → ℕ → Bool
+names w k = eqb (markAt w k / 2 % 2) 1
+
 abbrev pub isPhi : List ℕ → ℕ → Bool
 isPhi w k = eqb (opAt w k) Phi
 
@@ -43,9 +47,17 @@ folds o =
     || eqb o Not
     || eqb o Minus
 
--- opcode known, marks only bit 0, and the jump mark not on LoadConst, Phi or a folding operator
+-- the jump mark is not on LoadConst, Phi or a folding operator
+abbrev pub jumpKept : ℕ → Bool → Bool
+jumpKept o jump = not jump || not (eqb o LoadConst || eqb o Phi || folds o)
+
+-- 'names a constant' is not missing on LoadConst, nor set on a jump, a Phi or a folding operator
+abbrev pub namesKept : ℕ → Bool → Bool → Bool
+namesKept o jump named = (not (eqb o LoadConst) || named) && (not named || not (jump || eqb o Phi || folds o))
+
+-- opcode known, marks only bits 0 and 1, and each of the two marks as above
 unfoldable pub rules : ℕ → ℕ → Bool
-rules o marks = leb o last && leb marks 1 && (not (eqb (marks % 2) 1) || not (eqb o LoadConst || eqb o Phi || folds o))
+rules o marks = leb o last && leb marks 3 && jumpKept o (eqb (marks % 2) 1) && namesKept o (eqb (marks % 2) 1) (eqb (marks / 2 % 2) 1)
 
 abbrev pub breaksAt : List ℕ → ℕ → Bool
 breaksAt w k = not (rules (opAt w k) (markAt w k))

@@ -5,7 +5,7 @@ ghost use Prim.Native.Nat.{_^_, _<_, _≤_};
 ghost use lib.ListN.{length};
 ghost use mir.Val.{boolByte};
 ghost use Rattle.laws.specs.All.{every};
-ghost use Rattle.lent.specs.Chunk.{count, opAt, markAt, operandAt, jumps, folds, rules};
+ghost use Rattle.lent.specs.Chunk.{count, opAt, markAt, operandAt, jumps, names, folds, rules};
 ghost use Rattle.lent.specs.Tables.{constantKept, constantsKept, mapKept, pairsKept, tableOf};
 ghost use Rattle.lent.specs.Check.{firstBad, checkOf, tablesOf, tallyOf, constantRoom, sourceRoom, roomsOf, readyOf};
 use code::Checked;
@@ -74,6 +74,14 @@ pub fn is_jump(code: &[u16], k: usize) -> bool
     mark_at(code, k) % 2 == 1
 }
 
+// Whether instruction k names a constant.
+pub fn names_constant(code: &[u16], k: usize) -> bool
+    requires { ⌜ k < count (now code) ⌝ }
+    ensures { λ r. ⌜ r ≡ names (now (code .entry)) k ⌝ }
+{
+    mark_at(code, k) / 2 % 2 == 1
+}
+
 // Whether an opcode is a folding operator.
 pub fn is_folding(o: u16) -> bool
     ensures { λ r. ⌜ r ≡ folds o ⌝ }
@@ -104,8 +112,11 @@ fn breaks(o: u16, marks: u16) -> bool
     ensures { λ r. ⌜ r ≡ not (rules o marks) ⌝ }
 {
     let jump = marks % 2 == 1;
-    let bare = (o == LoadConst) | (o == Phi) | is_folding(o);
-    let kept = (o <= LAST) & (marks <= 1) & (!jump | !bare);
+    let named = marks / 2 % 2 == 1;
+    let folding = is_folding(o);
+    let jump_kept = !jump | !((o == LoadConst) | (o == Phi) | folding);
+    let names_kept = ((o != LoadConst) | named) & (!named | !(jump | (o == Phi) | folding));
+    let kept = (o <= LAST) & (marks <= 3) & jump_kept & names_kept;
     !kept
 }
 
@@ -158,7 +169,7 @@ fn each_kept(kinds: &[u8], words: &[u64], constants: usize) -> bool
 }
 
 // Whether the constants keep their rule.
-fn constants_kept(kinds: &[u8], words: &[u64], constants: usize) -> bool
+pub fn constants_kept(kinds: &[u8], words: &[u64], constants: usize) -> bool
     ensures { λ r. ⌜ r ≡ constantsKept (now (kinds .entry)) (now (words .entry)) constants ⌝ }
 {
     let within = (constants <= 65536) & (constants <= kinds.len()) & (constants <= words.len());
@@ -169,7 +180,7 @@ fn constants_kept(kinds: &[u8], words: &[u64], constants: usize) -> bool
 }
 
 // Refusal 7 for one table.
-fn table(v: Checked, number: u8, kept: bool) -> Checked
+pub fn table(v: Checked, number: u8, kept: bool) -> Checked
     ensures { λ r. ⌜ r ≡ tableOf v number kept ⌝ }
 {
     match v {

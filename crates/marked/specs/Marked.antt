@@ -61,10 +61,15 @@ RefusesTry regs w tries = (rows offsets list : List ℕ) → call.Outcome w regs
 abbrev pub minus : ℕ → ℤ
 minus n = negℤ (pos n)
 
--- an instruction of a chunk without a mark, and a jump
+-- an instruction of a chunk without a mark
 abbrev pub plain : ℕ → ℕ → List ℕ
 plain o x = o ∷ 0 ∷ x ∷ []
 
+-- a LoadConst, which names a constant
+abbrev pub load : ℕ → List ℕ
+load x = op.LoadConst ∷ 2 ∷ x ∷ []
+
+-- a jump
 abbrev pub jump : ℕ → List ℕ
 jump x = op.Jump ∷ 1 ∷ x ∷ []
 
@@ -81,7 +86,7 @@ leaves instructions constants code kinds words map dead remap =
 
 -- the code of P13
 abbrev pub code13 : List ℕ
-code13 = plain op.LoadConst 0 ++ plain op.LoadConst 1 ++ plain op.Add 0 ++ jump 2
+code13 = load 0 ++ load 1 ++ plain op.Add 0 ++ jump 2
 
 pub record Marked : Type 0 where
   -- rows of K: 0, 0, 3, 1, 5, 8, 0; kept at 2: [0]; callee binding 9; one sweep
@@ -110,10 +115,10 @@ pub record Marked : Type 0 where
   pub p11 : (foldBinop Div (Int (pos 7)) (Int (pos 2)) ≡ Nothing)
       × (foldBinop Div (Int (pos 7)) (Real (ofBits binary64 0x4000_0000_0000_0000)) ≡ Is (Real (ofBits binary64 0x400c_0000_0000_0000)))
   -- Minus on 0.0 pushes a second constant
-  pub p12 : called false (plain op.LoadConst 0 ++ plain op.Minus 0) (2 ∷ 9 ∷ []) (0 ∷ 9 ∷ []) 1
-      ≡ leaves 1 2 (plain op.LoadConst 1 ++ replicate 3 0) (2 ∷ 2 ∷ []) (0 ∷ 0x8000_0000_0000_0000 ∷ []) (0 ∷ 0 ∷ []) (0 ∷ 1 ∷ []) (0 ∷ 1 ∷ 1 ∷ [])
+  pub p12 : called false (load 0 ++ plain op.Minus 0) (2 ∷ 9 ∷ []) (0 ∷ 9 ∷ []) 1
+      ≡ leaves 1 2 (load 1 ++ replicate 3 0) (2 ∷ 2 ∷ []) (0 ∷ 0x8000_0000_0000_0000 ∷ []) (0 ∷ 0 ∷ []) (0 ∷ 1 ∷ []) (0 ∷ 1 ∷ 1 ∷ [])
   -- pool 2 and 3: becomes LoadConst 2; jump 1. In strict mode nothing folds
   pub p13 : (called false code13 (1 ∷ 1 ∷ 9 ∷ []) (2 ∷ 3 ∷ 9 ∷ []) 2
-      ≡ leaves 2 3 (plain op.LoadConst 2 ++ jump 1 ++ replicate 6 0) (1 ∷ 1 ∷ 1 ∷ []) (2 ∷ 3 ∷ 5 ∷ []) (replicate 4 0) (0 ∷ 1 ∷ 1 ∷ 0 ∷ []) (0 ∷ 1 ∷ 1 ∷ 1 ∷ 2 ∷ []))
+      ≡ leaves 2 3 (load 2 ++ jump 1 ++ replicate 6 0) (1 ∷ 1 ∷ 1 ∷ []) (2 ∷ 3 ∷ 5 ∷ []) (replicate 4 0) (0 ∷ 1 ∷ 1 ∷ 0 ∷ []) (0 ∷ 1 ∷ 1 ∷ 1 ∷ 2 ∷ []))
       × (called true code13 (1 ∷ 1 ∷ 9 ∷ []) (2 ∷ 3 ∷ 9 ∷ []) 2
       ≡ leaves 4 2 code13 (1 ∷ 1 ∷ 9 ∷ []) (2 ∷ 3 ∷ 9 ∷ []) (room 4) (replicate 4 0) (room 5))

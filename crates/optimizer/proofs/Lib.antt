@@ -1,5 +1,6 @@
+pub mod Again
 pub mod Anew
 pub mod Idle
-pub mod Marked
+pub mod Examples
 pub mod Tested
 pub mod Whole

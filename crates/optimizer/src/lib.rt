@@ -1,6 +1,6 @@
 // The folding call over one chunk: refusals, folding, the Phi pass and compaction under one statement.
 ghost use mathlib.Core.Path.{_≡_};
-ghost use Prim.Native.Nat.{_+_, _*_, _%_, _≤_};
+ghost use Prim.Native.Nat.{_+_, _*_, _≤_};
 ghost use lib.ListN.{length, take, replicate};
 ghost use Rattle.laws.specs.All.{many};
 ghost use Rattle.lent.specs.Chunk.{stride, count, isPhi};

@@ -30,6 +30,10 @@ use Rattle.lent.specs.declared.Counts.{Counts}
 use Rattle.optimizer.specs.Fold.{Buffers, outcome, foldCall}
 use Rattle.optimizer.specs.declared.FoldAnswer.{FoldAnswer}
 use Rattle.optimizer.specs.declared.FoldAnswer.the-variants as fold
+use Rattle.clear.specs.Clear as clearing
+use Rattle.clear.specs.Clear.{clearCall}
+use Rattle.clear.specs.declared.ClearAnswer.{ClearAnswer}
+use Rattle.clear.specs.declared.ClearAnswer.the-variants as clear
 use Rattle.kept.specs.Answers.{Outcome}
 use Rattle.kept.specs.declared.KeptAnswer.{KeptAnswer}
 use Rattle.kept.specs.declared.KeptAnswer.the-variants as kept
@@ -116,3 +120,11 @@ foldTold (fold.No r) = refusedOf r
 
 abbrev pub FoldTold : Bool → Buffers → Counts → Answer → Buffers → Type 0
 FoldTold strict b c r b′ = By foldTold (λ v. outcome v b′ ≡ foldCall strict b c) r
+
+-- the new count of constants
+abbrev pub clearTold : ClearAnswer → Answer
+clearTold (clear.Is m) = answerOf m 0 0 0
+clearTold (clear.No r) = refusedOf r
+
+abbrev pub ClearTold : clearing.Buffers → ℕ → Answer → clearing.Buffers → Type 0
+ClearTold b m r b′ = By clearTold (λ v. clearing.outcome v b′ ≡ clearCall b m) r

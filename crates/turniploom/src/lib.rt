@@ -4,11 +4,13 @@ ghost use Rattle.roles.specs.Answers.{kindsAnswer, roleAnswer, fieldAnswer, wri
 ghost use Rattle.walks.specs.Answers.{pureAnswer, flatAnswer, guardedAnswer, returnsAnswer};
 ghost use Rattle.surveys.specs.Answers.{writtenAnswer, passedAnswer};
 ghost use Rattle.callee.specs.Answers.{globalAnswer, pushAnswer, stackAnswer};
-ghost use Rattle.turniploom.specs.Answers.{truthTold, kindsTold, roleTold, fieldTold, bitsTold, filledTold, TargetsTold, LoopsTold, DeadTold, GenTold, globalTold, pushTold, stackTold, keptTold as keptAnswered, KeptTold, foldTold, FoldTold};
+ghost use Rattle.turniploom.specs.Answers.{truthTold, kindsTold, roleTold, fieldTold, bitsTold, filledTold, TargetsTold, LoopsTold, DeadTold, GenTold, globalTold, pushTold, stackTold, keptTold as keptAnswered, KeptTold, foldTold, FoldTold, clearTold, ClearTold};
 ghost use Rattle.optimizer.specs.Fold.{buffers};
+ghost use Rattle.clear.specs.Clear.{buffers as clearable};
 use callee::GlobalAnswer;
 use callee::PushAnswer;
 use callee::StackAnswer;
+use clear::ClearAnswer;
 use code::Answer;
 use code::Told;
 use kept::KeptAnswer;
@@ -76,6 +78,16 @@ fn folded(a: FoldAnswer) -> Answer
             f.sources as u64,
         ),
         FoldAnswer::No(r) => code::refused(r),
+    }
+}
+
+// The count of constants that are left.
+fn cleared(a: ClearAnswer) -> Answer
+    ensures { λ r. ⌜ r ≡ clearTold a ⌝ }
+{
+    match a {
+        ClearAnswer::Is(left) => code::tell(left as u64, 0, 0, 0),
+        ClearAnswer::No(r) => code::refused(r),
     }
 }
 
@@ -279,4 +291,18 @@ pub extern "C" fn turniploom_fold(
         strict,
     );
     folded(a)
+}
+
+#[no_mangle]
+pub extern "C" fn turniploom_clear(
+    code: &mut [u16],
+    kinds: &mut [u8],
+    words: &mut [u64],
+    constants: usize,
+    scratch: &mut [u32],
+) -> Answer
+    ensures { λ r. ⌜ ClearTold (clearable (now (code .entry)) (now (kinds .entry)) (now (words .entry)) (now (scratch .entry))) constants r (clearable (now (code .exit)) (now (kinds .exit)) (now (words .exit)) (now (scratch .exit))) ⌝ }
+{
+    let a = clear::clear(code, kinds, words, constants, scratch);
+    cleared(a)
 }

@@ -42,7 +42,7 @@ pub fn sums(n: usize, new: bool) -> Question {
     let mut pool: Vec<i64> = if new { vec![] } else { (0..16).collect() };
     let load = |pool: &mut Vec<i64>, k: usize| {
         if new { pool.push(1_000_000 * k as i64) }
-        [LoadConst, 0, if new { pool.len() - 1 } else { k % 5 } as u16]
+        [LoadConst, 2, if new { pool.len() - 1 } else { k % 5 } as u16]
     };
     for k in 0.. {
         if code.len() + 7 > n { break }

@@ -2,7 +2,7 @@
 
 use crate::{count, missing, notation::{Chunk, constant_text, instruction_text}, refused::folds};
 use model::facts::fact;
-use turniploom::{JUMP, Refusal, op};
+use turniploom::{JUMP, NAMES, Refusal, op};
 
 /// A chunk before and after.
 pub struct View {
@@ -32,6 +32,8 @@ struct Folded {
     stmt_pos: Vec<u32>,
     call_byte_pos: Vec<u32>,
     pairs: usize,
+    /// The constants that the clearing call leaves of it, if the archive has that call.
+    shipped: Option<Vec<(u8, u64)>>,
 }
 
 impl View {
@@ -54,7 +56,7 @@ impl View {
 /// An instruction, with its constant beside it.
 fn shown(i: [u16; 3], constants: &[(u8, u64)]) -> String {
     match constants.get(i[2] as usize) {
-        Some(&(kind, word)) if i[0] == op::LoadConst => format!("{} ({})", instruction_text(i), constant_text(kind, word)),
+        Some(&(kind, word)) if i[1] & NAMES != 0 => format!("{} ({})", instruction_text(i), constant_text(kind, word)),
         _ => instruction_text(i),
     }
 }
@@ -77,15 +79,29 @@ fn fold(chunk: &Chunk) -> Result<Option<Folded>, Refusal> {
         &mut code, &mut kinds, &mut values, constants, &mut phi_map, chunk.phi_map.len(), &mut sources, chunk.phi_sources.len(), &mut stmts,
         stmt_count, &mut calls, call_count, &mut dead, &mut remap, chunk.strict,
     ).granted()?;
+    let code: Vec<[u16; 3]> = code.chunks(3).take(a.first as usize).map(|w| [w[0], w[1], w[2]]).collect();
+    let constants: Vec<(u8, u64)> = (0..a.second as usize).map(|k| (kinds[k], values[k])).collect();
     Ok(Some(Folded {
-        code: code.chunks(3).take(a.first as usize).map(|w| [w[0], w[1], w[2]]).collect(),
-        constants: (0..a.second as usize).map(|k| (kinds[k], values[k])).collect(),
+        shipped: shipped(&code, &constants)?,
+        code,
+        constants,
         dead: dead.iter().map(|&d| d != 0).collect(),
         stmt_pos: stmts,
         call_byte_pos: calls,
         pairs: a.fourth as usize / 2,
     }))
 }
+
+/// What the clearing call leaves of the constants.
+#[cfg(exported = "clear")]
+fn shipped(code: &[[u16; 3]], constants: &[(u8, u64)]) -> Result<Option<Vec<(u8, u64)>>, Refusal> {
+    let (mut kinds, mut values): (Vec<u8>, Vec<u64>) = constants.iter().copied().unzip();
+    let a = turniploom::abi::clear(&mut code.as_flattened().to_vec(), &mut kinds, &mut values, constants.len(), &mut vec![0; constants.len()]).granted()?;
+    Ok(Some((0..a.first as usize).map(|k| (kinds[k], values[k])).collect()))
+}
+
+#[cfg(all(exported = "fold", not(exported = "clear")))]
+fn shipped(_: &[[u16; 3]], _: &[(u8, u64)]) -> Result<Option<Vec<(u8, u64)>>, Refusal> { Ok(None) }
 
 /// The archive can't say; what is refused is refused all the same.
 #[cfg(not(exported = "fold"))]
@@ -173,6 +189,10 @@ fn remarks(chunk: &Chunk, folded: Option<&Folded>) -> Vec<String> {
         remarks.push(if old == new { "Nothing folded.".into() } else { format!("{} became {new}.", count(old, "instruction")) });
         let constants = f.constants.iter().enumerate().map(|(k, &(kind, word))| format!("{}{k}: {}", if k >= chunk.constants.len() { "new " } else { "" }, constant_text(kind, word)));
         if !f.constants.is_empty() { remarks.push(format!("Constants: {}.", constants.collect::<Vec<_>>().join(", "))) }
+        if let Some(left) = &f.shipped {
+            let names: Vec<String> = left.iter().map(|&(kind, word)| constant_text(kind, word)).collect();
+            remarks.push(format!("Cleared, it ships {}{}{}.", count(left.len(), "constant"), if left.is_empty() { "" } else { ": " }, names.join(", ")));
+        }
         for (name, old, new) in [("stmt_pos", &chunk.stmt_pos, &f.stmt_pos), ("call_byte_pos", &chunk.call_byte_pos, &f.call_byte_pos)] {
             let moved: Vec<String> = old.chunks(2).zip(new.chunks(2)).filter(|(a, b)| a != b).map(|(a, b)| format!("{} to {}", a[0], b[0])).collect();
             if !moved.is_empty() { remarks.push(format!("{name} moved: {}.", moved.join(", "))) }
@@ -180,6 +200,6 @@ fn remarks(chunk: &Chunk, folded: Option<&Folded>) -> Vec<String> {
         if f.pairs != chunk.phi_sources.len() / 2 { remarks.push(format!("phi_sources: {} became {}.", count(chunk.phi_sources.len() / 2, "pair"), f.pairs)) }
     }
     remarks.push(if chunk.strict { "Strict mode: no group folds that some jump lands in." } else { "Plain mode: a group stays only if the jump right before it lands in it." }.into());
-    remarks.extend(missing(&["fold"]));
+    remarks.extend(missing(&["fold", "clear"]));
     remarks
 }

@@ -1,8 +1,8 @@
 //! The notation of document 01's examples: read with errors by line, and written.
 
-use model::{code::is_call, facts::fact, question::{Fold, Kept, Question}, roles};
+use model::{code::is_call, facts::fact, question::{Kept, Question}, roles};
 use std::fmt;
-use turniploom::{DUNDER, Ins, JUMP, REGISTER, WIDE, abi, op};
+use turniploom::{DUNDER, Ins, JUMP, NAMES, REGISTER, WIDE, abi, op};
 
 /// A body as it is lent to the kept-register call.
 #[derive(Clone, Debug, Default, PartialEq, Eq)]
@@ -168,6 +168,7 @@ impl Reader {
             "dunder" if !self.chunk => DUNDER,
             "register" if !self.chunk => REGISTER,
             "jump" if self.chunk => JUMP,
+            "names" if self.chunk => NAMES,
             _ => 0,
         };
         if mark != 0 {
@@ -193,7 +194,7 @@ impl Reader {
     fn end(self) -> Read<Text> {
         let lines = self.entries.iter().map(|e| e.line).collect();
         if self.chunk {
-            let of = |e: &Entry| [e.op, e.exact.unwrap_or(usual_jump(e.op)) | e.marks, e.fields[0].unwrap_or(0)];
+            let of = |e: &Entry| [e.op, e.exact.unwrap_or(usual_marks(e.op)) | e.marks, e.fields[0].unwrap_or(0)];
             return Ok(Text::Chunk(Chunk {
                 code: self.entries.iter().map(of).collect(), tail: self.tail, constants: self.constants, phi_map: self.phi_map,
                 phi_sources: self.phi_sources, stmt_pos: self.stmt_pos, call_byte_pos: self.call_byte_pos, strict: self.strict, lines,
@@ -218,8 +219,14 @@ pub fn usual(code: &[Ins], k: usize) -> u16 {
     u16::from(register) * REGISTER + u16::from(wide) * WIDE
 }
 
-/// The mark of a chunk's instruction that names none: jump as the Rust's own test has it.
-pub fn usual_jump(o: u16) -> u16 { if o <= 190 && fact(o).jump { JUMP } else { 0 } }
+/// The mark of a chunk's instruction that is given none: jump as the Rust's own test has it, and a LoadConst names a constant.
+pub fn usual_marks(o: u16) -> u16 {
+    match o {
+        op::LoadConst => NAMES,
+        _ if o <= 190 && fact(o).jump => JUMP,
+        _ => 0,
+    }
+}
 
 /// An opcode by name: `Other` is 0, `Op191` a number, `jump` the Jump of P13.
 fn opcode(name: &str) -> Read<u16> {
@@ -312,11 +319,12 @@ pub fn ins_text(code: &[Ins], k: usize) -> String {
 
 /// An instruction of a chunk as document 01 writes it.
 pub fn instruction_text([o, marks, operand]: [u16; 3]) -> String {
-    let bare = operand == 0 && o != op::LoadConst && o != op::Phi && marks & JUMP == 0;
+    let bare = operand == 0 && o != op::LoadConst && o != op::Phi && marks & (JUMP | NAMES) == 0;
     let operand = if bare { String::new() } else { format!(" {operand}") };
     let mark = match marks {
-        m if m == usual_jump(o) => String::new(),
-        JUMP => " jump".into(),
+        m if m == usual_marks(o) => "".into(),
+        m if m == usual_marks(o) | JUMP => " jump".into(),
+        m if m == usual_marks(o) | NAMES => " names".into(),
         m => format!(" m{m}"),
     };
     format!("{}{operand}{mark}", name(o))
@@ -352,7 +360,7 @@ impl fmt::Display for Chunk {
 /// The code and tables of a question, in the notation.
 pub fn asked(q: &Question) -> String {
     let words = q.u16("code");
-    if q.call != Fold {
+    if !q.call.of_a_chunk() {
         let whole = words.len() / 6 * 6;
         let code = words[..whole].chunks(6).map(|w| Ins { op: w[0], marks: w[1], a: w[2], b: w[3], c: w[4], x: w[5] }).collect();
         let takes = |name: &str| q.call.params().contains(&name);
@@ -367,10 +375,16 @@ pub fn asked(q: &Question) -> String {
         return body.to_string();
     }
     let whole = words.len() / 3 * 3;
+    // The clearing call has no table but the constants.
+    let takes = |name: &str| q.call.params().contains(&name);
     let counted = |count: &str, have: usize| (q.n(count) as usize).min(have);
     let (kinds, values) = (q.arg("kinds").numbers(), q.arg("words").numbers());
     let constants = counted("constants", kinds.len().min(values.len()) - 1);
-    let table = |name: &str, count: &str| { let all = q.arg(name).numbers(); all[1..][..counted(count, all.len() - 1)].to_vec() };
+    let table = |name: &str, count: &str| {
+        if !takes(count) { return vec![] }
+        let all = q.arg(name).numbers();
+        all[1..][..counted(count, all.len() - 1)].to_vec()
+    };
     let narrow = |t: Vec<u64>| t.into_iter().map(|w| w as u32).collect();
     Chunk {
         code: words[..whole].chunks(3).map(|w| [w[0], w[1], w[2]]).collect(),
@@ -380,7 +394,7 @@ pub fn asked(q: &Question) -> String {
         phi_sources: table("phi_sources", "phi_sources_count").into_iter().map(|w| w as u16).collect(),
         stmt_pos: narrow(table("stmt_pos", "stmt_pos_count")),
         call_byte_pos: narrow(table("call_byte_pos", "call_byte_pos_count")),
-        strict: q.n("strict") != 0,
+        strict: takes("strict") && q.n("strict") != 0,
         lines: vec![],
     }.to_string()
 }

@@ -2,7 +2,7 @@
 
 use crate::notation::{Body, Chunk};
 use model::{code::{No, is_call}, facts::fact};
-use turniploom::{DUNDER, Ins, JUMP, REGISTER, Refusal, WIDE, abi::Answer, op};
+use turniploom::{DUNDER, Ins, JUMP, NAMES, REGISTER, Refusal, WIDE, abi::Answer, op};
 
 /// The refusal of a body in words.
 pub fn body(refusal: Refusal, body: &Body) -> String {
@@ -27,8 +27,10 @@ pub fn chunk(refusal: Refusal, chunk: &Chunk) -> String {
             let [o, marks, _] = chunk.code[position as usize];
             let rule = match marks {
                 _ if o > 190 => format!("no opcode has the number {o}"),
-                m if m & !JUMP != 0 => format!("{m} has bits that are no mark"),
-                _ => "LoadConst, Phi and the folding operators are no jumps".into(),
+                m if m & !(JUMP | NAMES) != 0 => format!("{m} has bits that are no mark"),
+                m if m & JUMP != 0 && (o == op::LoadConst || o == op::Phi || folds(o)) => "LoadConst, Phi and the folding operators are no jumps".into(),
+                _ if o == op::LoadConst => "LoadConst names a constant, and lacks that mark".into(),
+                _ => "a jump, a Phi and a folding operator name no constant".into(),
             };
             record(refusal, position as usize, &chunk.lines, rule)
         }

@@ -1,7 +1,7 @@
 //! The notation: what is read, what is written, and what is wrong by line.
 
 use listing::{body, chunk, notation::{Body, Chunk, Text, Wrong, read}, refused};
-use turniploom::{DUNDER, Ins, JUMP, REGISTER, WIDE, op};
+use turniploom::{DUNDER, Ins, JUMP, NAMES, REGISTER, WIDE, op};
 
 fn body(text: &str) -> Body {
     match read(text) {
@@ -30,7 +30,7 @@ fn the_examples_of_document_01() {
     assert_eq!(body("try (1, 5); registers 4").tries, [1, 5]);
     assert_eq!(body("Jump 0; registers 1").code[0].a, 0);
     let p13 = chunk("chunk; LoadConst 0; LoadConst 1; Add; jump 2; pool 2 and 3");
-    assert_eq!(p13.code, [[op::LoadConst, 0, 0], [op::LoadConst, 0, 1], [op::Add, 0, 0], [op::Jump, JUMP, 2]]);
+    assert_eq!(p13.code, [[op::LoadConst, NAMES, 0], [op::LoadConst, NAMES, 1], [op::Add, 0, 0], [op::Jump, JUMP, 2]]);
     assert_eq!(p13.constants, [(1, 2), (1, 3)]);
 }
 
@@ -40,6 +40,9 @@ fn marks_are_the_rusts_own_tests_unless_said() {
     let marks: Vec<u16> = code.iter().map(|i| i.marks).collect();
     assert_eq!(marks, [WIDE | REGISTER, REGISTER, REGISTER, DUNDER | REGISTER, 0, REGISTER, 0, REGISTER, 6]);
     assert_eq!(chunk("chunk; ForIter 2; Jump 1 m0; PopTop jump").code, [[op::ForIter, 1, 2], [op::Jump, 0, 1], [op::PopTop, 1, 0]]);
+    let named = "chunk\n0 LoadConst 1\n1 LoadName 2 names\n2 LoadConst 0 m0\n3 Jump 1 names\n4 LoadConst 0 jump\n";
+    assert_eq!(chunk(named).code, [[op::LoadConst, 2, 1], [op::LoadName, 2, 2], [op::LoadConst, 0, 0], [op::Jump, 3, 1], [op::LoadConst, 3, 0]]);
+    assert_eq!(chunk(named).to_string(), named);
 }
 
 #[test]
@@ -80,5 +83,9 @@ fn refusals_in_words() {
     assert_eq!(refused("registers 4\nwords 1 2"), "refused (1): a code of 2 words is no whole number of instructions, or too long");
     let refused = |text: &str| { let c = chunk(text); refused::chunk(chunk::View::of(&c).err().expect("a refusal"), &c) };
     assert_eq!(refused("chunk\nLoadConst 0 jump"), "line 2: refused (2): the instruction at 0 breaks a record rule: LoadConst, Phi and the folding operators are no jumps");
+    assert_eq!(refused("chunk\nLoadConst 0 m0"), "line 2: refused (2): the instruction at 0 breaks a record rule: LoadConst names a constant, and lacks that mark");
+    for bad in ["Jump 0", "Phi 0", "Add"] {
+        assert_eq!(refused(&format!("chunk\n{bad} names")), "line 2: refused (2): the instruction at 0 breaks a record rule: a jump, a Phi and a folding operator name no constant");
+    }
     assert_eq!(refused("chunk\nstmt_pos 1"), "refused (7): table 4 of the chunk breaks its rule: stmt_pos: its numbers come in pairs");
 }

@@ -13,7 +13,7 @@ fn listed(name: &str) -> (String, String) {
 
 #[test]
 fn every_sample_is_listed() {
-    for name in ["K.txt", "P5.txt", "jacket.txt", "P13.txt"] {
+    for name in ["K.txt", "P5.txt", "jacket.txt", "P13.txt", "ships.txt"] {
         let (text, page) = listed(name);
         assert!(!text.contains("BREAK") && page.matches("<tr").count() == page.matches("</tr>").count(), "{name}");
         for tag in ["table", "td", "span", "div", "p"] { assert_eq!(page.matches(&format!("<{tag}")).count(), page.matches(&format!("</{tag}>")).count(), "{name}: {tag}") }
@@ -52,4 +52,12 @@ fn a_try_around_the_recursive_call() {
 fn p13() {
     let (text, _) = listed("P13.txt");
     assert!(text.contains("0 LoadConst 0 (2)  →  0 LoadConst 2 (5)  2 + 3 = 5, new constant 2") && text.contains("3 Jump 2           →  1 Jump 1"), "{text}");
+}
+
+#[test]
+#[cfg(all(exported = "fold", exported = "clear"))]
+fn operands_that_all_folded_away_ship_one_constant() {
+    let (text, _) = listed("ships.txt");
+    assert!(text.contains("9 instructions became 2.") && text.contains("Cleared, it ships 1 constant: -10."), "{text}");
+    assert!(listed("P13.txt").0.contains("Cleared, it ships 1 constant: 5."));
 }

@@ -1,7 +1,7 @@
 //! What is lent, and the refusals in the order of test.
 
 use super::facts::fact;
-use turniploom::{DUNDER, Ins, REGISTER, WIDE, op};
+use turniploom::{DUNDER, Ins, JUMP, NAMES, REGISTER, WIDE, op};
 
 /// A refusal: its number and what it also returns.
 #[derive(Clone, Copy, Debug, PartialEq, Eq)]
@@ -70,16 +70,33 @@ pub fn room(buffer: u64, have: usize, needed: usize) -> Checked<()> { holds(have
 pub struct Instruction {
     pub op: u16,
     pub jump: bool,
+    /// Whether it names a constant.
+    pub names: bool,
     pub operand: u16,
+}
+
+impl Instruction {
+    pub fn words(&self) -> [u16; 3] { [self.op, u16::from(self.jump) * JUMP + u16::from(self.names) * NAMES, self.operand] }
 }
 
 /// Refusals 1 and 2 of a chunk.
 pub fn chunk(words: &[u16]) -> Checked<Vec<Instruction>> {
     holds(words.len() % 3 == 0 && words.len() / 3 <= 65_535, No(1, words.len() as u64, 0))?;
-    let free = |o: u16| o != op::LoadConst && o != op::Phi && fact(o).folding == 0;
-    let bad = words.chunks(3).position(|w| w[0] > LAST || w[1] > 1 || w[1] == 1 && !free(w[0]));
+    let bad = words.chunks(3).position(|w| w[0] > LAST || w[1] & !(JUMP | NAMES) != 0 || !marked(&instruction(w)));
     holds(bad.is_none(), No(2, bad.unwrap_or(0) as u64, 0))?;
-    Ok(words.chunks(3).map(|w| Instruction { op: w[0], jump: w[1] == 1, operand: w[2] }).collect())
+    Ok(words.chunks(3).map(instruction).collect())
+}
+
+fn instruction(w: &[u16]) -> Instruction { Instruction { op: w[0], jump: w[1] & JUMP != 0, names: w[1] & NAMES != 0, operand: w[2] } }
+
+/// The rules of the two marks: LoadConst always names a constant; a jump, a Phi and a folding operator never do; the jump mark
+/// is on none of LoadConst, Phi and the folding operators.
+fn marked(i: &Instruction) -> bool {
+    match i.op {
+        op::LoadConst => i.names && !i.jump,
+        o if o == op::Phi || fact(o).folding != 0 => !i.names && !i.jump,
+        _ => !(i.names && i.jump),
+    }
 }
 
 /// The tables of a chunk as they are lent: the length of each buffer and its count.

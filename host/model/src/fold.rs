@@ -1,4 +1,4 @@
-//! Folding and compaction of a chunk.
+//! Folding and compaction of a chunk, and the clearing of its constants.
 
 use super::{code::Instruction, facts::fact};
 use turniploom::op;
@@ -153,8 +153,8 @@ impl Chunk {
         let result = folded(self.code[k].op, &operands, nan)?;
         if first > 0 && lands(&self.code[first - 1]) || strict && self.code.iter().any(lands) { return None }
         self.code[first] = match result {
-            Bool(b) => Instruction { op: if b { op::LoadTrue } else { op::LoadFalse }, jump: false, operand: 0 },
-            number => Instruction { op: op::LoadConst, jump: false, operand: self.place(number)? },
+            Bool(b) => Instruction { op: if b { op::LoadTrue } else { op::LoadFalse }, jump: false, names: false, operand: 0 },
+            number => Instruction { op: op::LoadConst, jump: false, names: true, operand: self.place(number)? },
         };
         for &p in &places[1..] { dead[p] = true }
         dead[k] = true;
@@ -202,4 +202,15 @@ impl Chunk {
         let indexed = self.code.iter().map(|i| if i.op == op::Phi { phis.next().unwrap() } else { 0 });
         self.phi_map = if self.code.iter().any(|i| i.op == op::Phi) { indexed.collect() } else { vec![] };
     }
+}
+
+/// Renumbers the operands that name one of `count` constants, and gives for each constant whether it is named, and how many
+/// named ones stand before it.
+pub fn clear(code: &mut [Instruction], count: usize) -> (Vec<bool>, Vec<u32>) {
+    let mut named = vec![false; count];
+    let naming = |i: &Instruction| i.names && (i.operand as usize) < count;
+    for i in code.iter().filter(|i| naming(i)) { named[i.operand as usize] = true }
+    let before: Vec<u32> = named.iter().scan(0, |seen, &n| { let here = *seen; *seen += u32::from(n); Some(here) }).collect();
+    for i in code.iter_mut().filter(|i| naming(i)) { i.operand = before[i.operand as usize] as u16 }
+    (named, before)
 }

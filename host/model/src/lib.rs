@@ -19,6 +19,7 @@ pub fn ask(q: &Question) -> Reply {
     let mut lent = q.lent();
     let answer = match q.call {
         Fold => folding(q, &mut lent, &mut |_| fold::NAN),
+        Clear => clearing(q, &mut lent),
         _ => over_code(q, &mut lent),
     };
     let answer = match answer {
@@ -77,7 +78,7 @@ fn over_code(q: &Question, lent: &mut Lent) -> Checked<[u64; 4]> {
         PushedBack => walks::pushed_back(&code, at()?, q.n("r") as u16).map_or([0; 4], |p| [1, p as u64, 0, 0]),
         StackCallee => walks::stack_callee(&code, at()?, q.n("count") as u16).map_or([0; 4], |(p, r)| [1, p as u64, r.into(), 0]),
         Kept => keeping(q, &code, lent)?,
-        Fold => unreachable!("folding takes a chunk"),
+        Fold | Clear => unreachable!("it takes a chunk"),
     })
 }
 
@@ -140,6 +141,23 @@ pub fn folding(q: &Question, lent: &mut Lent, nan: &mut dyn FnMut(f64) -> u64) -
     Ok([chunk.code.len() as u64, chunk.constants.len() as u64, chunk.phi_map.len() as u64, 2 * chunk.phi_sources.len() as u64])
 }
 
+/// Clearing: the constants that some instruction names, in their order; freed entries are 0.
+fn clearing(q: &Question, lent: &mut Lent) -> Checked<[u64; 4]> {
+    let mut code = code::chunk(q.u16("code"))?;
+    let (kinds, words) = (lent.u8("kinds").clone(), lent.u64("words").clone());
+    code::tables(&Tables { kinds: &kinds, words: &words, constants: q.n("constants"), phi_map: (0, 0), pairs: [(0, 0); 3] }, code.len())?;
+    let count = q.n("constants") as usize;
+    code::room(1, lent.u32("scratch").len(), count)?;
+    let (named, before) = fold::clear(&mut code, count);
+    let left: Vec<usize> = (0..count).filter(|&k| named[k]).collect();
+    let laid: Vec<u16> = code.iter().flat_map(|i| i.words()).collect();
+    lay(lent.u16("code"), &laid, 0);
+    lay(lent.u8("kinds"), &left.iter().map(|&k| kinds[k]).collect::<Vec<_>>(), count);
+    lay(lent.u64("words"), &left.iter().map(|&k| words[k]).collect::<Vec<_>>(), count);
+    lay(lent.u32("scratch"), &before, 0);
+    Ok(one(left.len() as u64))
+}
+
 /// The chunk that is lent, once its tables keep their rules.
 fn lent_chunk(q: &Question, lent: &mut Lent, code: Vec<Instruction>) -> Checked<Chunk> {
     let Lent { buffers, .. } = lent.clone();
@@ -170,7 +188,7 @@ fn lent_chunk(q: &Question, lent: &mut Lent, code: Vec<Instruction>) -> Checked<
 
 /// Writes a folded chunk back: words past a new count, up to the needed length, are 0, except constants.
 pub fn lay_chunk(chunk: &Chunk, lent: &mut Lent, n: usize, sources: usize) {
-    let code: Vec<u16> = chunk.code.iter().flat_map(|i| [i.op, i.jump.into(), i.operand]).collect();
+    let code: Vec<u16> = chunk.code.iter().flat_map(|i| i.words()).collect();
     lay(lent.u16("code"), &code, 3 * n);
     for (k, c) in chunk.constants.iter().enumerate() {
         // A constant that was lent stays as it is, also one of a kind that has no word of its own.

@@ -24,12 +24,13 @@ pub enum Call {
     StackCallee,
     Kept,
     Fold,
+    Clear,
 }
 
 pub use Call::*;
 
 /// Each call with its name and its parameters; those that begin with `&mut ` are lent to be written.
-pub const CALLS: [(Call, &str, &[&str]); 19] = [
+pub const CALLS: [(Call, &str, &[&str]); 20] = [
     (Kinds, "kinds", &["code", "at"]),
     (Role, "role", &["code", "at"]),
     (Field, "field", &["code", "at", "f"]),
@@ -53,12 +54,16 @@ pub const CALLS: [(Call, &str, &[&str]); 19] = [
         "phi_sources_count", "&mut stmt_pos", "stmt_pos_count", "&mut call_byte_pos", "call_byte_pos_count", "&mut dead",
         "&mut remap", "strict",
     ]),
+    (Clear, "clear", &["&mut code", "&mut kinds", "&mut words", "constants", "&mut scratch"]),
 ];
 
 impl Call {
     pub fn name(self) -> &'static str { CALLS[self as usize - 1].1 }
     pub fn params(self) -> &'static [&'static str] { CALLS[self as usize - 1].2 }
     pub fn named(name: &str) -> Option<Call> { CALLS.iter().find(|c| c.1 == name).map(|c| c.0) }
+    /// Whether it takes a chunk, and how many words an instruction then has.
+    pub fn of_a_chunk(self) -> bool { matches!(self, Fold | Clear) }
+    pub fn stride(self) -> usize { if self.of_a_chunk() { 3 } else { 6 } }
     /// Whether the archive at hand has the call.
     pub fn exported(self) -> bool { turniploom::abi::EXPORTED.contains(&self.name()) }
 }
@@ -154,6 +159,7 @@ impl Reply {
             Kinds => first != 32,
             LoopsAround | Targets => self.lent.buffers[0].numbers()[1..] != asked.lent().buffers[0].numbers()[1..] && self.marked(asked),
             Fold => first as usize * 3 != asked.u16("code").len(),
+            Clear => first != asked.n("constants"),
             _ => first != 0,
         }
     }

@@ -1,7 +1,7 @@
 //! Random chunks: constants, operators over them, jumps among them, Phis, and tables that follow.
 
 use crate::{model::facts::fact, question::*, questions::lend, rng::Rng};
-use turniploom::op::{self, *};
+use turniploom::{JUMP, NAMES, op::{self, *}};
 
 const BINARY: [u16; 17] = [Add, Sub, Mul, Div, Mod, FloorDiv, Eq, NotEq, Lt, Gt, LtEq, GtEq, BitAnd, BitOr, BitXor, Shl, Shr];
 const LEAST: i64 = -140_737_488_355_328;
@@ -54,7 +54,7 @@ pub fn random(rng: &mut Rng) -> Question {
 }
 
 fn piece(rng: &mut Rng, c: &mut Chunk, count: usize) {
-    let load = |rng: &mut Rng| [LoadConst, 0, if rng.once_in(30) { rng.pick(&[count, count + 1, 65_535]) } else { rng.below(count.clamp(1, 6)) } as u16];
+    let load = |rng: &mut Rng| [LoadConst, NAMES, if rng.once_in(30) { rng.pick(&[count, count + 1, 65_535]) } else { rng.below(count.clamp(1, 6)) } as u16];
     match rng.below(16) {
         0..7 => {
             let (a, b) = (load(rng), load(rng));
@@ -70,7 +70,7 @@ fn piece(rng: &mut Rng, c: &mut Chunk, count: usize) {
         11 => c.code.push([rng.pick(&[Not, Minus]), 0, 0]),
         12 | 13 => {
             // Before an operand, where a jump may skip into what would fold.
-            c.code.push([rng.pick(&[Jump, JumpIfFalse, JumpIfFalseOrPop, JumpIfTrueOrPop, ForIter, SetupExcept, SetupFinally]), 1, 0]);
+            c.code.push([rng.pick(&[Jump, JumpIfFalse, JumpIfFalseOrPop, JumpIfTrueOrPop, ForIter, SetupExcept, SetupFinally]), JUMP, 0]);
         }
         14 => c.code.push([op::Phi, 0, rng.below(3) as u16]),
         _ => c.code.push([rng.pick(&[LoadTrue, LoadNone, LoadName, PopTop, Pow, JumpIfFalseR, 0]), 0, rng.below(4) as u16]),
@@ -83,8 +83,11 @@ fn aim(rng: &mut Rng, c: &mut Chunk) {
     let strange = rng.once_in(12);
     for k in 0..n {
         let o = c.code[k][0];
-        if strange && rng.once_in(3) && o != LoadConst && o != op::Phi && fact(o).folding == 0 { c.code[k][1] ^= 1 }
-        if c.code[k][1] != 0 {
+        let free = o != LoadConst && o != op::Phi && fact(o).folding == 0;
+        if strange && free && rng.once_in(3) { c.code[k][1] ^= JUMP }
+        // Other opcodes may name constants too.
+        if free && c.code[k][1] == 0 && rng.once_in(4) { c.code[k][1] = NAMES }
+        if c.code[k][1] & JUMP != 0 {
             let to = match rng.below(8) {
                 0..4 => k + 1 + rng.below(5),
                 4 => rng.pick(&[n, n + 1, 65_535]),
@@ -107,6 +110,14 @@ fn tables(rng: &mut Rng, c: &mut Chunk) {
     for _ in 0..rng.below(3) { c.call_byte_pos.extend([if rng.once_in(8) { u32::MAX } else { rng.below(n + 2) as u32 }, 7]) }
 }
 
+/// A table in a buffer of the needed length, or not quite.
+fn buffer<T: Copy + TryFrom<u64>>(rng: &mut Rng, table: &[T], needed: usize) -> Vec<T> {
+    let mut b: Vec<T> = lend(rng, needed.max(table.len()));
+    let kept = b.len().min(table.len());
+    b[..kept].copy_from_slice(&table[..kept]);
+    b
+}
+
 /// The question: each table in a buffer with the room it needs, or not quite.
 fn lent(rng: &mut Rng, c: Chunk) -> Question {
     let n = c.code.len();
@@ -114,12 +125,6 @@ fn lent(rng: &mut Rng, c: Chunk) -> Question {
     let counted = |pred: fn(u16) -> bool| c.code.iter().filter(|i| i[0] <= 190 && pred(i[0])).count();
     let room = c.kinds.len().max((c.kinds.len() + counted(|o| fact(o).folding != 0)).min(65_535));
     let sources = c.phi_sources.len().max(2 * counted(|o| o == op::Phi));
-    fn buffer<T: Copy + TryFrom<u64>>(rng: &mut Rng, table: &[T], needed: usize) -> Vec<T> {
-        let mut b: Vec<T> = lend(rng, needed.max(table.len()));
-        let kept = b.len().min(table.len());
-        b[..kept].copy_from_slice(&table[..kept]);
-        b
-    }
     let mut counts = [c.kinds.len(), c.phi_map.len(), c.phi_sources.len(), c.stmt_pos.len(), c.call_byte_pos.len()].map(|v| v as u64);
     let (mut kinds, mut words) = (buffer(rng, &c.kinds, room), buffer(rng, &c.words, room));
     // Buffers are mostly exactly full or longer; a few tables break a rule.
@@ -127,7 +132,7 @@ fn lent(rng: &mut Rng, c: Chunk) -> Question {
         0 => counts[rng.below(5)] += 1,
         1 => counts[rng.below(5)] = rng.pick(&[65_537, u64::MAX, 2, 3]),
         2 if !kinds.is_empty() => { let k = rng.below(kinds.len()); (kinds[k], words.get_mut(k).map(|w| *w = 2)).1.unwrap_or(()); kinds[k] = rng.pick(&[3, 4, 255]) }
-        3 if n > 0 => { let k = rng.below(n); code[3 * k] = rng.pick(&[191, 256, 0, LoadConst, Phi, Add]); code[3 * k + 1] = rng.pick(&[0, 1, 2, 3, 0x8000]) }
+        3 if n > 0 => damage(rng, &mut code),
         4 => { code.push(0) }
         _ => {}
     }
@@ -138,6 +143,45 @@ fn lent(rng: &mut Rng, c: Chunk) -> Question {
         Arg::U8(lend(rng, n)), Arg::U32(lend(rng, n + 1)), Arg::N(rng.once_in(3).into()),
     ];
     Question { call: Fold, args }
+}
+
+/// An instruction whose opcode or marks may break a record rule: often bit 1, missing or set.
+fn damage(rng: &mut Rng, code: &mut [u16]) {
+    let k = rng.below(code.len() / 3);
+    if rng.once_in(2) { return code[3 * k + 1] ^= NAMES }
+    code[3 * k] = rng.pick(&[191, 256, 0, LoadConst, Phi, Add, Not, Jump]);
+    code[3 * k + 1] = rng.pick(&[0, 1, 2, 3, 4, 0x8000]);
+}
+
+/// A question of the clearing call: folded code or not, and a few constants or many.
+pub fn random_clear(rng: &mut Rng) -> Question {
+    let count = rng.weighted(&[(1, 0), (4, 1), (8, 3), (8, 6), (4, 12), (1, 200)]);
+    let constants: Vec<(u8, u64)> = (0..count).map(|_| constant(rng)).collect();
+    let mut c = pool(&constants, vec![]);
+    let length = rng.weighted(&[(1, 0), (4, 2), (8, 5), (8, 12), (2, 60)]);
+    while c.code.len() < length { piece(rng, &mut c, count) }
+    aim(rng, &mut c);
+    // Operands all over the pool, at its end and past it.
+    for i in c.code.iter_mut().filter(|i| i[1] & NAMES != 0) {
+        if rng.once_in(2) { i[2] = if rng.once_in(8) { rng.pick(&[count, count + 1, 65_535]) } else { rng.below(count.max(1)) } as u16 }
+    }
+    clearing(rng, c)
+}
+
+/// The clearing of this code over these constants: the buffers are mostly exactly full, some longer, a few short by one.
+fn clearing(rng: &mut Rng, c: Chunk) -> Question {
+    let (mut code, mut count) = (c.code.as_flattened().to_vec(), c.kinds.len() as u64);
+    let (mut kinds, mut words) = (buffer(rng, &c.kinds, 0), buffer(rng, &c.words, 0));
+    match rng.below(40) {
+        0 => count += 1,
+        1 => count = rng.pick(&[65_537, u64::MAX, 2, 3]),
+        2 if !kinds.is_empty() && !words.is_empty() => { let k = rng.below(kinds.len().min(words.len())); (kinds[k], words[k]) = (rng.pick(&[3, 4, 255]), 2) }
+        3 | 4 if !code.is_empty() => damage(rng, &mut code),
+        5 => code.push(0),
+        _ => {}
+    }
+    let scratch = lend(rng, c.kinds.len());
+    Question { call: Clear, args: vec![Arg::U16(code), Arg::U8(kinds), Arg::U64(words), Arg::N(count), Arg::U32(scratch)] }
 }
 
 /// Some 300 telling constants: powers of two and their neighbours up to and past the limits, zeros of both signs, NaNs with
@@ -167,20 +211,44 @@ fn pool(pair: &[(u8, u64)], code: Vec<[u16; 3]>) -> Chunk {
 /// Every operator over every pair of constants.
 pub fn pairs(rng: &mut Rng, constants: &[(u8, u64)], take: &mut dyn FnMut(Question)) {
     for &a in constants {
-        for o in [Not, Minus] { take(lent(rng, pool(&[a], vec![[LoadConst, 0, 0], [o, 0, 0]]))) }
+        for o in [Not, Minus] { take(lent(rng, pool(&[a], vec![[LoadConst, NAMES, 0], [o, 0, 0]]))) }
         for &b in constants {
-            for o in BINARY { take(lent(rng, pool(&[a, b], vec![[LoadConst, 0, 0], [LoadConst, 0, 1], [o, 0, 0]]))) }
+            for o in BINARY { take(lent(rng, pool(&[a, b], vec![[LoadConst, NAMES, 0], [LoadConst, NAMES, 1], [o, 0, 0]]))) }
         }
+    }
+}
+
+/// Every opcode with every mark that it may or may not have.
+fn every_mark(rng: &mut Rng, lent: fn(&mut Rng, Chunk) -> Question, take: &mut dyn FnMut(Question)) {
+    for o in (0..193).chain([256, 65_535]) {
+        for marks in [0, 1, 2, 3, 4, 5, 6, 0x8000] { take(lent(rng, pool(&[(1, 7), (2, 9)], vec![[LoadNone, 0, 0], [o, marks, 1]]))) }
+    }
+}
+
+/// Every short code of loads over a few constants, then the longest code and as many constants as there may be.
+pub fn systematic_clear(rng: &mut Rng, take: &mut dyn FnMut(Question)) {
+    every_mark(rng, clearing, take);
+    let constants = [(1, 5), (2, 6), (3, 1), (0, 8)];
+    for count in 0..=4 {
+        for (a, b, c) in (0..6).flat_map(|a| (0..6).flat_map(move |b| (0..6).map(move |c| (a, b, c)))) {
+            take(clearing(rng, pool(&constants[..count], vec![[LoadConst, NAMES, a], [LoadName, NAMES, b], [LoadName, 0, c]])));
+        }
+    }
+    for (n, count) in [(65_535, 65_536), (65_536, 3), (65_535, 1), (3, 65_536), (3, 65_537)] {
+        let constants: Vec<(u8, u64)> = (0..count as u64).map(|k| (1, k)).collect();
+        let code = (0..n).map(|k| if k % 3 == 0 { [LoadConst, NAMES, (k * 7 % 65_536) as u16] } else { [PopTop, 0, 0] }).collect();
+        take(clearing(rng, pool(&constants, code)));
     }
 }
 
 /// Every operator over every pair of the listed constants, and the longest chunk.
 pub fn systematic(rng: &mut Rng, take: &mut dyn FnMut(Question)) {
+    every_mark(rng, lent, take);
     let mut constants: Vec<(u8, u64)> = INTS.iter().map(|&i| (1, i as u64)).chain(FLOATS.iter().map(|f| (2, f.to_bits()))).collect();
     constants.extend([(3, 0), (3, 1), (0, 5), (2, 0xFFF8_0000_0000_0000), (2, 0x7FF0_0000_0000_0001)]);
     pairs(rng, &constants, take);
     for n in [65_535, 65_536] {
-        let code = (0..n).map(|k| match k % 8 { 0 | 1 => [LoadConst, 0, 0], 2 => [Add, 0, 0], 3 => [Jump, 1, (k % 65_536) as u16], _ => [PopTop, 0, 0] }).collect();
+        let code = (0..n).map(|k| match k % 8 { 0 | 1 => [LoadConst, NAMES, 0], 2 => [Add, 0, 0], 3 => [Jump, JUMP, (k % 65_536) as u16], _ => [PopTop, 0, 0] }).collect();
         take(lent(rng, pool(&[(1, 1)], code)));
     }
 }

@@ -3,7 +3,7 @@
 use crate::{model::{self, code::Instruction, facts::fact, fold::{Chunk, Constant}, rows}, question::*};
 use original::{optimizer::constant_fold, parser::{self, EVERY, OpCode, SSAChunk, Value}, vm::{block::open as rust, lower}};
 use std::sync::LazyLock;
-use turniploom::{DUNDER, Ins, REGISTER, WIDE, op};
+use turniploom::{DUNDER, Ins, JUMP, NAMES, REGISTER, WIDE, op};
 
 /// The Rust's opcode for each number but 0.
 static NAMED: LazyLock<Vec<OpCode>> = LazyLock::new(|| {
@@ -34,7 +34,12 @@ pub fn ask(q: &Question, model: &Reply) -> Option<Reply> {
     let list_short = q.call == Kept && model.answer.refusal == 5 && model.answer.first == 3;
     if model.answer.refusal != 0 && !list_short { return None }
     let mut reply = model.clone();
-    if q.call == Fold { folding(q, &mut reply)? } else { over_code(q, &mut reply)? }
+    match q.call {
+        Fold => folding(q, &mut reply)?,
+        // The Rust has no such call.
+        Clear => return None,
+        _ => over_code(q, &mut reply)?,
+    }
     Some(reply)
 }
 
@@ -80,7 +85,7 @@ fn over_code(q: &Question, reply: &mut Reply) -> Option<()> {
         PushedBack => rust::pushed_back(&code, at(), r()).map_or([0; 4], |p| [1, p as u64, 0, 0]),
         StackCallee => rust::stack_callee(&code, at(), q.n("count") as usize).map_or([0; 4], |(p, r)| [1, p as u64, r.into(), 0]),
         Kept => return keeping(q, &code, &tries(), reply),
-        Fold => unreachable!("folding takes a chunk"),
+        Fold | Clear => unreachable!("it takes a chunk"),
     };
     let a = &mut reply.answer;
     (a.first, a.second, a.third, a.fourth) = (values[0], values[1], values[2], values[3]);
@@ -120,7 +125,7 @@ fn dunder_ops(words: &[u16]) -> Option<[u64; 4]> {
 
 fn folding(q: &Question, reply: &mut Reply) -> Option<()> {
     let words = q.u16("code");
-    let own = words.chunks(3).all(|w| fact(w[0]).jump == (w[1] != 0));
+    let own = words.chunks(3).all(|w| fact(w[0]).jump == (w[1] & JUMP != 0));
     if q.n("strict") != 0 || !own { return None }
     let n = words.len() / 3;
     let mut lent = q.lent();
@@ -132,7 +137,10 @@ fn folding(q: &Question, reply: &mut Reply) -> Option<()> {
     constant_fold(&mut chunk);
     let remap: Vec<u32> = chunk.stmt_pos.drain(stmts..).map(|p| p.0).collect();
     let died = chunk.instructions.len() < n;
-    let folded = plain(&chunk);
+    let mut folded = plain(&chunk);
+    // The Rust has no marks: a survivor has its own, and what folded to a bool dropped it.
+    let live = (0..n).filter(|&k| remap[k] < remap[k + 1]).map(|k| &words[3 * k..3 * k + 3]);
+    for (i, old) in folded.code.iter_mut().zip(live) { i.names = i.op == op::LoadConst || old[0] == i.op && old[1] & NAMES != 0 }
     let a = &mut reply.answer;
     (a.first, a.second, a.third, a.fourth) =
         (folded.code.len() as u64, folded.constants.len() as u64, folded.phi_map.len() as u64, 2 * folded.phi_sources.len() as u64);
@@ -171,7 +179,7 @@ pub fn ssa_chunk(q: &Question, lent: &mut Lent) -> SSAChunk {
 /// The Rust's chunk in the model's form.
 fn plain(chunk: &SSAChunk) -> Chunk {
     Chunk {
-        code: chunk.instructions.iter().map(|i| Instruction { op: number(i.opcode), jump: i.opcode.is_jump(), operand: i.operand }).collect(),
+        code: chunk.instructions.iter().map(|i| Instruction { op: number(i.opcode), jump: i.opcode.is_jump(), names: false, operand: i.operand }).collect(),
         constants: chunk.constants.iter().map(|c| match c {
             Value::Int(i) => Constant::Int(*i),
             Value::Float(f) => Constant::Float(f.to_bits()),

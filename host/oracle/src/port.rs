@@ -21,7 +21,11 @@ pub fn ask(q: &Question) -> Option<Reply> { ask_in(&mut house::Guarded, q) }
 /// The port's reply with every slice in that house.
 pub fn ask_in(house: &mut impl House, q: &Question) -> Option<Reply> {
     let mut lent = q.lent();
-    if q.call == Fold { return folding(house, q, &mut lent).map(|answer| Reply { answer, lent }) }
+    match q.call {
+        Fold => return folding(house, q, &mut lent).map(|answer| Reply { answer, lent }),
+        Clear => return clearing(house, q, &mut lent).map(|answer| Reply { answer, lent }),
+        _ => {}
+    }
     let mut room = house.lend(q.u16("code"));
     let code = room.inner();
     let mut tries = house.lend(if matches!(q.call, Targets | Kept) { q.u32("tries") } else { &[] });
@@ -91,5 +95,17 @@ fn folding(house: &mut impl House, q: &Question, lent: &mut Lent) -> Option<abi:
         Arg::U16(code.open()), Arg::U8(kinds.open()), Arg::U64(words.open()), Arg::U32(phi_map.open()), Arg::U16(phi_sources.open()),
         Arg::U32(stmt_pos.open()), Arg::U32(call_byte_pos.open()), Arg::U8(dead.open()), Arg::U32(remap.open()),
     ];
+    Some(answer)
+}
+
+#[cfg(not(exported = "clear"))]
+fn clearing(_: &mut impl House, _: &Question, _: &mut Lent) -> Option<abi::Answer> { None }
+
+#[cfg(exported = "clear")]
+fn clearing(house: &mut impl House, q: &Question, lent: &mut Lent) -> Option<abi::Answer> {
+    let (mut code, mut kinds, mut words) = (house.lend(lent.u16("code")), house.lend(lent.u8("kinds")), house.lend(lent.u64("words")));
+    let mut scratch = house.lend(lent.u32("scratch"));
+    let answer = abi::clear(code.inner(), kinds.inner(), words.inner(), q.n("constants") as usize, scratch.inner());
+    lent.buffers = vec![Arg::U16(code.open()), Arg::U8(kinds.open()), Arg::U64(words.open()), Arg::U32(scratch.open())];
     Some(answer)
 }

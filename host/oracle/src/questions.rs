@@ -5,7 +5,11 @@ use turniploom::{Ins, WIDE, abi, op};
 
 /// A random question of a call.
 pub fn random(rng: &mut Rng, call: Call) -> Question {
-    if call == Fold { return chunks::random(rng) }
+    match call {
+        Fold => return chunks::random(rng),
+        Clear => return chunks::random_clear(rng),
+        _ => {}
+    }
     let regs = registers(rng, call);
     let code = body(rng, call, regs);
     let words = if rng.once_in(12) { damage(rng, &code) } else { abi::words(&code).to_vec() };
@@ -200,7 +204,11 @@ fn many_pushed(take: &mut dyn FnMut(Question)) {
 
 /// The systematic questions of a call.
 pub fn systematic(rng: &mut Rng, call: Call, take: &mut dyn FnMut(Question)) {
-    if call == Fold { return chunks::systematic(rng, take) }
+    match call {
+        Fold => return chunks::systematic(rng, take),
+        Clear => return chunks::systematic_clear(rng, take),
+        _ => {}
+    }
     if matches!(call, Kinds | Role | Field | Writes) { every_opcode(rng, call, take) }
     if call == StackCallee { many_pushed(take) }
     short_codes(rng, call, take);

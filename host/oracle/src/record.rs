@@ -51,8 +51,7 @@ fn wanted(rng: &mut Rng, call: Call, kind: Shows) -> String {
 
 /// The record of a small question, if the Rust answers it as the model does, or if it is refused.
 fn record(q: &Question) -> Option<(String, Shows)> {
-    let stride = if q.call == Fold { 3 } else { 6 };
-    if q.u16("code").len() > INSTRUCTIONS * stride || q.args.iter().any(|a| a.numbers().len() > 64) { return None }
+    if q.u16("code").len() > INSTRUCTIONS * q.call.stride() || q.args.iter().any(|a| a.numbers().len() > 64) { return None }
     let reply = model::ask(q);
     let shows = if reply.answer.refusal != 0 { Refused } else if reply.telling(q) { Telling } else { Plain };
     if shows != Refused && original::ask(q, &reply)? != reply { return None }

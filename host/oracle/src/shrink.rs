@@ -1,7 +1,7 @@
 //! A failing question made small: fewer instructions, shorter tables, smaller numbers, as long as it still fails.
 
 use crate::question::*;
-use listing::notation::usual;
+use listing::notation::{usual, usual_marks};
 use turniploom::Ins;
 
 /// How many questions a shrinking may ask.
@@ -38,7 +38,7 @@ impl Shrink<'_> {
 
     /// Leaves out runs of instructions, long ones first.
     fn instructions(&mut self) {
-        let stride = if self.best.call == Fold { 3 } else { 6 };
+        let stride = self.best.call.stride();
         let mut run = (self.best.u16("code").len() / stride).max(1);
         loop {
             let mut k = 0;
@@ -67,9 +67,16 @@ impl Shrink<'_> {
         }
     }
 
-    /// Gives each instruction of a body the marks that it has if none are said.
+    /// Gives each instruction the marks that it has if none are said.
     fn marks(&mut self) {
-        if self.best.call == Fold { return }
+        if self.best.call.of_a_chunk() {
+            for k in 0..self.best.u16("code").len() / 3 {
+                let mut changed = self.best.clone();
+                changed.args[0].u16()[3 * k + 1] = usual_marks(self.best.u16("code")[3 * k]);
+                self.offer(changed);
+            }
+            return;
+        }
         for k in 0..self.best.u16("code").len() / 6 {
             let code: Vec<Ins> = self.best.u16("code").chunks_exact(6).map(|w| Ins { op: w[0], marks: w[1], a: w[2], b: w[3], c: w[4], x: w[5] }).collect();
             let mut changed = self.best.clone();
@@ -82,7 +89,7 @@ impl Shrink<'_> {
     fn numbers(&mut self) {
         for k in 0..self.best.args.len() {
             // Opcodes stay as they are, and so do marks.
-            let stride = self.best.call.params()[k].ends_with("code").then_some(if self.best.call == Fold { 3 } else { 6 });
+            let stride = self.best.call.params()[k].ends_with("code").then_some(self.best.call.stride());
             let length = self.best.args[k].numbers().len() - usize::from(!matches!(self.best.args[k], Arg::N(_)));
             for w in (0..length.min(1_000)).filter(|w| stride.is_none_or(|s| w % s > 1)) {
                 loop {

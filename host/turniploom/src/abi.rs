@@ -104,4 +104,6 @@ calls! {
         phi_sources: &mut [u16], phi_sources_count: usize, stmt_pos: &mut [u32], stmt_pos_count: usize,
         call_byte_pos: &mut [u32], call_byte_pos_count: usize, dead: &mut [u8], remap: &mut [u32], strict: bool
     );
+    /// Clears the constants that no instruction names: the new count. Lends as many entries of scratch as there are constants.
+    "clear" turniploom_clear clear(code: &mut [u16], kinds: &mut [u8], words: &mut [u64], constants: usize, scratch: &mut [u32]);
 }

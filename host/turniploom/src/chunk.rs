@@ -1,11 +1,12 @@
-//! The call of optimizer.rs over a plain chunk, as near the Rust's as a refusal allows.
+//! The call of optimizer.rs over a plain chunk, as near the Rust's as a refusal allows, and the clearing of its constants.
+#![allow(dead_code)]
 
 /// An instruction of a chunk: three words.
 #[derive(Clone, Copy, Debug, Default, PartialEq, Eq)]
 pub struct Instruction {
     /// The opcode's number, one of [`crate::op`] or 0 for any other.
     pub opcode: u16,
-    /// The mark [`JUMP`], or 0.
+    /// The mark [`JUMP`] or [`NAMES`], or 0. A LoadConst gets the second of itself.
     pub marks: u16,
     /// The operand.
     pub operand: u16,
@@ -13,6 +14,9 @@ pub struct Instruction {
 
 /// The mark of a chunk's instruction whose operand is a position.
 pub const JUMP: u16 = 1;
+
+/// The mark of a chunk's instruction whose operand names a constant.
+pub const NAMES: u16 = 2;
 
 /// A constant of a chunk.
 #[derive(Clone, Copy, Debug, PartialEq)]
@@ -50,11 +54,11 @@ pub struct Chunk {
 /// P13 of document 01: 2 + 3 folds, and the jump follows; in strict mode the jump keeps it from folding.
 ///
 /// ```
-/// use turniploom::{Chunk, Constant::Int, Instruction, JUMP, constant_fold, op::*};
+/// use turniploom::{Chunk, Constant::Int, Instruction, JUMP, NAMES, constant_fold, op::*};
 /// let p13 = Chunk {
 ///     instructions: vec![
-///         Instruction { opcode: LoadConst, marks: 0, operand: 0 },
-///         Instruction { opcode: LoadConst, marks: 0, operand: 1 },
+///         Instruction { opcode: LoadConst, marks: NAMES, operand: 0 },
+///         Instruction { opcode: LoadConst, marks: NAMES, operand: 1 },
 ///         Instruction { opcode: Add, marks: 0, operand: 0 },
 ///         Instruction { opcode: Jump, marks: JUMP, operand: 2 },
 ///     ],
@@ -69,7 +73,7 @@ pub struct Chunk {
 /// constant_fold(&mut plain, false)?;
 /// assert_eq!(plain.constants, [Int(2), Int(3), Int(5)]);
 /// assert_eq!(plain.instructions, [
-///     Instruction { opcode: LoadConst, marks: 0, operand: 2 },
+///     Instruction { opcode: LoadConst, marks: NAMES, operand: 2 },
 ///     Instruction { opcode: Jump, marks: JUMP, operand: 1 },
 /// ]);
 /// # Ok::<(), turniploom::Refusal>(())
@@ -78,7 +82,7 @@ pub struct Chunk {
 pub fn constant_fold(chunk: &mut Chunk, strict: bool) -> Result<(), crate::Refusal> {
     let n = chunk.instructions.len();
     let count = chunk.constants.len();
-    let mut code: Vec<u16> = chunk.instructions.iter().flat_map(|i| [i.opcode, i.marks, i.operand]).collect();
+    let mut code = words_of(chunk);
     // Room for a constant and a pair from every instruction is always enough.
     let (mut kinds, mut words): (Vec<u8>, Vec<u64>) = chunk.constants.iter().map(|&c| stored(c)).unzip();
     kinds.resize(count + n, 0);
@@ -97,7 +101,7 @@ pub fn constant_fold(chunk: &mut Chunk, strict: bool) -> Result<(), crate::Refus
         &mut code, &mut kinds, &mut words, count, &mut phi_map, chunk.phi_map.len(), &mut sources, pairs, &mut stmts, stmt_count,
         &mut calls, call_count, &mut dead, &mut remap, strict,
     ).granted()?;
-    chunk.instructions = code.chunks(3).take(folded.first as usize).map(|w| Instruction { opcode: w[0], marks: w[1], operand: w[2] }).collect();
+    chunk.instructions = instructions(&code, folded.first as usize);
     chunk.constants.extend((count..folded.second as usize).map(|k| if kinds[k] == 1 { Constant::Int(words[k] as i64) } else { Constant::Float(f64::from_bits(words[k])) }));
     chunk.phi_map = phi_map[..folded.third as usize].iter().map(|&p| p as usize).collect();
     chunk.phi_sources = sources[..folded.fourth as usize].chunks(2).map(|p| (p[0], p[1])).collect();
@@ -106,7 +110,54 @@ pub fn constant_fold(chunk: &mut Chunk, strict: bool) -> Result<(), crate::Refus
     Ok(())
 }
 
-#[cfg(exported = "fold")]
+/// Drops the constants that no instruction names. Those that are left keep their order, and what names them is renumbered;
+/// an operand past the constants stays. A refused chunk is as it was.
+///
+/// After the fold of P13 of document 01 the sum alone is loaded, so it alone is left.
+///
+/// ```
+/// use turniploom::{Chunk, Constant::Int, Instruction, JUMP, NAMES, op::*};
+/// # #[cfg(exported = "clear")] {
+/// let mut folded = Chunk {
+///     instructions: vec![
+///         Instruction { opcode: LoadConst, marks: NAMES, operand: 2 },
+///         Instruction { opcode: Jump, marks: JUMP, operand: 1 },
+///     ],
+///     constants: vec![Int(2), Int(3), Int(5)],
+///     ..Chunk::default()
+/// };
+/// turniploom::clear(&mut folded)?;
+/// assert_eq!(folded.constants, [Int(5)]);
+/// assert_eq!(folded.instructions[0].operand, 0);
+/// # }
+/// # Ok::<(), turniploom::Refusal>(())
+/// ```
+#[cfg(exported = "clear")]
+pub fn clear(chunk: &mut Chunk) -> Result<(), crate::Refusal> {
+    let count = chunk.constants.len();
+    let mut code = words_of(chunk);
+    let (mut kinds, mut words): (Vec<u8>, Vec<u64>) = chunk.constants.iter().map(|&c| stored(c)).unzip();
+    let mut scratch = vec![0; count];
+    let left = crate::abi::clear(&mut code, &mut kinds, &mut words, count, &mut scratch).granted()?.first as usize;
+    chunk.instructions = instructions(&code, chunk.instructions.len());
+    // Entry k of the scratch is the new place of constant k, if k is named: the next entry is then larger.
+    let ends = scratch.iter().skip(1).copied().chain([left as u32]);
+    let mut named = scratch.iter().zip(ends).map(|(&here, next)| here < next);
+    chunk.constants.retain(|_| named.next() == Some(true));
+    Ok(())
+}
+
+/// The lent words of a chunk. A LoadConst names a constant, whether it is marked so or not.
+fn words_of(chunk: &Chunk) -> Vec<u16> {
+    let marks = |i: &Instruction| if i.opcode == crate::op::LoadConst { i.marks | NAMES } else { i.marks };
+    chunk.instructions.iter().flat_map(|i| [i.opcode, marks(i), i.operand]).collect()
+}
+
+/// The first `n` instructions of lent words.
+fn instructions(code: &[u16], n: usize) -> Vec<Instruction> {
+    code.chunks(3).take(n).map(|w| Instruction { opcode: w[0], marks: w[1], operand: w[2] }).collect()
+}
+
 fn stored(constant: Constant) -> (u8, u64) {
     match constant {
         Constant::Other(word) => (0, word),

@@ -1,10 +1,18 @@
 -- `fold::put_at` meets its contract: three words. Assumes nothing.
 use borrow.Author.Needs.{needs}
 use native.Mathlib.Omega.{arith}
-use lib.ListN.{length-set}
-use Rattle.fold.specs.Pass.{put}
+use mathlib.Core.Path.{_≡_}
+use mathlib.Core.List.{List}
+use Prim.Native.Nat.{ℕ, _+_, _*_}
+use lib.ListN.{set, length-set}
+use Rattle.lent.specs.Chunk.{stride}
+use Rattle.fold.specs.Pass.{markOf, put}
 use Rattle.fold.proofs.put_at.Statement.{statement}
 use Rattle.fold.proofs.put_at.Tie as tie
+
+three : (w : List ℕ) (p o x m : ℕ) → m ≡ markOf o → set (set (set w (stride * p) o) (stride * p + 1) m) (stride * p + 2) x ≡ put w p o x
+unfolding put
+three w p o x m e = rw e
 
 mul-code : tie.Need-mul-code
 mul-code c = search needs
@@ -14,6 +22,9 @@ mul-code-2 c = search needs
 
 slice-write-code : tie.Need-slice-write-code
 slice-write-code c = search needs
+
+marks-of-requires : tie.Need-marks-of-requires
+marks-of-requires c κs = search needs
 
 mul-code-3 : tie.Need-mul-code-3
 mul-code-3 c = search needs
@@ -43,8 +54,7 @@ same-length : tie.Need-same-length
 same-length c = search needs
 
 returns : tie.Need-returns
-unfolding put
-returns c = search needs
+returns c = search three
 
 pub put-at-spec : {M : Type 1} → statement M
 put-at-spec =
@@ -53,6 +63,7 @@ put-at-spec =
     mul-code
     mul-code-2
     slice-write-code
+    marks-of-requires
     mul-code-3
     add-code
     mul-code-4

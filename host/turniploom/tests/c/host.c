@@ -56,8 +56,9 @@ int main(void) {
     SHOW(kept.refusal == 0 && kept.first == 2 && list[0] == 0 && list[1] == 3);
 #endif
 #ifdef HAVE_fold
-    uint16_t chunk[] = {TURNIPLOOM_LoadConst, 0, 0, TURNIPLOOM_LoadConst, 0, 1, TURNIPLOOM_Add, 0, 0, TURNIPLOOM_Jump, TURNIPLOOM_IS_JUMP, 2};
-    static const uint16_t p13[] = {TURNIPLOOM_LoadConst, 0, 2, TURNIPLOOM_Jump, TURNIPLOOM_IS_JUMP, 1, 0, 0, 0, 0, 0, 0};
+    uint16_t chunk[] = {TURNIPLOOM_LoadConst, TURNIPLOOM_NAMES_CONSTANT, 0, TURNIPLOOM_LoadConst, TURNIPLOOM_NAMES_CONSTANT, 1,
+                        TURNIPLOOM_Add, 0, 0, TURNIPLOOM_Jump, TURNIPLOOM_IS_JUMP, 2};
+    static const uint16_t p13[] = {TURNIPLOOM_LoadConst, TURNIPLOOM_NAMES_CONSTANT, 2, TURNIPLOOM_Jump, TURNIPLOOM_IS_JUMP, 1, 0, 0, 0, 0, 0, 0};
     uint8_t kinds[3] = {TURNIPLOOM_INT, TURNIPLOOM_INT, 0}, dead[4];
     uint64_t words[3] = {2, 3, 0};
     uint32_t phi_map[4] = {0}, remap[5], none[1];
@@ -68,6 +69,15 @@ int main(void) {
     folded = turniploom_fold(chunk, 12, kinds, 3, words, 3, 2, phi_map, 4, 0, phi_sources, 0, 0, none, 0, 0, none, 0, 0, dead, 4, remap, 5, false);
     SHOW(folded.refusal == 0 && folded.first == 2 && folded.second == 3 && memcmp(chunk, p13, sizeof p13) == 0);
     SHOW(kinds[2] == TURNIPLOOM_INT && words[2] == 5 && dead[0] == 0 && dead[1] == 1 && dead[2] == 1 && dead[3] == 0 && remap[4] == 2);
+#ifdef HAVE_clear
+    /* The fold left one load, so one constant is shipped. */
+    uint32_t scratch[3];
+    turniploom_answer cleared = turniploom_clear(chunk, 12, kinds, 3, words, 3, 3, scratch, 2);
+    SHOW(cleared.refusal == TURNIPLOOM_BUFFER && cleared.first == 1 && cleared.second == 3 && chunk[2] == 2);
+    cleared = turniploom_clear(chunk, 6, kinds, 3, words, 3, 3, scratch, 3);
+    SHOW(cleared.refusal == 0 && cleared.first == 1 && chunk[2] == 0 && chunk[5] == 1 && words[0] == 5 && words[1] == 0 && kinds[2] == 0);
+    SHOW(scratch[0] == 0 && scratch[1] == 0 && scratch[2] == 0);
+#endif
 #endif
     puts(failed ? "not all is well" : "all is well");
     return failed;

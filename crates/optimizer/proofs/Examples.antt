@@ -1,63 +1,45 @@
--- Document 01's P13 through the whole call, both ways, a chain that folds to one constant, and crossed pairs, computed from the definitions.
--- Each buffer has one word more than is needed, which stays. Assumes nothing.
+-- A test that folds to LoadTrue, a chain that folds to one constant, and crossed pairs, through the whole call and computed from the definitions. Assumes nothing.
 use mathlib.Core.Path.{_≡_, refl}
-use mathlib.Core.Bool.{Bool, true, false}
-use mathlib.Core.List.{List, [], _∷_, _++_}
-use Prim.Native.Nat.{ℕ}
+use mathlib.Core.Bool.{false}
+use mathlib.Core.List.{[], _∷_}
 use lib.ListN.{replicate}
-use Rattle.code.specs.Op.{LoadConst, Phi, Add, Mul, Minus, Jump}
+use Rattle.code.specs.Op.{LoadConst, LoadTrue, Phi, Add, Mul, Lt, Minus}
 use Rattle.laws.specs.All.{every, many}
 use Rattle.laws.specs.Each.{each}
 use Rattle.laws.specs.Some.{some}
 use Rattle.laws.specs.Walk.{first}
 use Rattle.lent.specs.Chunk.{folds, rules}
 use Rattle.lent.specs.Check.{checkOf, tablesOf, tallyOf, roomsOf, readyOf}
-use Rattle.lent.specs.declared.Counts.{Counts}
 use Rattle.compact.specs.Remap.{remapOf, mapped}
 use Rattle.compact.specs.Tables.{operandOf, left, compacted, placed}
 use Rattle.phi_pass.specs.Phi.{paired, noop, markAt, marked, pairsLeft, indexed}
 use Rattle.values.specs.Folds.{foldBinop, foldNeg, ints, inRange}
 use Rattle.chunk.specs.Pool.{toVal, constToVal, findOrPush, findOrPushConst}
-use Rattle.fold.specs.Plan.{page, kindOf, prevLive, lands, skipsInto, landsAny, blocked, foldUnary, tryFoldBinop, tryFoldUnary, planFor, planAt}
+use Rattle.fold.specs.Plan.{page, kindOf, prevLive, lands, skipsInto, blocked, foldUnary, tryFoldBinop, tryFoldUnary, planFor, planAt}
 use Rattle.fold.specs.Plan as plan
 use Rattle.fold.specs.Pass.{constLoad, put, landed, applied, tryFold, folded, foldAll}
 use Rattle.optimizer.specs.Finish.{sourcesAfter, renewed, finished}
-use Rattle.optimizer.specs.Fold.{Buffers, buffers, outcome, foldPass, constantFold, joined, foldCall}
+use Rattle.optimizer.specs.Fold.{buffers, outcome, foldPass, constantFold, joined, foldCall}
 use Rattle.optimizer.specs.declared.FoldAnswer.the-variants.{Is}
 
--- two constants, no entry of phi_map, no pair
-abbrev counts : Counts
-counts = record { constants = 2; map = 0; sources = 0; stmts = 2; calls = 0 }
-
--- LoadConst 0; LoadConst 1; Add; jump 2, pool 2 and 3; a statement begins at the jump
-abbrev before : Buffers
-before =
-    buffers (LoadConst ∷ 0 ∷ 0 ∷ LoadConst ∷ 0 ∷ 1 ∷ Add ∷ 0 ∷ 0 ∷ Jump ∷ 1 ∷ 2 ∷ []) (1 ∷ 1 ∷ 9 ∷ 9 ∷ []) (2 ∷ 3 ∷ 9 ∷ 9 ∷ []) (9 ∷ 9 ∷ 9 ∷ 9 ∷ 9 ∷ []) (9 ∷ []) (3 ∷ 7 ∷ 9 ∷ []) (9 ∷ [])
-    (9 ∷ 9 ∷ 9 ∷ 9 ∷ 9 ∷ []) (9 ∷ 9 ∷ 9 ∷ 9 ∷ 9 ∷ 9 ∷ [])
-
--- LoadConst 2; jump 1, pool 2, 3 and 5
-pub p13 : foldCall false before counts
-    ≡ outcome (Is (record { instructions = 2; constants = 3; map = 0; sources = 0 }))
-    (buffers (LoadConst ∷ 0 ∷ 2 ∷ Jump ∷ 1 ∷ 1 ∷ 0 ∷ 0 ∷ 0 ∷ 0 ∷ 0 ∷ 0 ∷ []) (1 ∷ 1 ∷ 1 ∷ 9 ∷ []) (2 ∷ 3 ∷ 5 ∷ 9 ∷ []) (0 ∷ 0 ∷ 0 ∷ 0 ∷ 9 ∷ []) (9 ∷ []) (1 ∷ 7 ∷ 9 ∷ []) (9 ∷ [])
-    (0 ∷ 1 ∷ 1 ∷ 0 ∷ 9 ∷ []) (0 ∷ 1 ∷ 1 ∷ 1 ∷ 2 ∷ 9 ∷ []))
+-- 2 < 3: LoadTrue without a mark is left; each buffer has one word more than is needed, which stays
+pub truth : foldCall false
+    (buffers (LoadConst ∷ 2 ∷ 0 ∷ LoadConst ∷ 2 ∷ 1 ∷ Lt ∷ 0 ∷ 0 ∷ []) (1 ∷ 1 ∷ 9 ∷ 8 ∷ []) (2 ∷ 3 ∷ 9 ∷ 8 ∷ []) (9 ∷ 9 ∷ 9 ∷ 8 ∷ []) (8 ∷ []) (3 ∷ 7 ∷ 8 ∷ []) (8 ∷ []) (9 ∷ 9 ∷ 9 ∷ 8 ∷ [])
+    (9 ∷ 9 ∷ 9 ∷ 9 ∷ 8 ∷ []))
+    (record { constants = 2; map = 0; sources = 0; stmts = 2; calls = 0 })
+    ≡ outcome (Is (record { instructions = 1; constants = 2; map = 0; sources = 0 }))
+    (buffers (LoadTrue ∷ 0 ∷ 0 ∷ replicate 6 0) (1 ∷ 1 ∷ 9 ∷ 8 ∷ []) (2 ∷ 3 ∷ 9 ∷ 8 ∷ []) (0 ∷ 0 ∷ 0 ∷ 8 ∷ []) (8 ∷ []) (1 ∷ 7 ∷ 8 ∷ []) (8 ∷ []) (0 ∷ 1 ∷ 1 ∷ 8 ∷ [])
+    (0 ∷ 1 ∷ 1 ∷ 1 ∷ 8 ∷ []))
 unfolding foldCall joined constantFold foldPass finished renewed sourcesAfter readyOf tablesOf roomsOf tallyOf checkOf rules folds every many each first some remapOf mapped operandOf left compacted placed paired noop markAt marked pairsLeft indexed foldAll folded tryFold applied landed put constLoad planAt planFor kindOf page tryFoldBinop prevLive plan.operandOf blocked lands skipsInto constToVal toVal foldBinop ints inRange findOrPushConst findOrPush
-p13 = refl
-
--- in strict mode nothing folds: the dead marks alone are written
-pub p13-strict : foldCall true before counts
-    ≡ outcome (Is (record { instructions = 4; constants = 2; map = 0; sources = 0 }))
-    (buffers (LoadConst ∷ 0 ∷ 0 ∷ LoadConst ∷ 0 ∷ 1 ∷ Add ∷ 0 ∷ 0 ∷ Jump ∷ 1 ∷ 2 ∷ []) (1 ∷ 1 ∷ 9 ∷ 9 ∷ []) (2 ∷ 3 ∷ 9 ∷ 9 ∷ []) (9 ∷ 9 ∷ 9 ∷ 9 ∷ 9 ∷ []) (9 ∷ []) (3 ∷ 7 ∷ 9 ∷ []) (9 ∷ [])
-    (0 ∷ 0 ∷ 0 ∷ 0 ∷ 9 ∷ []) (9 ∷ 9 ∷ 9 ∷ 9 ∷ 9 ∷ 9 ∷ []))
-unfolding foldCall joined constantFold foldPass finished renewed sourcesAfter readyOf tablesOf roomsOf tallyOf checkOf rules folds every many each first some remapOf mapped operandOf left compacted placed paired noop markAt marked pairsLeft indexed foldAll folded tryFold applied landed put constLoad planAt planFor kindOf page tryFoldBinop prevLive plan.operandOf blocked lands skipsInto landsAny constToVal toVal foldBinop ints inRange findOrPushConst findOrPush
-p13-strict = refl
+truth = refl
 
 -- -((2 + 3) * 2): one load is left, of -10
 pub chain : foldCall false
-    (buffers (LoadConst ∷ 0 ∷ 0 ∷ LoadConst ∷ 0 ∷ 1 ∷ Add ∷ 0 ∷ 0 ∷ LoadConst ∷ 0 ∷ 0 ∷ Mul ∷ 0 ∷ 0 ∷ Minus ∷ 0 ∷ 0 ∷ []) (1 ∷ 1 ∷ 9 ∷ 9 ∷ 9 ∷ []) (2 ∷ 3 ∷ 9 ∷ 9 ∷ 9 ∷ []) (replicate 6 9) []
+    (buffers (LoadConst ∷ 2 ∷ 0 ∷ LoadConst ∷ 2 ∷ 1 ∷ Add ∷ 0 ∷ 0 ∷ LoadConst ∷ 2 ∷ 0 ∷ Mul ∷ 0 ∷ 0 ∷ Minus ∷ 0 ∷ 0 ∷ []) (1 ∷ 1 ∷ 9 ∷ 9 ∷ 9 ∷ []) (2 ∷ 3 ∷ 9 ∷ 9 ∷ 9 ∷ []) (replicate 6 9) []
     [] [] (replicate 6 9) (replicate 7 9))
     (record { constants = 2; map = 0; sources = 0; stmts = 0; calls = 0 })
     ≡ outcome (Is (record { instructions = 1; constants = 5; map = 0; sources = 0 }))
-    (buffers (LoadConst ∷ 0 ∷ 4 ∷ replicate 15 0) (1 ∷ 1 ∷ 1 ∷ 1 ∷ 1 ∷ []) (2 ∷ 3 ∷ 5 ∷ 10 ∷ 18446744073709551606 ∷ []) (replicate 6 0) [] [] [] (0 ∷ replicate 5 1)
+    (buffers (LoadConst ∷ 2 ∷ 4 ∷ replicate 15 0) (1 ∷ 1 ∷ 1 ∷ 1 ∷ 1 ∷ []) (2 ∷ 3 ∷ 5 ∷ 10 ∷ 18446744073709551606 ∷ []) (replicate 6 0) [] [] [] (0 ∷ replicate 5 1)
     (0 ∷ replicate 6 1))
 unfolding foldCall joined constantFold foldPass finished renewed sourcesAfter readyOf tablesOf roomsOf tallyOf checkOf rules folds every many each first some remapOf mapped operandOf left compacted placed paired noop markAt marked pairsLeft indexed foldAll folded tryFold applied landed put constLoad planAt planFor kindOf page tryFoldBinop tryFoldUnary foldUnary prevLive plan.operandOf blocked lands skipsInto constToVal toVal foldBinop foldNeg ints inRange findOrPushConst findOrPush
 chain = refl

@@ -1,0 +1,4 @@
+pub mod Marking
+pub mod Moving
+pub mod Whole
+pub mod Tested

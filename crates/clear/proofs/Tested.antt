@@ -1,0 +1,66 @@
+-- What the tests of the clearing call leave of the buffers, and what it answers by them. Assumes nothing.
+use Prim.Native.Nat.{ℕ, _*_, _%_, _≤_}
+use native.Mathlib.Omega.{arith}
+use mathlib.Core.Path.{_≡_, refl, sym, _∙_}
+use mathlib.Core.Bool.{Bool, true, false, not}
+use mathlib.Core.List.{List}
+use lib.Dec.{eqb, ltb}
+use lib.ListN.{length}
+use borrow.Author.Tests.{eqb-true, not-false}
+use Rattle.laws.specs.All.{every}
+use Rattle.laws.proofs.Branch.{and-true, or-false}
+use Rattle.code.proofs.Answers.{refused, told}
+use Rattle.code.proofs.Stages.{room-before, room-there}
+use Rattle.code.specs.declared.Refusal.{Refusal}
+use Rattle.code.specs.declared.Refusal.the-variants.{Length, Table}
+use Rattle.code.specs.declared.Checked.{Checked}
+use Rattle.code.specs.declared.Checked.the-variants.{Count, No as Refused}
+use Rattle.lent.specs.Chunk.{stride, count}
+use Rattle.lent.specs.Tables.{constantKept, within, constantsKept, tableOf}
+use Rattle.lent.specs.Check.{uneven, firstBad, checkOf}
+use Rattle.lent.proofs.Kept.{few, kinds-there, words-there}
+use Rattle.clear.specs.Clear.{Buffers, Outcome, outcome, cleared, readyOf, clearCall, Held}
+use Rattle.clear.specs.declared.ClearAnswer.the-variants.{No}
+
+never : {A : Type 0} (n : ℕ) (r : Refusal) → Count n ≡ Refused r → A
+never n r e = let z : _≡_ {A = ℕ} 0 1 = cc in absurd (omega arith)
+
+table-met : (n : ℕ) (v : Checked) (t : ℕ) (kept : Bool) → Count n ≡ tableOf v t kept → (v ≡ Count n) × (kept ≡ true)
+table-met n (Refused r) t kept e = never n r e
+table-met n (Count m) t true e = (sym e, refl)
+table-met n (Count m) t false e = never n (Table t) e
+
+check-met : (n : ℕ) (w : List ℕ) → Count n ≡ checkOf w → length w % stride ≡ 0
+unfolding checkOf
+check-met n w h = go (uneven w) refl h
+  where
+    go : (u : Bool) → uneven w ≡ u → Count n ≡ checkOf w → length w % stride ≡ 0
+    go true e h = never n (Length (length w)) (rw e at h)
+    go false e h = eqb-true (length w % stride) 0 (not-false _ (or-false (not (eqb (length w % stride) 0)) (ltb 65535 (count w)) e .0))
+
+whole-of : (w : List ℕ) → length w % stride ≡ 0 → length w ≡ stride * count w
+whole-of w e = omega arith
+
+module _ (b : Buffers) (m : ℕ) (v : Checked) (e : v ≡ readyOf b m) where
+  pub held-of : (n : ℕ) → v ≡ Count n → Held b m
+  unfolding readyOf
+  held-of n f =
+      let r : Count n ≡ readyOf b m = sym f ∙ e in
+      let v₁ = tableOf (checkOf (b .code)) 1 (constantsKept (b .kinds) (b .words) m) in
+      let t = table-met n (checkOf (b .code)) 1 (constantsKept (b .kinds) (b .words) m) (sym (room-before n v₁ 1 (length (b .scratch)) m r)) in
+      let i = and-true (within m (length (b .kinds)) (length (b .words))) (every (constantKept (b .kinds) (b .words)) m) (t .1) .0 in
+      record {
+        whole = whole-of (b .code) (check-met n (b .code) (sym (t .0)));
+        few = few m (length (b .kinds)) (length (b .words)) i;
+        kinds = kinds-there m (length (b .kinds)) (length (b .words)) i;
+        words = words-there m (length (b .kinds)) (length (b .words)) i;
+        scratch = room-there n v₁ 1 (length (b .scratch)) m r;
+      }
+
+  pub refused-by : (r : Refusal) → v ≡ Refused r → outcome (No r) b ≡ clearCall b m
+  unfolding clearCall
+  refused-by r h = refused v (readyOf b m) e (λ q. outcome (No q) b) (cleared b m) r (outcome (No r) b) h refl
+
+  pub told-by : (n : ℕ) (o : Outcome) → v ≡ Count n → o ≡ cleared b m → o ≡ clearCall b m
+  unfolding clearCall
+  told-by n o h z = told v (readyOf b m) e (λ q. outcome (No q) b) (cleared b m) n o h z

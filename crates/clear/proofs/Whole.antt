@@ -1,0 +1,116 @@
+-- Laws of the clearing call, from what its passes leave. Assumes nothing.
+use Prim.Native.Nat.{ℕ, zero, suc, _+_, _-_, _*_, _≤_, _<_}
+use native.Mathlib.Omega.{arith}
+use mathlib.Core.Path.{_≡_, refl, sym, ap, _∙_}
+use mathlib.Core.Bool.{Bool, true, false, cond, not, _&&_}
+use mathlib.Core.List.{List, [], _∷_, _++_}
+use lib.Dec.{eqb, ltb}
+use lib.ListN.{length, getD, take, drop, replicate, length-append, List·getD-append}
+use borrow.Author.Tests.{ltb-true}
+use mir.Val.{boolByte}
+use Rattle.laws.specs.All.{many}
+use Rattle.laws.specs.Each.{each}
+use Rattle.laws.proofs.Many.{many-few}
+use Rattle.laws.proofs.Each.{each-ext, each-word, each-at}
+use Rattle.code.specs.Check.{roomOf}
+use Rattle.code.specs.declared.Checked.{Checked}
+use Rattle.lent.specs.Chunk.{count, operandAt, markAt, opAt, names}
+use Rattle.lent.specs.Tables.{constantsKept, tableOf}
+use Rattle.lent.specs.Check.{checkOf}
+use Rattle.clear.specs.Unused.{named, before, keptAt, kept, pooled, renumbered, operandOf, insOf, recoded, numbered}
+use Rattle.clear.specs.Passes.{Marks, marked, Moved, Down, freed, Low, numberIn}
+use Rattle.clear.specs.Clear.{buffers, outcome, cleared, readyOf}
+use Rattle.clear.specs.declared.ClearAnswer.the-variants.{Is}
+
+-- ---- two tests, or two numberings, that agree below m
+
+many-ext : (f g : ℕ → Bool) (m : ℕ) → ((i : ℕ) → i < m → f i ≡ g i) → many f m ≡ many g m
+unfolding many
+many-ext f g zero h = refl
+many-ext f g (suc m) h = rw (many-ext f g m (λ i l. h i (omega arith)), h m (omega arith))
+
+module _ (f g : ℕ → Bool) (m : ℕ) (h : (i : ℕ) → i < m → f i ≡ g i) where
+  kept-ext : (l : List ℕ) → kept f m l ≡ kept g m l
+  unfolding kept
+  kept-ext l = each-ext (keptAt f l) (keptAt g l) m (λ i q. rw (h i q))
+
+  pub pooled-ext : (l : List ℕ) → pooled f m l ≡ pooled g m l
+  unfolding pooled
+  pooled-ext l = rw (kept-ext l, many-ext f g m h)
+
+module _ (a b : ℕ → ℕ) (m : ℕ) (h : (i : ℕ) → i < m → a i ≡ b i) where
+  numbered-ext : (l : List ℕ) → numbered a m l ≡ numbered b m l
+  unfolding numbered
+  numbered-ext l = ap (λ (t : List ℕ). t ++ drop m l) (each-ext (λ i. a i ∷ []) (λ i. b i ∷ []) m (λ i q. rw (h i q)))
+
+  operand-ext : (w : List ℕ) (k : ℕ) → operandOf a m w k ≡ operandOf b m w k
+  unfolding operandOf renumbered
+  operand-ext w k = go (names w k) refl (ltb (operandAt w k) m) refl
+    where
+      go : (n : Bool) → names w k ≡ n → (t : Bool) → ltb (operandAt w k) m ≡ t → operandOf a m w k ≡ operandOf b m w k
+      go false e t q = rw e
+      go true e false q = rw (e, q)
+      go true e true q = rw (e, q) (h (operandAt w k) (ltb-true (operandAt w k) m q))
+
+  pub recoded-ext : (w : List ℕ) → recoded a m w ≡ recoded b m w
+  unfolding recoded
+  recoded-ext w = each-ext (insOf a m w) (insOf b m w) (count w) (λ k q. ap (λ (x : ℕ). opAt w k ∷ markAt w k ∷ x ∷ []) (operand-ext w k))
+
+-- ---- what the passes leave
+
+byte-told : (b : Bool) → not (eqb (boolByte b) 0) ≡ b
+byte-told true = refl
+byte-told false = refl
+
+marked-named : {w : List ℕ} {m : ℕ} {old s : List ℕ} → Marks w m old s → (i : ℕ) → i < m → marked s i ≡ named w i
+marked-named {w} x i h = rw (x .at i h) (byte-told (named w i))
+
+module _ (number : ℕ → ℕ) (m : ℕ) (l : List ℕ) where
+  pub number-at : (i : ℕ) → i < m → getD (numbered number m l) i 0 ≡ number i
+  unfolding numbered
+  number-at i h =
+      let n : i < length (each (λ k. number k ∷ []) m) = rw (each-word number m) h in
+      List·getD-append (each (λ k. number k ∷ []) m) (drop m l) 0 i n ∙ each-at number m i h
+
+  number-there : m ≤ length (numbered number m l)
+  unfolding numbered
+  number-there = rw (length-append (each (λ k. number k ∷ []) m) (drop m l), each-word number m) (omega arith)
+
+-- the numbers that `keep` leaves
+pub low-of : (f : ℕ → Bool) (m r : ℕ) (kinds kinds′ words words′ s s′ : List ℕ) → m ≤ 65536 → Down f m r kinds kinds′ words words′ s s′ → Low m s′
+low-of f m r kinds kinds′ words words′ s s′ h d =
+    rw (d .numbers) (record { there = number-there (many f) m s; few = h; at = λ i q. rw (number-at (many f) m s i q) (many-few f i) })
+
+moved-pool : (f : ℕ → Bool) (m r : ℕ) (old l end : List ℕ) → r ≡ many f m → Moved f m r old l → end ≡ freed r m l → end ≡ pooled f m old
+unfolding pooled
+moved-pool f m r old l end c x e = e ∙ rw (x .front, x .rest, c)
+
+numbered-rest : (number : ℕ → ℕ) (m : ℕ) (a b : List ℕ) → drop m a ≡ drop m b → numbered number m a ≡ numbered number m b
+unfolding numbered
+numbered-rest number m a b e = ap (λ (l : List ℕ). each (λ i. number i ∷ []) m ++ l) e
+
+pub all-of-it : (code kinds words scratch : List ℕ) (m r : ℕ) (code′ kinds′ words′ scratch′ kinds″ words″ marks : List ℕ)
+    → Marks code m scratch marks
+    → Down (marked marks) m r kinds kinds′ words words′ marks scratch′
+    → kinds″ ≡ freed r m kinds′
+    → words″ ≡ freed r m words′
+    → code′ ≡ recoded (numberIn scratch′) m code
+    → outcome (Is r) (buffers code′ kinds″ words″ scratch′) ≡ cleared (buffers code kinds words scratch) m
+unfolding cleared
+all-of-it code kinds words scratch m r code′ kinds′ words′ scratch′ kinds″ words″ marks x d e f g =
+    let t = marked-named x in
+    let below : (i : ℕ) → i < m → many (marked marks) i ≡ before code i = λ i h. many-ext (marked marks) (named code) i (λ j q. t j (omega arith)) in
+    let a : r ≡ before code m = d .count ∙ many-ext (marked marks) (named code) m t in
+    let k : kinds″ ≡ pooled (named code) m kinds = moved-pool (marked marks) m r kinds kinds′ kinds″ (d .count) (d .kinds-moved) e ∙ pooled-ext (marked marks) (named code) m t kinds in
+    let v : words″ ≡ pooled (named code) m words = moved-pool (marked marks) m r words words′ words″ (d .count) (d .words-moved) f ∙ pooled-ext (marked marks) (named code) m t words in
+    let n : (i : ℕ) → i < m → numberIn scratch′ i ≡ before code i = λ i h. ap (λ (l : List ℕ). getD l i 0) (d .numbers) ∙ number-at (many (marked marks)) m marks i h ∙ below i h in
+    let c : code′ ≡ recoded (before code) m code = g ∙ recoded-ext (numberIn scratch′) (before code) m n code in
+    let s : scratch′ ≡ numbered (before code) m scratch = d .numbers ∙ numbered-ext (many (marked marks)) (before code) m below marks ∙ numbered-rest (before code) m marks scratch (x .held .tail) in
+    rw (a, k, v, c, s)
+
+-- ---- the tests
+
+pub ready-of : (code kinds words scratch : List ℕ) (m : ℕ) (v v′ r : Checked) (t : Bool) → v ≡ checkOf code → t ≡ constantsKept kinds words m → v′ ≡ tableOf v 1 t
+    → r ≡ roomOf v′ 1 (length scratch) m → r ≡ readyOf (buffers code kinds words scratch) m
+unfolding readyOf
+ready-of code kinds words scratch m v v′ r t a b d e = rw (e, d, b, a)

@@ -1,0 +1,287 @@
+-- What the folding call leaves passes tests 1 and 2 again: a folded chunk can be lent to the next call. Assumes nothing.
+use Prim.Native.Nat.{ℕ, zero, suc, _+_, _-_, _*_, _%_, _/_, _≤_, _<_}
+use native.Mathlib.Omega.{arith}
+use mathlib.Core.Path.{_≡_, refl, sym, ap, _∙_}
+use mathlib.Core.Bool.{Bool, true, false, cond, not}
+use mathlib.Core.List.{List, [], _∷_, _++_}
+use lib.Dec.{eqb, ltb}
+use lib.ListN.{length, getD, set, take, replicate, length-set, length-append, length-replicate, List·getD-append, List·getD-eq-default}
+use lib.Seq.{getD-set-same, getD-set-other, getD-append-add, length-take-le}
+use mir.Val.{boolByte}
+use borrow.Author.Tests.{eqb-true, eqb-false, ltb-true, ltb-false, not-false}
+use Rattle.laws.specs.All.{every, many}
+use Rattle.laws.specs.Each.{each}
+use Rattle.laws.specs.Walk.{first}
+use Rattle.laws.proofs.Branch.{or-false}
+use Rattle.laws.proofs.Many.{many-few}
+use Rattle.laws.proofs.Walk.{none-passed}
+use Rattle.code.specs.Answers.{asked}
+use Rattle.code.specs.declared.Refusal.{Refusal}
+use Rattle.code.specs.declared.Refusal.the-variants.{Length, Record}
+use Rattle.code.specs.declared.Checked.{Checked}
+use Rattle.code.specs.declared.Checked.the-variants.{Count, No as Refused}
+use Rattle.lent.specs.Chunk.{stride, count, opAt, markAt, folds, rules, breaksAt}
+use Rattle.lent.specs.Check.{uneven, firstBad, checkOf, readyOf}
+use Rattle.lent.specs.declared.Counts.{Counts}
+use Rattle.lent.proofs.Checks.{accepted}
+use Rattle.values.specs.declared.Val.{Val}
+use Rattle.values.specs.declared.Val.the-variants.{Int, Float as Real, Bool as Truth}
+use Rattle.chunk.specs.Pool.{findOrPushConst}
+use Rattle.chunk.specs.declared.Kept.{Kept}
+use Rattle.chunk.specs.declared.Kept.the-variants.{At, Full}
+use Rattle.fold.specs.Plan.{Chunk, chunk, planAt}
+use Rattle.fold.specs.Pass.{Loading, loadOf, constLoad, markOf, put, landed, applied, tryFold, folded, foldAll}
+use Rattle.fold.specs.declared.Loaded.{Loaded}
+use Rattle.fold.specs.declared.Loaded.the-variants.{As, No as Unloaded}
+use Rattle.fold.specs.declared.Plan.{Plan}
+use Rattle.fold.specs.declared.Plan.the-variants.{Stay, Put}
+use Rattle.fold.proofs.Planned.{Planned, planned}
+use Rattle.fold.proofs.Grown.{put-other, put-here, put-long}
+use Rattle.compact.specs.Remap.{alive, live}
+use Rattle.compact.specs.Tables.{operandOf, leftAt, left, compacted}
+use Rattle.phi_pass.specs.Phi.{marked}
+use Rattle.phi_pass.proofs.Pairs.{marked-length}
+use Rattle.optimizer.specs.Finish.{Tables, tables, mapOf, sourcesOf, renewed, finished}
+use Rattle.optimizer.specs.Fold.{Buffers, lensOf, needed, outcome, foldPass, constantFold, joined, foldCall}
+use Rattle.optimizer.specs.declared.FoldAnswer.the-variants.{No}
+use Rattle.optimizer.proofs.Tested.{held-of}
+use Rattle.optimizer.proofs.Whole.{pass-kept}
+
+-- every instruction keeps the record rules; past the end there is none to break them
+abbrev Ruled : List ℕ → Type 0
+Ruled w = (k : ℕ) → rules (opAt w k) (markAt w k) ≡ true
+
+no-words : rules 0 0 ≡ true
+unfolding rules folds
+no-words = refl
+
+-- rules are kept, and the code is as long
+record Keeps (w w′ : List ℕ) : Type 0 where
+  ruled : Ruled w → Ruled w′
+  long : length w′ ≡ length w
+
+same : (w : List ℕ) → Keeps w w
+same w = record { ruled = λ r. r; long = refl }
+
+both : {u v w : List ℕ} → Keeps u v → Keeps v w → Keeps u w
+both p q = record { ruled = λ r. q .ruled (p .ruled r); long = q .long ∙ p .long }
+
+-- ---- a load with its mark
+
+module _ (w : List ℕ) (p o x : ℕ) where
+  mark-other : (k : ℕ) → (k ≡ p → ⊥) → markAt (put w p o x) k ≡ markAt w k
+  unfolding put
+  mark-other k h =
+      getD-set-other (set (set w (stride * p) o) (stride * p + 1) (markOf o)) (stride * p + 2) (stride * k + 1) x 0 (λ e. omega arith)
+      ∙ getD-set-other (set w (stride * p) o) (stride * p + 1) (stride * k + 1) (markOf o) 0 (λ e. h (omega arith))
+      ∙ getD-set-other w (stride * p) (stride * k + 1) o 0 (λ e. omega arith)
+
+  mark-here : p < count w → markAt (put w p o x) p ≡ markOf o
+  unfolding put
+  mark-here h =
+      getD-set-other (set (set w (stride * p) o) (stride * p + 1) (markOf o)) (stride * p + 2) (stride * p + 1) x 0 (λ e. omega arith)
+      ∙ getD-set-same (set w (stride * p) o) (stride * p + 1) (markOf o) 0 (rw (length-set w (stride * p) o) (omega arith))
+
+  put-keeps : rules o (markOf o) ≡ true → p < count w → Keeps w (put w p o x)
+  put-keeps e h = record { ruled = λ r k. go r k (eqb k p) refl; long = put-long w p o x }
+    where
+      go : Ruled w → (k : ℕ) (t : Bool) → eqb k p ≡ t → rules (opAt (put w p o x) k) (markAt (put w p o x) k) ≡ true
+      go r k true q = rw (eqb-true k p q, put-here w p o x h, mark-here h) e
+      go r k false q = rw (put-other w p o x k (eqb-false k p q), mark-other k (eqb-false k p q)) (r k)
+
+abbrev Fair : Loaded → Type 0
+Fair (As o x m) = rules o (markOf o) ≡ true
+Fair Unloaded = Unit {0}
+
+kept-fair : (k : Kept) → Fair (loadOf k)
+unfolding rules folds markOf
+kept-fair (At i m) = refl
+kept-fair Full = tt
+
+load-fair : (v : Val) (kinds words : List ℕ) (n : ℕ) → Fair (constLoad v kinds words n .load)
+unfolding constLoad rules folds markOf
+load-fair (Int z) kinds words n = kept-fair (findOrPushConst kinds words n (Int z) .kept)
+load-fair (Real x) kinds words n = kept-fair (findOrPushConst kinds words n (Real x) .kept)
+load-fair (Truth true) kinds words n = refl
+load-fair (Truth false) kinds words n = refl
+
+-- ---- the pass
+
+module _ (i : ℕ) (s : Chunk) (h : i < count (s .code)) where
+  applied-keeps : (p q : ℕ) (v : Val) → Planned s i p q → Keeps (s .code) (applied (Put p q v) i s .code)
+  unfolding applied landed
+  applied-keeps p q v a = go (constLoad v (s .kinds) (s .words) (s .constants)) (load-fair v (s .kinds) (s .words) (s .constants))
+    where
+      go : (l : Loading) → Fair (l .load) → Keeps (s .code) (landed (l .load) (l .kinds) (l .words) p q i s .code)
+      go l f = by (l .load) f
+        where
+          by : (a′ : Loaded) → Fair a′ → Keeps (s .code) (landed a′ (l .kinds) (l .words) p q i s .code)
+          by (As o x m) f = put-keeps (s .code) p o x f (omega (arith, a .first))
+          by Unloaded f = same (s .code)
+
+  try-keeps : (strict : Bool) → Keeps (s .code) (tryFold strict i s .code)
+  unfolding tryFold applied
+  try-keeps strict = go (eqb (getD (s .dead) i 0) 0)
+    where
+      by : (plan : Plan) → planAt strict i s ≡ plan → Keeps (s .code) (applied plan i s .code)
+      by Stay e = same (s .code)
+      by (Put p q v) e = applied-keeps p q v (planned strict i s e)
+
+      go : (t : Bool) → Keeps (s .code) (cond t (applied (planAt strict i s) i s) s .code)
+      go true = by (planAt strict i s) refl
+      go false = same (s .code)
+
+module _ (strict : Bool) (s : Chunk) where
+  some-keep : (k : ℕ) → k ≤ count (s .code) → Keeps (s .code) (folded strict k s .code)
+  unfolding folded
+  some-keep zero l = same (s .code)
+  some-keep (suc k) l =
+      let p = some-keep k (omega arith) in
+      both p (try-keeps k (folded strict k s) (rw (p .long) l) strict)
+
+  all-keep : Keeps (s .code) (foldAll strict s .code)
+  unfolding foldAll
+  all-keep = some-keep (count (s .code)) (omega arith)
+
+pass-keeps : (strict : Bool) (s : Chunk) → Keeps (s .code) (foldPass strict s .code)
+unfolding foldPass
+pass-keeps strict s = all-keep strict (chunk (s .code) (replicate (length (s .dead)) 0) (s .kinds) (s .words) (s .constants))
+
+-- ---- compaction
+
+append-ruled : (xs ys : List ℕ) (m : ℕ) → length xs ≡ stride * m → Ruled xs → Ruled ys → Ruled (xs ++ ys)
+append-ruled xs ys m l a b k = go (ltb k m) refl
+  where
+    go : (t : Bool) → ltb k m ≡ t → rules (opAt (xs ++ ys) k) (markAt (xs ++ ys) k) ≡ true
+    go true q =
+        let h = ltb-true k m q in
+        rw (List·getD-append xs ys 0 (stride * k) (omega arith), List·getD-append xs ys 0 (stride * k + 1) (omega arith)) (a k)
+    go false q =
+        let h = ltb-false k m q in
+        let o : stride * k ≡ length xs + stride * (k - m) = omega arith in
+        let n : stride * k + 1 ≡ length xs + (stride * (k - m) + 1) = omega arith in
+        let p : opAt (xs ++ ys) k ≡ opAt ys (k - m) = ap (λ (i : ℕ). getD (xs ++ ys) i 0) o ∙ getD-append-add xs ys (stride * (k - m)) 0 in
+        let r : markAt (xs ++ ys) k ≡ markAt ys (k - m) = ap (λ (i : ℕ). getD (xs ++ ys) i 0) n ∙ getD-append-add xs ys (stride * (k - m) + 1) 0 in
+        rw (p, r) (b (k - m))
+
+one-ruled : (o m v : ℕ) → rules o m ≡ true → Ruled (o ∷ m ∷ v ∷ [])
+one-ruled o m v e zero = e
+one-ruled o m v e (suc k) =
+    let p : opAt (o ∷ m ∷ v ∷ []) (suc k) ≡ 0 = List·getD-eq-default (o ∷ m ∷ v ∷ []) 0 {n = stride * suc k} (omega arith) in
+    let q : markAt (o ∷ m ∷ v ∷ []) (suc k) ≡ 0 = List·getD-eq-default (o ∷ m ∷ v ∷ []) 0 {n = stride * suc k + 1} (omega arith) in
+    rw (p, q) no-words
+
+zeros : (n i : ℕ) → _≡_ {A = ℕ} (getD (replicate n 0) i 0) 0
+zeros zero i = refl
+zeros (suc n) zero = refl
+zeros (suc n) (suc i) = zeros n i
+
+zero-ruled : (n : ℕ) → Ruled (replicate n 0)
+zero-ruled n k = rw (zeros n (stride * k), zeros n (stride * k + 1)) no-words
+
+module _ (dead w : List ℕ) where
+  one-long : (k : ℕ) (t : Bool) → length (cond t (opAt w k ∷ markAt w k ∷ operandOf dead w k ∷ []) []) ≡ stride * boolByte t
+  one-long k true = refl
+  one-long k false = refl
+
+  left-long : (k : ℕ) → length (each (leftAt dead w) k) ≡ stride * live dead k
+  unfolding each many
+  left-long zero = refl
+  left-long (suc k) = length-append (each (leftAt dead w) k) (leftAt dead w k) ∙ omega (arith, left-long k, one-long k (alive dead k))
+
+  at-ruled : Ruled w → (k : ℕ) (t : Bool) → Ruled (cond t (opAt w k ∷ markAt w k ∷ operandOf dead w k ∷ []) [])
+  at-ruled r k true = one-ruled (opAt w k) (markAt w k) (operandOf dead w k) (r k)
+  at-ruled r k false = λ j. no-words
+
+  left-ruled : Ruled w → (k : ℕ) → Ruled (each (leftAt dead w) k)
+  unfolding each
+  left-ruled r zero = λ j. no-words
+  left-ruled r (suc k) = append-ruled (each (leftAt dead w) k) (leftAt dead w k) (live dead k) (left-long k) (left-ruled r k) (at-ruled r k (alive dead k))
+
+  compacted-keeps : stride * length dead ≤ length w → Keeps w (compacted dead w)
+  unfolding compacted left
+  compacted-keeps h =
+      let l = each (leftAt dead w) (length dead) in
+      record {
+        ruled = λ r. append-ruled l (replicate (length w - length l) 0) (live dead (length dead)) (left-long (length dead)) (left-ruled r (length dead)) (zero-ruled (length w - length l));
+        long =
+            length-append l (replicate (length w - length l) 0)
+            ∙ omega (arith, length-replicate {A = ℕ} (length w - length l) 0, left-long (length dead), many-few (alive dead) (length dead));
+      }
+
+finished-keeps : (t : Tables) → stride * length (t .dead) ≤ length (t .code) → Keeps (t .code) (finished t .code)
+unfolding finished renewed
+finished-keeps t h = go (every (alive d) (length d))
+  where
+    d : List ℕ
+    d = marked (t .code) (mapOf t) (sourcesOf t) (t .dead)
+
+    m : Tables
+    m = tables (t .code) (t .map) (t .sources) (t .stmts) (t .calls) d (t .remap) (t .left)
+
+    go : (u : Bool) → Keeps (t .code) (cond u m (renewed m) .code)
+    go true = same (t .code)
+    go false = compacted-keeps d (t .code) (rw (marked-length (t .code) (mapOf t) (sourcesOf t) (t .dead)) h)
+
+-- ---- the call
+
+fold-keeps : (strict : Bool) (b : Buffers) (c : Counts) → count (b .code) ≤ length (b .dead) → stride * length (b .dead) ≤ length (b .code)
+    → Keeps (b .code) (constantFold strict b c .after .code)
+unfolding constantFold
+fold-keeps strict b c h l =
+    let s = chunk (b .code) (b .dead) (b .kinds) (b .words) (c .constants) in
+    let f = foldPass strict s in
+    let k = pass-keeps strict s in
+    let z : length (f .dead) ≡ length (b .dead) = pass-kept strict s f h refl .dead-long ∙ length-replicate (length (b .dead)) 0 in
+    both k
+    (finished-keeps
+    (tables (f .code) (b .map) (b .sources) (b .stmts) (b .calls) (f .dead) (b .remap) (record { instructions = length (b .dead); map = c .map; sources = c .sources }))
+    (rw (z, k .long) l))
+
+never : {A : Type 0} (n : ℕ) (r : Refusal) → Refused r ≡ Count n → A
+never n r e = let z : _≡_ {A = ℕ} 0 1 = cc in absurd (omega arith)
+
+first-none : (f : ℕ → Bool) (m k : ℕ) → ((j : ℕ) → f j ≡ false) → first f k m ≡ k + m
+unfolding first
+first-none f zero k h = omega arith
+first-none f (suc m) k h = rw (h k) (omega (arith, first-none f m (suc k) h))
+
+-- what the tests say of a code that passes them
+ruled-of : (w : List ℕ) → length w ≡ stride * count w → count w ≤ firstBad w → Ruled w
+ruled-of w l h k = go (ltb k (count w)) refl
+  where
+    go : (t : Bool) → ltb k (count w) ≡ t → rules (opAt w k) (markAt w k) ≡ true
+    go true q = not-false _ (none-passed (breaksAt w) k (count w) 0 (omega arith) (omega arith) (omega (arith, ltb-true k (count w) q)))
+    go false q =
+        let p : opAt w k ≡ 0 = List·getD-eq-default w 0 {n = stride * k} (omega (arith, ltb-false k (count w) q)) in
+        let r : markAt w k ≡ 0 = List·getD-eq-default w 0 {n = stride * k + 1} (omega (arith, ltb-false k (count w) q)) in
+        rw (p, r) no-words
+
+-- a code that keeps the rules of one that passes them, and its length, passes too
+checks : (w w′ : List ℕ) (n : ℕ) → Keeps w w′ → checkOf w ≡ Count n → checkOf w′ ≡ Count n
+unfolding checkOf
+checks w w′ n k e = go (uneven w) refl (ltb (firstBad w) (count w)) refl e
+  where
+    go : (u : Bool) → uneven w ≡ u → (b : Bool) → ltb (firstBad w) (count w) ≡ b → checkOf w ≡ Count n → checkOf w′ ≡ Count n
+    go true p b q h = never n (Length (length w)) (rw p at h)
+    go false p true q h = never n (Record (firstBad w)) (rw (p, q) at h)
+    go false p false q h =
+        let z : Count (count w) ≡ Count n = rw (p, q) at h in
+        let l : length w % stride ≡ 0 = eqb-true (length w % stride) 0 (not-false _ (or-false (not (eqb (length w % stride) 0)) (ltb 65535 (count w)) p .0)) in
+        let r : Ruled w′ = k .ruled (ruled-of w (omega arith) (ltb-false (firstBad w) (count w) q)) in
+        let f : firstBad w′ ≡ 0 + count w′ = first-none (breaksAt w′) (count w′) 0 (λ j. ap not (r j)) in
+        let u : uneven w′ ≡ false = rw (k .long) p in
+        sym (accepted w′ (firstBad w′) refl u (omega arith)) ∙ ap (λ (m : ℕ). Count (m / stride)) (k .long) ∙ z
+
+-- tests 1 and 2 pass again after the folding call
+pub again : (strict : Bool) (b : Buffers) (c : Counts) (n : ℕ) → checkOf (b .code) ≡ Count n → checkOf (foldCall strict b c .after .code) ≡ Count n
+unfolding foldCall joined
+again strict b c n e = go (readyOf (b .code) (b .kinds) (b .words) c (lensOf b)) refl
+  where
+    go : (v : Checked) → v ≡ readyOf (b .code) (b .kinds) (b .words) c (lensOf b)
+        → checkOf (asked v (λ r. outcome (No r) b) (joined b c (constantFold strict (needed b c) c)) .after .code) ≡ Count n
+    go (Refused r) q = e
+    go (Count m) q =
+        let h = held-of b c m (Count m) q refl in
+        let d : length (take (count (b .code)) (b .dead)) ≡ count (b .code) = length-take-le (count (b .code)) (b .dead) (h .dead) in
+        checks (b .code) (constantFold strict (needed b c) c .after .code) n (fold-keeps strict (needed b c) c (omega arith) (omega (arith, h .whole))) e

@@ -3,8 +3,8 @@ ghost use mathlib.Core.Path.{_≡_};
 ghost use mathlib.Core.Bool.{not};
 ghost use Prim.Native.Nat.{_+_, _*_, _%_, _/_, _<_, _≤_, min};
 ghost use lib.ListN.{length};
-ghost use Rattle.code.specs.Ins.{insAt, isCall, wide};
-ghost use Rattle.code.specs.Rules.{rules, ruleAt, tryKept};
+ghost use Rattle.code.specs.Ins.{insAt, count, isCall, wide};
+ghost use Rattle.code.specs.Rules.{rules, hasRule, ruleAt, tryKept};
 ghost use Rattle.code.specs.Check.{Whole, firstBad, firstBadTry, checkOf, registersOf, triedOf, insideOf, roomOf};
 ghost use Rattle.code.specs.Answers.{refusalOf, refusedOf, answerOf};
 
@@ -56,7 +56,7 @@ pub struct Answer {
 }
 
 // The instruction at k, which is there.
-fn ins_in(code: &[u16], k: usize) -> Ins
+pub fn ins_in(code: &[u16], k: usize) -> Ins
     requires { ⌜ 6 * k + 5 < length (now code) ⌝ }
     ensures { λ r. ⌜ r ≡ insAt (now (code .entry)) k ⌝ }
 {
@@ -116,13 +116,26 @@ fn keeps_rules(i: Ins, k: usize, next: u16) -> bool
     (o <= LAST) & marks & (x <= 255) & push & unpack & args & followed & enter & exit
 }
 
-// Whether the instruction at k breaks a record rule.
+// Whether a rule speaks of the opcode by name.
+fn has_rule(o: u16) -> bool
+    ensures { λ r. ⌜ r ≡ hasRule o ⌝ }
+{
+    let call = (o == CallGlobalR) | (o == CallR) | (o == CallMethodR) | (o == CallSpreadR);
+    call | (o == PushRegs) | (o == UnpackR) | (o == ArgsR) | (o == WithEnter) | (o == WithExit)
+}
+
+// Whether the instruction at k breaks a record rule. Most opcodes have no rule of their own: of these the instruction alone is read.
 fn breaks(code: &[u16], k: usize) -> bool
-    requires { ⌜ Whole (now code) × (k < length (now code)) ⌝ }
+    requires { ⌜ Whole (now code) × (k < count (now code)) ⌝ }
     ensures { λ r. ⌜ r ≡ not (ruleAt (now (code .entry)) k) ⌝ }
 {
-    let next = ins_at(code, k + 1);
-    let kept = keeps_rules(ins_at(code, k), k, next.op);
+    let i = ins_in(code, k);
+    if has_rule(i.op) {
+        let next = ins_at(code, k + 1);
+        let kept = keeps_rules(i, k, next.op);
+        return !kept;
+    }
+    let kept = (i.op <= LAST) & (i.marks <= 7) & (i.marks % 2 != 1) & (i.x <= 255);
     !kept
 }
 

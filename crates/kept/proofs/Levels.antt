@@ -2,17 +2,18 @@
 use mathlib.Core.Path.{_≡_, refl, sym, ap, ap₂, _∙_, subst}
 use mathlib.Core.Bool.{Bool, true, false, cond, _&&_}
 use mathlib.Core.List.{List, [], _∷_, _++_, append-nil, append-assoc}
-use Prim.Native.Nat.{ℕ, zero, suc, _+_, _-_, _*_, _/_, _%_, _^_, _≤_, _<_, min, max, zero-le}
+use Prim.Native.Nat.{ℕ, zero, suc, _+_, _-_, _*_, _/_, _%_, _^_, _≤_, _<_, min, zero-le}
 use native.Mathlib.Nat.{mod-lt, zero-lt-suc}
 use native.Mathlib.Numerals.{add-one}
 use native.Mathlib.Omega.{arith}
 use mir.Syntax.{w64}
 use mir.Val.{Fits}
-use lib.Bits.{bitOr, or-zero-r}
+use lib.Bits.{bitOr, or-zero-l, or-zero-r}
 use lib.Dec.{ltb}
 use lib.Seq.{drop-cons, length-paste}
-use lib.ListN.{length, getD, take, drop, length-append, length-drop}
+use lib.ListN.{length, getD, take, drop, replicate, length-append, length-drop}
 use Rattle.code.specs.Ins.{count}
+use Rattle.roles.specs.Sets.{only}
 use Rattle.flow.specs.Set.{bit, minus, alone}
 use Rattle.flow.specs.Flow.{joined}
 use Rattle.flow.specs.Sweep.{row}
@@ -20,16 +21,17 @@ use Rattle.flow.specs.Listed.{listed, keep, Listing}
 use Rattle.flow.specs.Words.{value, rowsOf, Small, Holds}
 use Rattle.flow.specs.Kept.{Level, handlersOf, added, kept}
 use Rattle.flow.proofs.Bits.{bit-ext, bit-lt, or-bit, minus-bit, low-bit, half-bit, minus-lt}
-use Rattle.flow.proofs.Words.{as-set}
+use Rattle.flow.proofs.Words.{as-set, holds-none}
 use Rattle.flow.proofs.Buffer.{row-inside, rows-at}
 use Rattle.flow.proofs.Listed.{listed-wide}
 use Rattle.flow.proofs.Tries.{added-none, added-next, handlers-none}
 use Rattle.flow.proofs.Written.{Written, written-start, written-as, written-long, written-room, written-more, written-end, listing-append}
+use Rattle.steps.specs.Code.{setOf}
 use Rattle.rows.proofs.Sets.{or-assoc, joined-append}
-use Rattle.kept.specs.Level.{resumeOf, resultAt, resultOf, levelOf, Goes}
+use Rattle.kept.specs.Level.{resumeOf, resultOf, levelOf, Goes}
 use Rattle.kept.specs.Lists.{Ready}
 use Rattle.kept.proofs.Resume.{resume-in}
-use Rattle.kept.proofs.Sets.{scaled}
+use Rattle.kept.proofs.Sets.{scaled, wide}
 use Rattle.kept.proofs.Walks.{listed-le}
 
 -- ---- the resume row less the result register
@@ -44,11 +46,14 @@ module _ (regs : ℕ) (w : List ℕ) (words : ℕ) (rows : List ℕ) (k at resul
   pub main-small : Fits w64 (at * words)
   main-small = scaled at words (omega (arith, at-in, ready .valid .few)) (ready .narrow)
 
-  pub main-is : (less out : List ℕ) → Holds 64 less (alone regs result) → Holds 64 out (minus (value 64 (take words (drop (at * words) rows))) (value 64 less))
+  pub main-is : (whole out : List ℕ) → Holds 64 whole (bitOr (value 64 (replicate 16 0)) (value 64 (take words (drop (at * words) rows))))
+      → Holds 64 out (minus (value 64 whole) (setOf regs (only true result)))
       → Holds 64 out (minus (row (rowsOf 64 words (suc (count w)) rows) (resumeOf w k)) (resultOf regs w k))
-  main-is less out p q = as-set q (ap₂ minus
-      (sym (rows-at 64 words (suc (count w)) rows at (omega (arith, at-in))) ∙ ap (row (rowsOf 64 words (suc (count w)) rows)) (g .resumes))
-      (p .is ∙ ap (alone regs) (g .results)))
+  unfolding joined
+  main-is whole out p q = as-set q (ap₂ minus
+      (p .is ∙ ap (λ (x : ℕ). bitOr x (value 64 (take words (drop (at * words) rows)))) (holds-none 64 wide 16 .is) ∙ or-zero-l (value 64 (take words (drop (at * words) rows)))
+      ∙ sym (rows-at 64 words (suc (count w)) rows at (omega (arith, at-in))) ∙ ap (row (rowsOf 64 words (suc (count w)) rows)) (g .resumes))
+      (or-zero-r (alone regs result) ∙ ap (alone regs) (g .results)))
 
 pub ruleset mains = (main-fits, main-small, main-is)
 

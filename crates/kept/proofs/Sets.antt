@@ -1,20 +1,20 @@
--- Sets in 16 words: one register, and a row less a set. Assumes nothing.
-use mathlib.Core.Path.{_≡_, refl, ap, _∙_, subst}
+-- Sets in 16 words: a row less a set. Assumes nothing.
+use mathlib.Core.Path.{_≡_, refl, _∙_, subst}
 use mathlib.Core.List.{List}
-use Prim.Native.Nat.{ℕ, _+_, _-_, _*_, _/_, _%_, _^_, _≤_, _<_, zero-le}
+use Prim.Native.Nat.{ℕ, _+_, _-_, _*_, _^_, _≤_, _<_, zero-le}
 use native.Mathlib.Nat.{zero-lt-suc, mul-le-mul}
 use native.Mathlib.Decide.{decLt}
 use native.Mathlib.Omega.{arith}
 use borrow.Author.Needs.{fits-under}
 use mir.Syntax.{w64}
 use mir.Val.{Fits}
-use lib.Bits.{bitAnd, bitOr, or-zero-l}
+use lib.Bits.{bitAnd}
 use lib.ListN.{length, getD, take, drop, set, replicate, length-set, length-replicate}
-use Rattle.flow.specs.Set.{minus, alone}
+use Rattle.flow.specs.Set.{minus}
 use Rattle.flow.specs.Words.{value, Small, Holds}
 use Rattle.flow.proofs.Bits.{and-not, bit-ext, bit-zero, minus-bit}
 use Rattle.flow.proofs.Rows.{zeros-at}
-use Rattle.flow.proofs.Words.{as-set, holds-none, holds-minus, with-in, with-out}
+use Rattle.flow.proofs.Words.{holds-minus}
 use Rattle.flow.proofs.Buffer.{window-in, window-past, small-window}
 use Rattle.flow.proofs.Fill.{Front, front-in, front-past, front-none, front-more}
 
@@ -27,18 +27,6 @@ held s h = record { small = h; is = refl }
 -- where a row begins fits a word
 pub scaled : (t words : ℕ) → t ≤ 65536 → words ≤ 16 → Fits w64 (t * words)
 scaled t words a b = fits-under w64 (t * words) 1048577 (omega (arith, mul-le-mul a b)) tt
-
--- ---- one register
-
-module _ (regs r : ℕ) (le : regs ≤ 1024) where
-  room : regs ≤ length (replicate {A = ℕ} 16 0) * 64
-  room = omega (arith, length-replicate {A = ℕ} 16 0)
-
-  pub only-in : r < regs → Holds 64 (set (replicate 16 0) (r / 64) (bitOr (getD (replicate 16 0) (r / 64) 0) ((1 * 2 ^ (r % 64)) % 2 ^ 64))) (alone regs r)
-  only-in l = as-set (with-in 64 wide (replicate 16 0) 0 regs r (holds-none 64 wide 16) room l) (or-zero-l (alone regs r))
-
-  pub only-out : regs ≤ r → Holds 64 (replicate 16 0) (alone regs r)
-  only-out l = as-set (with-out 64 wide (replicate 16 0) 0 regs r (holds-none 64 wide 16) room l) (or-zero-l (alone regs r))
 
 -- ---- a row less a set, word by word
 

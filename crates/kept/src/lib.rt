@@ -8,7 +8,7 @@ ghost use lib.Bits.{bitOr};
 ghost use lib.Dec.{ltb};
 ghost use Rattle.code.specs.Ins.{count};
 ghost use Rattle.code.specs.Check.{Valid};
-ghost use Rattle.flow.specs.Set.{minus, alone};
+ghost use Rattle.flow.specs.Set.{minus};
 ghost use Rattle.flow.specs.Flow.{joined};
 ghost use Rattle.flow.specs.Sweep.{row};
 ghost use Rattle.flow.specs.Listed.{listed, Listing};
@@ -92,19 +92,6 @@ fn after(code: &[u16], k: usize) -> Onward
         at: k + 1,
         result: i.a as usize,
     }
-}
-
-// Register r alone, if there is such a register.
-fn only_reg(regs: usize, r: usize) -> [u64; 16]
-    requires { ⌜ regs ≤ 1024 ⌝ }
-    ensures { λ s. ⌜ Holds 64 s (alone regs r) ⌝ }
-{
-    let mut set = [0u64; 16];
-    if r < regs {
-        set[r / 64] = set[r / 64] | (1u64 << (r % 64));
-        return set;
-    }
-    set
 }
 
 // The row that starts at `at`, less a set.
@@ -291,7 +278,10 @@ fn main_row(code: &[u16], regs: usize, rows: &[u64], words: usize, k: usize) -> 
     ensures { λ s. ⌜ Holds 64 s (minus (row (rowsBy words (now (code .entry)) (now (rows .entry))) (resumeOf (now (code .entry)) k)) (resultOf regs (now (code .entry)) k)) ⌝ }
 {
     let a = after(code, k);
-    less_row(rows, a.at * words, words, only_reg(regs, a.result))
+    let mut set = [0u64; 16];
+    rows::join_row(&mut set, rows, a.at * words, words);
+    rows::without_reg(&mut set, true, regs, a.result);
+    set
 }
 
 // How many registers the level at k keeps.

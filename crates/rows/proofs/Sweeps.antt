@@ -10,6 +10,8 @@ use lib.ListN.{length, replicate, length-replicate}
 use Rattle.laws.specs.Walk.{first}
 use Rattle.code.specs.Ins.{insAt, count}
 use Rattle.code.specs.Check.{Valid}
+use Rattle.code.specs.declared.Ins.{Ins}
+use Rattle.code.proofs.Rules.{op-known}
 use Rattle.flow.specs.Flow.{rowAt}
 use Rattle.flow.specs.Sweep.{row, below, Put, Found}
 use Rattle.flow.specs.Words.{rowsOf}
@@ -20,7 +22,9 @@ use Rattle.steps.specs.Level.{isLevel, firstLevel}
 use Rattle.steps.specs.Code.{afterAt, flow}
 use Rattle.steps.specs.Step.{StepAt, goesBefore, stepFlow}
 use Rattle.steps.specs.declared.Step.{Step}
+use Rattle.steps.specs.Calm.{calmOf, calmStep}
 use Rattle.steps.proofs.After.{below-step}
+use Rattle.steps.proofs.Told.{calm-step}
 
 -- the step's equation is the code's
 row-same : (w : List ℕ) (regs k : ℕ) (s : Step) (R : ℕ → ℕ) → StepAt w k s → rowAt (stepFlow regs s) R k ≡ rowAt (flow regs w) R k
@@ -129,6 +133,17 @@ module _ {w : List ℕ} {regs from start full lost lost₀ : ℕ} {rows₀ rows 
       pub whole-less : toGo w regs from (full + 1) lost < toGo w regs from full lost₀
       unfolding toGo
       whole-less = rw (← p .same) (full-less (flow regs w) from start full lost rows₀ g rows changed back k q l (not-false (changed && back) e))
+
+-- the opcode of accepted code is known
+pub known : {w : List ℕ} {regs from start full lost lost₀ : ℕ} {rows₀ rows : List ℕ} {changed back : Bool} {k : ℕ} → Turn w regs from start full lost lost₀ rows₀ rows changed back k
+    → Valid w → k - 1 < count w → {i : Ins} → i ≡ insAt w (k - 1) → i .op ≤ 190
+known {w} {k = k} p v l e = rw e (op-known (insAt w (k - 1)) (k - 1) (insAt w (k - 1 + 1) .op) (v .kept (k - 1) l))
+
+-- a step that its opcode tells goes nowhere
+pub calm-turn : {w : List ℕ} {regs from start full lost lost₀ : ℕ} {rows₀ rows : List ℕ} {changed back : Bool} {k : ℕ} → Turn w regs from start full lost lost₀ rows₀ rows changed back k
+    → {i : Ins} {m : ℕ} → i ≡ insAt w (k - 1) → m ≡ calmOf (i .op) → start < k → m < 16 → {out : List ℕ} {changed′ : Bool} → Put (stepFlow regs (calmStep i m)) rows (k - 1) out changed′
+    → Turn w regs from start full lost lost₀ rows₀ out (changed′ || changed) back (k - 1)
+calm-turn {w} {k = k} p {i} {m} place told l few put = word-step p (calm-step w (k - 1) m i place told few) l {t = false} refl refl put refl
 
 pub wide-step : {w : List ℕ} {regs full : ℕ} {rows₀ rows : List ℕ} {changed back : Bool} {k : ℕ} → Turn w regs 0 0 full 0 0 rows₀ rows changed back k
     → {s : Step} → StepAt w (k - 1) s → 0 < k → {out : List ℕ} {changed′ back′ : Bool} → Put (stepFlow regs s) rows (k - 1) out changed′

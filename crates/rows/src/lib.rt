@@ -14,7 +14,9 @@ ghost use Rattle.flow.specs.Words.{value, window, rowsOf, Small, Holds, Stored}
 ghost use Rattle.steps.specs.Level.{firstLevel};
 ghost use Rattle.steps.specs.Code.{setOf, flow};
 ghost use Rattle.steps.specs.Step.{named, usedOf, givenOf, afterOf, stepFlow};
+ghost use Rattle.steps.specs.Calm.{calmStep};
 ghost use Rattle.rows.specs.Route.{wordsFor, Rows};
+use code::Ins;
 use steps::Step;
 
 // How many sweeps there were: full ones, and ones left because a jump goes to before their start.
@@ -118,6 +120,17 @@ fn put_word(s: Step, regs: usize, rows: &mut [u64], k: usize) -> bool
     true
 }
 
+// Row k is found and stored, where an instruction only reads and writes the registers that m tells; most write a and read b and c, which is 13.
+fn put_calm(i: Ins, m: u8, regs: usize, rows: &mut [u64], k: usize) -> bool
+    requires { ⌜ (regs ≤ 64) × (k + 1 < length (now rows)) ⌝ }
+    ensures { λ r. ⌜ Put (stepFlow regs (calmStep i m)) (now (rows .entry)) k (now (rows .exit)) r ⌝ }
+{
+    if m == 13 {
+        return put_word(steps::calm(i, 13), regs, rows, k);
+    }
+    put_word(steps::calm(i, m), regs, rows, k)
+}
+
 // `live_rows`: the rows from the first level on, for 64 registers at most.
 pub fn live_word(code: &[u16], regs: usize, rows: &mut [u64]) -> Counts
     requires { ⌜ Valid (now code) × (regs ≤ 64) × (length (now rows) ≡ suc (count (now code))) ⌝ }
@@ -133,7 +146,14 @@ pub fn live_word(code: &[u16], regs: usize, rows: &mut [u64]) -> Counts
         let mut back = false;
         let mut k = n;
         while start < k {
-            let step = steps::step_at(code, n, k - 1);
+            let i = code::ins_in(code, k - 1);
+            let m = steps::calm_of(i.op);
+            if m < 16 {
+                changed = put_calm(i, m, regs, rows, k - 1) | changed;
+                k -= 1;
+                continue;
+            }
+            let step = steps::step_by(code, n, k - 1, i, m);
             if steps::goes_before(step, start) {
                 clear(rows);
                 start = 0;
@@ -151,29 +171,26 @@ pub fn live_word(code: &[u16], regs: usize, rows: &mut [u64]) -> Counts
     }
 }
 
-// A set and the row that starts at `at`, together.
-fn join_row(set: [u64; 16], rows: &[u64], at: usize, words: usize) -> [u64; 16]
-    requires { ⌜ (words ≤ 16) × (at + words ≤ length (now rows)) × Small 64 set × Small 64 (now rows) ⌝ }
-    ensures { λ s. ⌜ Holds 64 s (bitOr (value 64 set) (value 64 (take words (drop at (now (rows .entry)))))) ⌝ }
+// The row that starts at `at` is joined to a set.
+pub fn join_row(set: &mut [u64], rows: &[u64], at: usize, words: usize)
+    requires { ⌜ (words ≤ 16) × (at + words ≤ length (now rows)) × (length (now set) ≡ 16) × Small 64 (now set) × Small 64 (now rows) ⌝ }
+    ensures { λ _. ⌜ Holds 64 (now (set .exit)) (bitOr (value 64 (now (set .entry))) (value 64 (take words (drop at (now (rows .entry)))))) ⌝ }
 {
-    let mut out = set;
     let mut j = 0;
     while j < words {
-        out[j] = out[j] | rows[at + j];
+        set[j] = set[j] | rows[at + j];
         j += 1;
     }
-    out
 }
 
-// A set and row k, if, together.
-fn join_if(t: bool, set: [u64; 16], rows: &[u64], k: usize, words: usize) -> [u64; 16]
-    requires { ⌜ (words ≤ 16) × (k * words + words ≤ length (now rows)) × Small 64 set × Small 64 (now rows) ⌝ }
-    ensures { λ s. ⌜ Holds 64 s (bitOr (value 64 set) (cond t (value 64 (window words k (now (rows .entry)))) 0)) ⌝ }
+// Row k, if, is joined to a set.
+fn join_if(t: bool, set: &mut [u64], rows: &[u64], k: usize, words: usize)
+    requires { ⌜ (words ≤ 16) × (k * words + words ≤ length (now rows)) × (length (now set) ≡ 16) × Small 64 (now set) × Small 64 (now rows) ⌝ }
+    ensures { λ _. ⌜ Holds 64 (now (set .exit)) (bitOr (value 64 (now (set .entry))) (cond t (value 64 (window words k (now (rows .entry)))) 0)) ⌝ }
 {
     if t {
-        return join_row(set, rows, k * words, words);
+        join_row(set, rows, k * words, words);
     }
-    set
 }
 
 // The rows after a step at k, together.
@@ -181,73 +198,67 @@ fn after_wide(s: Step, rows: &[u64], n: usize, words: usize, k: usize) -> [u64; 
     requires { ⌜ (words ≤ 16) × (k < n) × (s .target ≤ n) × (suc n * words ≤ length (now rows)) × Small 64 (now rows) ⌝ }
     ensures { λ r. ⌜ Holds 64 r (joined (row (rowsOf 64 words (suc n) (now (rows .entry)))) (afterOf s k)) ⌝ }
 {
-    let next = join_if(s.on, [0u64; 16], rows, k + 1, words);
-    join_if(s.to, next, rows, s.target, words)
-}
-
-// A set with a register, if, and if there is such a register.
-fn with_reg(set: [u64; 16], t: bool, regs: usize, reg: usize) -> [u64; 16]
-    requires { ⌜ (regs ≤ 1024) × Small 64 set ⌝ }
-    ensures { λ s. ⌜ Holds 64 s (bitOr (value 64 set) (setOf regs (only t reg))) ⌝ }
-{
-    if t {
-        if reg < regs {
-            let mut out = set;
-            out[reg / 64] = out[reg / 64] | (1u64 << (reg % 64));
-            return out;
-        }
-        return set;
-    }
+    let mut set = [0u64; 16];
+    join_if(s.on, &mut set, rows, k + 1, words);
+    join_if(s.to, &mut set, rows, s.target, words);
     set
 }
 
-// A set without a register, if, and if there is such a register.
-fn without_reg(set: [u64; 16], t: bool, regs: usize, reg: usize) -> [u64; 16]
-    requires { ⌜ (regs ≤ 1024) × Small 64 set ⌝ }
-    ensures { λ s. ⌜ Holds 64 s (minus (value 64 set) (setOf regs (only t reg))) ⌝ }
+// A register is put in a set, if, and if there is such a register.
+fn with_reg(set: &mut [u64], t: bool, regs: usize, reg: usize)
+    requires { ⌜ (regs ≤ 1024) × (length (now set) ≡ 16) × Small 64 (now set) ⌝ }
+    ensures { λ _. ⌜ Holds 64 (now (set .exit)) (bitOr (value 64 (now (set .entry))) (setOf regs (only t reg))) ⌝ }
 {
     if t {
         if reg < regs {
-            let mut out = set;
-            let word = out[reg / 64];
-            out[reg / 64] = word ^ (word & (1u64 << (reg % 64)));
-            return out;
+            set[reg / 64] = set[reg / 64] | (1u64 << (reg % 64));
         }
-        return set;
     }
-    set
 }
 
-// A set with those of three registers that a mask names.
-fn with_named(set: [u64; 16], regs: usize, mask: u8, a: u16, b: u16, c: u16) -> [u64; 16]
-    requires { ⌜ (regs ≤ 1024) × Small 64 set ⌝ }
-    ensures { λ s. ⌜ Holds 64 s (bitOr (value 64 set) (setOf regs (named mask a b c))) ⌝ }
+// A register is taken out of a set, if, and if there is such a register.
+pub fn without_reg(set: &mut [u64], t: bool, regs: usize, reg: usize)
+    requires { ⌜ (regs ≤ 1024) × (length (now set) ≡ 16) × Small 64 (now set) ⌝ }
+    ensures { λ _. ⌜ Holds 64 (now (set .exit)) (minus (value 64 (now (set .entry))) (setOf regs (only t reg))) ⌝ }
 {
-    let p = with_reg(set, mask / 2 % 2 == 1, regs, a as usize);
-    let q = with_reg(p, mask / 4 % 2 == 1, regs, b as usize);
-    with_reg(q, mask / 8 % 2 == 1, regs, c as usize)
+    if t {
+        if reg < regs {
+            let word = set[reg / 64];
+            set[reg / 64] = word ^ (word & (1u64 << (reg % 64)));
+        }
+    }
 }
 
-// A set without those of three registers that a mask names.
-fn without_named(set: [u64; 16], regs: usize, mask: u8, a: u16, b: u16, c: u16) -> [u64; 16]
-    requires { ⌜ (regs ≤ 1024) × Small 64 set ⌝ }
-    ensures { λ s. ⌜ Holds 64 s (minus (value 64 set) (setOf regs (named mask a b c))) ⌝ }
+// Those of three registers that a mask names are put in a set.
+fn with_named(set: &mut [u64], regs: usize, mask: u8, a: u16, b: u16, c: u16)
+    requires { ⌜ (regs ≤ 1024) × (length (now set) ≡ 16) × Small 64 (now set) ⌝ }
+    ensures { λ _. ⌜ Holds 64 (now (set .exit)) (bitOr (value 64 (now (set .entry))) (setOf regs (named mask a b c))) ⌝ }
 {
-    let p = without_reg(set, mask / 2 % 2 == 1, regs, a as usize);
-    let q = without_reg(p, mask / 4 % 2 == 1, regs, b as usize);
-    without_reg(q, mask / 8 % 2 == 1, regs, c as usize)
+    with_reg(set, mask / 2 % 2 == 1, regs, a as usize);
+    with_reg(set, mask / 4 % 2 == 1, regs, b as usize);
+    with_reg(set, mask / 8 % 2 == 1, regs, c as usize);
 }
 
-// A set without the `run` registers from b on.
-fn without_run(set: [u64; 16], regs: usize, b: usize, run: u8) -> [u64; 16]
-    requires { ⌜ (regs ≤ 1024) × (b + run ≤ 65790) × Small 64 set ⌝ }
-    ensures { λ s. ⌜ Holds 64 s (minus (value 64 set) (setOf regs (from b run))) ⌝ }
+// Those of three registers that a mask names are taken out of a set.
+fn without_named(set: &mut [u64], regs: usize, mask: u8, a: u16, b: u16, c: u16)
+    requires { ⌜ (regs ≤ 1024) × (length (now set) ≡ 16) × Small 64 (now set) ⌝ }
+    ensures { λ _. ⌜ Holds 64 (now (set .exit)) (minus (value 64 (now (set .entry))) (setOf regs (named mask a b c))) ⌝ }
+{
+    without_reg(set, mask / 2 % 2 == 1, regs, a as usize);
+    without_reg(set, mask / 4 % 2 == 1, regs, b as usize);
+    without_reg(set, mask / 8 % 2 == 1, regs, c as usize);
+}
+
+// The `run` registers from b on are taken out of a set.
+fn without_run(set: &mut [u64], regs: usize, b: usize, run: u8)
+    requires { ⌜ (regs ≤ 1024) × (b + run ≤ 65790) × (length (now set) ≡ 16) × Small 64 (now set) ⌝ }
+    ensures { λ _. ⌜ Holds 64 (now (set .exit)) (minus (value 64 (now (set .entry))) (setOf regs (from b run))) ⌝ }
 {
     if run == 0 {
-        return set;
+        return;
     }
-    let rest = without_reg(set, true, regs, b);
-    without_run(rest, regs, b + 1, run - 1)
+    without_reg(set, true, regs, b);
+    without_run(set, regs, b + 1, run - 1);
 }
 
 // Row k, found from the rows as they are.
@@ -255,10 +266,11 @@ fn row_wide(s: Step, regs: usize, rows: &[u64], n: usize, words: usize, k: usize
     requires { ⌜ (regs ≤ 1024) × (words ≤ 16) × (k < n) × (s .target ≤ n) × (suc n * words ≤ length (now rows)) × Small 64 (now rows) ⌝ }
     ensures { λ r. ⌜ Holds 64 r (rowAt (stepFlow regs s) (row (rowsOf 64 words (suc n) (now (rows .entry)))) k) ⌝ }
 {
-    let after = after_wide(s, rows, n, words, k);
-    let rest = without_named(after, regs, s.given, s.a, s.b, s.c);
-    let left = without_run(rest, regs, s.b as usize, s.run);
-    with_named(left, regs, s.used, s.a, s.b, s.c)
+    let mut set = after_wide(s, rows, n, words, k);
+    without_named(&mut set, regs, s.given, s.a, s.b, s.c);
+    without_run(&mut set, regs, s.b as usize, s.run);
+    with_named(&mut set, regs, s.used, s.a, s.b, s.c);
+    set
 }
 
 // The words of a set are stored in the row that starts at `at`: whether that changed one.

@@ -1,2 +1,3 @@
 pub mod Effects
 pub mod After
+pub mod Told

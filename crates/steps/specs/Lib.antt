@@ -1,3 +1,4 @@
 pub mod Code
 pub mod Level
 pub mod Step
+pub mod Calm

@@ -9,6 +9,7 @@ ghost use Rattle.roles.specs.Kinds.{kindsOf};
 ghost use Rattle.steps.specs.Level.{isLevel, firstLevel};
 ghost use Rattle.steps.specs.Code.{storeOf, overPending, pastStore, idle as idleAt};
 ghost use Rattle.steps.specs.Step.{Effects, EffectsAt, plainOf, goesBefore, StepAt};
+ghost use Rattle.steps.specs.Calm.{calmOf, calmStep, turnStep};
 use code::Ins;
 use code::op::*;
 use roles::A;
@@ -202,7 +203,7 @@ pub fn step_at(code: &[u16], n: usize, k: usize) -> Step
     requires { ⌜ Whole (now code) × (n ≡ count (now code)) × (k < n) ⌝ }
     ensures { λ s. ⌜ StepAt (now (code .entry)) k s ⌝ }
 {
-    let i = code::ins_at(code, k);
+    let i = code::ins_in(code, k);
     let kind = roles::kinds_of(i);
     let e = effect_at(code, k, i, kind);
     let o = i.op;
@@ -217,6 +218,119 @@ pub fn step_at(code: &[u16], n: usize, k: usize) -> Step
         to: kind / 16 % 4 == 1,
         target: code::least(i.a as usize, n),
     }
+}
+
+// What the opcode alone tells of a step: the bits of `kinds`, none for no role; 32 more where the row after it is not read; 64 where it does not tell all.
+pub fn calm_of(o: u16) -> u8
+    requires { ⌜ o ≤ 190 ⌝ }
+    ensures { λ r. ⌜ r ≡ calmOf o ⌝ }
+{
+    match o {
+        Jump => 48,
+        ForIter | JumpIfFalse | JumpIfFalseOrPop | JumpIfTrueOrPop => 16,
+        JumpIfFalseR => 20,
+        JumpUnlessLt
+        | JumpUnlessLtEq
+        | JumpUnlessGt
+        | JumpUnlessGtEq
+        | JumpUnlessEq
+        | JumpUnlessNotEq => 28,
+        ReturnR => 36,
+        StoreGlobalR | StoreGlobalAtR => 4,
+        LoadGlobalR | LoadGlobalAtR | UnbindR => 1,
+        WrapCellR => 3,
+        Move | MinusR | NotR | LenR | GetAttrR | LoadCellR => 5,
+        AddR
+        | InPlaceAddR
+        | SubR
+        | InPlaceSubR
+        | MulR
+        | DivR
+        | ModR
+        | FloorDivR
+        | BitAndR
+        | BitOrR
+        | BitXorR
+        | ShlR
+        | ShrR
+        | LtR
+        | LtEqR
+        | GtR
+        | GtEqR
+        | EqR
+        | NotEqR
+        | IsR
+        | IsNotR
+        | PowR
+        | InR
+        | NotInR
+        | GetItemR
+        | SuperR => 13,
+        StoreCellR | SetAttrR | CallSpreadR | ListPushR => 6,
+        StoreItemR | ArgsR => 14,
+        AppendR => 7,
+        OwnResetR => 2,
+        ListAppendR | SetAddR | MapAddR => 12,
+        PopTop
+        | PushRegs
+        | StoreTopR
+        | UnpackR
+        | CallGlobalR
+        | CallR
+        | CallMethodR
+        | Raise
+        | ForIterR
+        | Del
+        | WithEnter
+        | WithExit
+        | WithJudge => 64,
+        _ => 0,
+    }
+}
+
+// The step of an instruction that only reads and writes the registers that m tells.
+pub fn calm(i: Ins, m: u8) -> Step
+    ensures { λ s. ⌜ s ≡ calmStep i m ⌝ }
+{
+    Step {
+        a: i.a,
+        b: i.b,
+        c: i.c,
+        used: m / 2 % 8 * 2,
+        given: m % 2 * 2,
+        run: 0,
+        on: true,
+        to: false,
+        target: 0,
+    }
+}
+
+// The step of an instruction of which m tells all.
+fn turn(i: Ins, m: u8, n: usize) -> Step
+    ensures { λ s. ⌜ s ≡ turnStep i m n ⌝ }
+{
+    Step {
+        a: i.a,
+        b: i.b,
+        c: i.c,
+        used: m / 2 % 8 * 2,
+        given: m % 2 * 2,
+        run: 0,
+        on: m / 32 % 2 != 1,
+        to: m / 16 % 2 == 1,
+        target: code::least(i.a as usize, n),
+    }
+}
+
+// The step at k, where i stands, of which m tells what its opcode does.
+pub fn step_by(code: &[u16], n: usize, k: usize, i: Ins, m: u8) -> Step
+    requires { ⌜ Whole (now code) × (n ≡ count (now code)) × (k < n) × (i ≡ insAt (now code) k) × (m ≡ calmOf (i .op)) ⌝ }
+    ensures { λ s. ⌜ StepAt (now (code .entry)) k s ⌝ }
+{
+    if m < 64 {
+        return turn(i, m, n);
+    }
+    step_at(code, n, k)
 }
 
 // Whether a step jumps to before p.

@@ -1,5 +1,6 @@
 -- `kept::main_row` meets its contract. Assumes nothing.
 use borrow.Author.Needs.{needs}
+use Rattle.rows.proofs.Words.{zeros-small}
 use Rattle.kept.proofs.Levels.{mains}
 use Rattle.kept.proofs.main_row.Statement.{statement}
 use Rattle.kept.proofs.main_row.Tie as tie
@@ -7,18 +8,32 @@ use Rattle.kept.proofs.main_row.Tie as tie
 after-requires : tie.Need-after-requires
 after-requires c κs = search needs
 
-mul-less-row : tie.Need-mul-less-row
-mul-less-row c = search (needs, mains)
+slice-aggregate-join-row : tie.Need-slice-aggregate-join-row
+slice-aggregate-join-row c = search needs
 
-only-reg-requires : tie.Need-only-reg-requires
-only-reg-requires c κs = search needs
+mul-join-row : tie.Need-mul-join-row
+mul-join-row c = search (needs, mains)
 
-less-row-requires : tie.Need-less-row-requires
-less-row-requires c κs = search (needs, mains)
+join-row-requires : tie.Need-join-row-requires
+join-row-requires c κs = search (needs, mains, zeros-small)
+
+slice-aggregate-without-reg : tie.Need-slice-aggregate-without-reg
+slice-aggregate-without-reg c = search needs
+
+without-reg-requires : tie.Need-without-reg-requires
+without-reg-requires c κs = search needs
 
 returns : tie.Need-returns
 returns c = search (needs, mains)
 
 pub main-row-spec : {M : Type 1} → statement M
 main-row-spec =
-    tie.close (tie.spec after-requires mul-less-row only-reg-requires less-row-requires returns)
+    tie.close
+    (tie.spec
+    after-requires
+    slice-aggregate-join-row
+    mul-join-row
+    join-row-requires
+    slice-aggregate-without-reg
+    without-reg-requires
+    returns)

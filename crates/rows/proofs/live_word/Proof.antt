@@ -2,7 +2,7 @@
 use borrow.Author.Needs.{needs}
 use Prim.Native.Nat.{_-_}
 use Rattle.steps.specs.Level.{firstLevel}
-use Rattle.rows.proofs.Sweeps.{Between, Turn, toGo, word-starts, sweep-starts, word-step, left-few, left-again, left-less, whole-few, whole-found, whole-again, whole-less}
+use Rattle.rows.proofs.Sweeps.{Between, Turn, toGo, word-starts, sweep-starts, known, calm-turn, word-step, left-few, left-again, left-less, whole-few, whole-found, whole-again, whole-less}
 use Rattle.rows.proofs.live_word.Statement.{statement}
 use Rattle.rows.proofs.live_word.Tie as tie
 
@@ -31,11 +31,35 @@ again-holds c = search word-starts
 loop-holds : tie.Need-loop-holds Inv-loop μ-loop Inv-again μ-again
 loop-holds c = search sweep-starts
 
-sub-step-at : tie.Need-sub-step-at Inv-loop μ-loop Inv-again μ-again
-sub-step-at c = search needs
+sub-ins-in : tie.Need-sub-ins-in Inv-loop μ-loop Inv-again μ-again
+sub-ins-in c = search needs
 
-step-at-requires : tie.Need-step-at-requires Inv-loop μ-loop Inv-again μ-again
-step-at-requires c κs = search needs
+ins-in-requires : tie.Need-ins-in-requires Inv-loop μ-loop Inv-again μ-again
+ins-in-requires c κs = search needs
+
+calm-of-requires : tie.Need-calm-of-requires Inv-loop μ-loop Inv-again μ-again
+calm-of-requires c κs = known (c .before .before .loop .inv) (search needs) (search needs) (c .ins-in .ensures)
+
+sub-put-calm : tie.Need-sub-put-calm Inv-loop μ-loop Inv-again μ-again
+sub-put-calm c = search needs
+
+put-calm-requires : tie.Need-put-calm-requires Inv-loop μ-loop Inv-again μ-again
+put-calm-requires c κs = search needs
+
+sub-k : tie.Need-sub-k Inv-loop μ-loop Inv-again μ-again
+sub-k c = search needs
+
+loop-less : tie.Need-loop-less Inv-loop μ-loop Inv-again μ-again
+loop-less c = search needs
+
+loop-again : tie.Need-loop-again Inv-loop μ-loop Inv-again μ-again
+loop-again c = search calm-turn
+
+sub-step-by : tie.Need-sub-step-by Inv-loop μ-loop Inv-again μ-again
+sub-step-by c = search needs
+
+step-by-requires : tie.Need-step-by-requires Inv-loop μ-loop Inv-again μ-again
+step-by-requires c κs = search needs
 
 goes-before-requires : tie.Need-goes-before-requires Inv-loop μ-loop Inv-again μ-again
 goes-before-requires c κs = search needs
@@ -61,15 +85,15 @@ put-word-requires c κs = search needs
 goes-before-requires-2 : tie.Need-goes-before-requires-2 Inv-loop μ-loop Inv-again μ-again
 goes-before-requires-2 c κs = search needs
 
-sub-k : tie.Need-sub-k Inv-loop μ-loop Inv-again μ-again
-sub-k c = search needs
+sub-k-2 : tie.Need-sub-k-2 Inv-loop μ-loop Inv-again μ-again
+sub-k-2 c = search needs
 
-loop-less : tie.Need-loop-less Inv-loop μ-loop Inv-again μ-again
-loop-less c = search needs
+loop-less-2 : tie.Need-loop-less-2 Inv-loop μ-loop Inv-again μ-again
+loop-less-2 c = search needs
 
-loop-again : tie.Need-loop-again Inv-loop μ-loop Inv-again μ-again
-loop-again c =
-    word-step (c .before .before .before .before .before .before .before .before .before .loop .inv) (c .before .before .before .before .before .before .before .step-at .ensures) (c .before .before .before .before .before .before .before .before .loop-test .taken) (c .before .before .before .before .before .before .goes-before .ensures) (c .before .before .before .before .before .if1 .left) (c .before .before .before .put-word .ensures) (c .goes-before2 .ensures)
+loop-again-2 : tie.Need-loop-again-2 Inv-loop μ-loop Inv-again μ-again
+loop-again-2 c =
+    word-step (c .before .before .before .before .before .before .before .before .before .before .before .before .loop .inv) (c .before .before .before .before .before .before .before .step-by .ensures) (c .before .before .before .before .before .before .before .before .before .before .before .loop-test .taken) (c .before .before .before .before .before .before .goes-before .ensures) (c .before .before .before .before .before .if2 .left) (c .before .before .before .put-word .ensures) (c .goes-before2 .ensures)
 
 add-full : tie.Need-add-full Inv-loop μ-loop Inv-again μ-again
 add-full c = record { fits = whole-few (c .before .loop .inv) (c .loop-test .left) }
@@ -78,13 +102,13 @@ same-length : tie.Need-same-length Inv-loop μ-loop Inv-again μ-again
 same-length c = search needs
 
 returns : tie.Need-returns Inv-loop μ-loop Inv-again μ-again
-returns c = whole-found (c .before .before .loop .inv) (c .before .loop-test .left) (c .if2 .taken)
+returns c = whole-found (c .before .before .loop .inv) (c .before .loop-test .left) (c .if3 .taken)
 
 again-less-2 : tie.Need-again-less-2 Inv-loop μ-loop Inv-again μ-again
-again-less-2 c = whole-less (c .before .before .loop .inv) (c .before .loop-test .left) (c .if2 .left)
+again-less-2 c = whole-less (c .before .before .loop .inv) (c .before .loop-test .left) (c .if3 .left)
 
 again-again-2 : tie.Need-again-again-2 Inv-loop μ-loop Inv-again μ-again
-again-again-2 c = whole-again (c .before .before .loop .inv) (c .before .loop-test .left) (c .if2 .left)
+again-again-2 c = whole-again (c .before .before .loop .inv) (c .before .loop-test .left) (c .if3 .left)
 
 pub live-word-spec : {M : Type 1} → statement M
 live-word-spec =
@@ -98,8 +122,16 @@ live-word-spec =
     clear-requires
     again-holds
     loop-holds
-    sub-step-at
-    step-at-requires
+    sub-ins-in
+    ins-in-requires
+    calm-of-requires
+    sub-put-calm
+    put-calm-requires
+    sub-k
+    loop-less
+    loop-again
+    sub-step-by
+    step-by-requires
     goes-before-requires
     clear-requires-2
     add-abandoned
@@ -108,9 +140,9 @@ live-word-spec =
     sub-put-word
     put-word-requires
     goes-before-requires-2
-    sub-k
-    loop-less
-    loop-again
+    sub-k-2
+    loop-less-2
+    loop-again-2
     add-full
     same-length
     returns

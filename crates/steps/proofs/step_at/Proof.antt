@@ -4,8 +4,8 @@ use Rattle.steps.proofs.After.{step-is}
 use Rattle.steps.proofs.step_at.Statement.{statement}
 use Rattle.steps.proofs.step_at.Tie as tie
 
-ins-at-requires : tie.Need-ins-at-requires
-ins-at-requires c κs = search needs
+ins-in-requires : tie.Need-ins-in-requires
+ins-in-requires c κs = search needs
 
 kinds-of-requires : tie.Need-kinds-of-requires
 kinds-of-requires c κs = search needs
@@ -26,7 +26,7 @@ pub step-at-spec : {M : Type 1} → statement M
 step-at-spec =
     tie.close
     (tie.spec
-    ins-at-requires
+    ins-in-requires
     kinds-of-requires
     effect-at-requires
     cast-least

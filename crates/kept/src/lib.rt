@@ -108,20 +108,6 @@ fn less_row(rows: &[u64], at: usize, words: usize, less: [u64; 16]) -> [u64; 16]
     out
 }
 
-// A set and the row that starts at `at`, together.
-fn join_row(set: [u64; 16], rows: &[u64], at: usize, words: usize) -> [u64; 16]
-    requires { ⌜ (words ≤ 16) × (at + words ≤ length (now rows)) × Small 64 set × Small 64 (now rows) ⌝ }
-    ensures { λ s. ⌜ Holds 64 s (bitOr (value 64 set) (value 64 (take words (drop at (now (rows .entry)))))) ⌝ }
-{
-    let mut out = set;
-    let mut j = 0;
-    while j < words {
-        out[j] = out[j] | rows[at + j];
-        j += 1;
-    }
-    out
-}
-
 // The registers of a word whose lowest bit is register `base`, ascending, from m on: the place past the last.
 fn list_word(word: u64, base: u16, out: &mut [u16], m: usize) -> usize
     requires { ⌜ (base ≤ 1024) × (m + length (listed 64 base word) ≤ length (now out)) ⌝ }
@@ -193,7 +179,7 @@ fn join_try(
     ensures { λ r. ⌜ Holds 64 r (bitOr (value 64 seen) (joined (row (rowsOf 64 words (suc n) (now (rows .entry)))) (handlersOf n k (s ∷ h ∷ [])))) ⌝ }
 {
     if around(s, k, h) {
-        return join_row(seen, rows, code::least(h, n) * words, words);
+        return rows::join_row(seen, rows, code::least(h, n) * words, words);
     }
     seen
 }
@@ -278,10 +264,8 @@ fn main_row(code: &[u16], regs: usize, rows: &[u64], words: usize, k: usize) -> 
     ensures { λ s. ⌜ Holds 64 s (minus (row (rowsBy words (now (code .entry)) (now (rows .entry))) (resumeOf (now (code .entry)) k)) (resultOf regs (now (code .entry)) k)) ⌝ }
 {
     let a = after(code, k);
-    let mut set = [0u64; 16];
-    rows::join_row(&mut set, rows, a.at * words, words);
-    rows::without_reg(&mut set, true, regs, a.result);
-    set
+    let whole = rows::join_row([0u64; 16], rows, a.at * words, words);
+    rows::without_reg(whole, true, regs, a.result)
 }
 
 // How many registers the level at k keeps.

@@ -171,26 +171,29 @@ pub fn live_word(code: &[u16], regs: usize, rows: &mut [u64]) -> Counts
     }
 }
 
-// The row that starts at `at` is joined to a set.
-pub fn join_row(set: &mut [u64], rows: &[u64], at: usize, words: usize)
-    requires { ⌜ (words ≤ 16) × (at + words ≤ length (now rows)) × (length (now set) ≡ 16) × Small 64 (now set) × Small 64 (now rows) ⌝ }
-    ensures { λ _. ⌜ Holds 64 (now (set .exit)) (bitOr (value 64 (now (set .entry))) (value 64 (take words (drop at (now (rows .entry)))))) ⌝ }
+// A set and the row that starts at `at`, together.
+pub fn join_row(set: [u64; 16], rows: &[u64], at: usize, words: usize) -> [u64; 16]
+    requires { ⌜ (words ≤ 16) × (at + words ≤ length (now rows)) × Small 64 set × Small 64 (now rows) ⌝ }
+    ensures { λ s. ⌜ Holds 64 s (bitOr (value 64 set) (value 64 (take words (drop at (now (rows .entry)))))) ⌝ }
 {
+    let mut out = set;
     let mut j = 0;
     while j < words {
-        set[j] = set[j] | rows[at + j];
+        out[j] = out[j] | rows[at + j];
         j += 1;
     }
+    out
 }
 
-// Row k, if, is joined to a set.
-fn join_if(t: bool, set: &mut [u64], rows: &[u64], k: usize, words: usize)
-    requires { ⌜ (words ≤ 16) × (k * words + words ≤ length (now rows)) × (length (now set) ≡ 16) × Small 64 (now set) × Small 64 (now rows) ⌝ }
-    ensures { λ _. ⌜ Holds 64 (now (set .exit)) (bitOr (value 64 (now (set .entry))) (cond t (value 64 (window words k (now (rows .entry)))) 0)) ⌝ }
+// A set and row k, if, together.
+fn join_if(t: bool, set: [u64; 16], rows: &[u64], k: usize, words: usize) -> [u64; 16]
+    requires { ⌜ (words ≤ 16) × (k * words + words ≤ length (now rows)) × Small 64 set × Small 64 (now rows) ⌝ }
+    ensures { λ s. ⌜ Holds 64 s (bitOr (value 64 set) (cond t (value 64 (window words k (now (rows .entry)))) 0)) ⌝ }
 {
     if t {
-        join_row(set, rows, k * words, words);
+        return join_row(set, rows, k * words, words);
     }
+    set
 }
 
 // The rows after a step at k, together.
@@ -198,67 +201,73 @@ fn after_wide(s: Step, rows: &[u64], n: usize, words: usize, k: usize) -> [u64; 
     requires { ⌜ (words ≤ 16) × (k < n) × (s .target ≤ n) × (suc n * words ≤ length (now rows)) × Small 64 (now rows) ⌝ }
     ensures { λ r. ⌜ Holds 64 r (joined (row (rowsOf 64 words (suc n) (now (rows .entry)))) (afterOf s k)) ⌝ }
 {
-    let mut set = [0u64; 16];
-    join_if(s.on, &mut set, rows, k + 1, words);
-    join_if(s.to, &mut set, rows, s.target, words);
+    let next = join_if(s.on, [0u64; 16], rows, k + 1, words);
+    join_if(s.to, next, rows, s.target, words)
+}
+
+// A set with a register, if, and if there is such a register.
+fn with_reg(set: [u64; 16], t: bool, regs: usize, reg: usize) -> [u64; 16]
+    requires { ⌜ (regs ≤ 1024) × Small 64 set ⌝ }
+    ensures { λ s. ⌜ Holds 64 s (bitOr (value 64 set) (setOf regs (only t reg))) ⌝ }
+{
+    if t {
+        if reg < regs {
+            let mut out = set;
+            out[reg / 64] = out[reg / 64] | (1u64 << (reg % 64));
+            return out;
+        }
+        return set;
+    }
     set
 }
 
-// A register is put in a set, if, and if there is such a register.
-fn with_reg(set: &mut [u64], t: bool, regs: usize, reg: usize)
-    requires { ⌜ (regs ≤ 1024) × (length (now set) ≡ 16) × Small 64 (now set) ⌝ }
-    ensures { λ _. ⌜ Holds 64 (now (set .exit)) (bitOr (value 64 (now (set .entry))) (setOf regs (only t reg))) ⌝ }
+// A set without a register, if, and if there is such a register.
+pub fn without_reg(set: [u64; 16], t: bool, regs: usize, reg: usize) -> [u64; 16]
+    requires { ⌜ (regs ≤ 1024) × Small 64 set ⌝ }
+    ensures { λ s. ⌜ Holds 64 s (minus (value 64 set) (setOf regs (only t reg))) ⌝ }
 {
     if t {
         if reg < regs {
-            set[reg / 64] = set[reg / 64] | (1u64 << (reg % 64));
+            let mut out = set;
+            let word = out[reg / 64];
+            out[reg / 64] = word ^ (word & (1u64 << (reg % 64)));
+            return out;
         }
+        return set;
     }
+    set
 }
 
-// A register is taken out of a set, if, and if there is such a register.
-pub fn without_reg(set: &mut [u64], t: bool, regs: usize, reg: usize)
-    requires { ⌜ (regs ≤ 1024) × (length (now set) ≡ 16) × Small 64 (now set) ⌝ }
-    ensures { λ _. ⌜ Holds 64 (now (set .exit)) (minus (value 64 (now (set .entry))) (setOf regs (only t reg))) ⌝ }
+// A set with those of three registers that a mask names.
+fn with_named(set: [u64; 16], regs: usize, mask: u8, a: u16, b: u16, c: u16) -> [u64; 16]
+    requires { ⌜ (regs ≤ 1024) × Small 64 set ⌝ }
+    ensures { λ s. ⌜ Holds 64 s (bitOr (value 64 set) (setOf regs (named mask a b c))) ⌝ }
 {
-    if t {
-        if reg < regs {
-            let word = set[reg / 64];
-            set[reg / 64] = word ^ (word & (1u64 << (reg % 64)));
-        }
-    }
+    let p = with_reg(set, mask / 2 % 2 == 1, regs, a as usize);
+    let q = with_reg(p, mask / 4 % 2 == 1, regs, b as usize);
+    with_reg(q, mask / 8 % 2 == 1, regs, c as usize)
 }
 
-// Those of three registers that a mask names are put in a set.
-fn with_named(set: &mut [u64], regs: usize, mask: u8, a: u16, b: u16, c: u16)
-    requires { ⌜ (regs ≤ 1024) × (length (now set) ≡ 16) × Small 64 (now set) ⌝ }
-    ensures { λ _. ⌜ Holds 64 (now (set .exit)) (bitOr (value 64 (now (set .entry))) (setOf regs (named mask a b c))) ⌝ }
+// A set without those of three registers that a mask names.
+fn without_named(set: [u64; 16], regs: usize, mask: u8, a: u16, b: u16, c: u16) -> [u64; 16]
+    requires { ⌜ (regs ≤ 1024) × Small 64 set ⌝ }
+    ensures { λ s. ⌜ Holds 64 s (minus (value 64 set) (setOf regs (named mask a b c))) ⌝ }
 {
-    with_reg(set, mask / 2 % 2 == 1, regs, a as usize);
-    with_reg(set, mask / 4 % 2 == 1, regs, b as usize);
-    with_reg(set, mask / 8 % 2 == 1, regs, c as usize);
+    let p = without_reg(set, mask / 2 % 2 == 1, regs, a as usize);
+    let q = without_reg(p, mask / 4 % 2 == 1, regs, b as usize);
+    without_reg(q, mask / 8 % 2 == 1, regs, c as usize)
 }
 
-// Those of three registers that a mask names are taken out of a set.
-fn without_named(set: &mut [u64], regs: usize, mask: u8, a: u16, b: u16, c: u16)
-    requires { ⌜ (regs ≤ 1024) × (length (now set) ≡ 16) × Small 64 (now set) ⌝ }
-    ensures { λ _. ⌜ Holds 64 (now (set .exit)) (minus (value 64 (now (set .entry))) (setOf regs (named mask a b c))) ⌝ }
-{
-    without_reg(set, mask / 2 % 2 == 1, regs, a as usize);
-    without_reg(set, mask / 4 % 2 == 1, regs, b as usize);
-    without_reg(set, mask / 8 % 2 == 1, regs, c as usize);
-}
-
-// The `run` registers from b on are taken out of a set.
-fn without_run(set: &mut [u64], regs: usize, b: usize, run: u8)
-    requires { ⌜ (regs ≤ 1024) × (b + run ≤ 65790) × (length (now set) ≡ 16) × Small 64 (now set) ⌝ }
-    ensures { λ _. ⌜ Holds 64 (now (set .exit)) (minus (value 64 (now (set .entry))) (setOf regs (from b run))) ⌝ }
+// A set without the `run` registers from b on.
+fn without_run(set: [u64; 16], regs: usize, b: usize, run: u8) -> [u64; 16]
+    requires { ⌜ (regs ≤ 1024) × (b + run ≤ 65790) × Small 64 set ⌝ }
+    ensures { λ s. ⌜ Holds 64 s (minus (value 64 set) (setOf regs (from b run))) ⌝ }
 {
     if run == 0 {
-        return;
+        return set;
     }
-    without_reg(set, true, regs, b);
-    without_run(set, regs, b + 1, run - 1);
+    let rest = without_reg(set, true, regs, b);
+    without_run(rest, regs, b + 1, run - 1)
 }
 
 // Row k, found from the rows as they are.
@@ -266,11 +275,10 @@ fn row_wide(s: Step, regs: usize, rows: &[u64], n: usize, words: usize, k: usize
     requires { ⌜ (regs ≤ 1024) × (words ≤ 16) × (k < n) × (s .target ≤ n) × (suc n * words ≤ length (now rows)) × Small 64 (now rows) ⌝ }
     ensures { λ r. ⌜ Holds 64 r (rowAt (stepFlow regs s) (row (rowsOf 64 words (suc n) (now (rows .entry)))) k) ⌝ }
 {
-    let mut set = after_wide(s, rows, n, words, k);
-    without_named(&mut set, regs, s.given, s.a, s.b, s.c);
-    without_run(&mut set, regs, s.b as usize, s.run);
-    with_named(&mut set, regs, s.used, s.a, s.b, s.c);
-    set
+    let after = after_wide(s, rows, n, words, k);
+    let rest = without_named(after, regs, s.given, s.a, s.b, s.c);
+    let left = without_run(rest, regs, s.b as usize, s.run);
+    with_named(left, regs, s.used, s.a, s.b, s.c)
 }
 
 // The words of a set are stored in the row that starts at `at`: whether that changed one.

@@ -8,17 +8,11 @@ use Rattle.kept.proofs.main_row.Tie as tie
 after-requires : tie.Need-after-requires
 after-requires c κs = search needs
 
-slice-aggregate-join-row : tie.Need-slice-aggregate-join-row
-slice-aggregate-join-row c = search needs
-
 mul-join-row : tie.Need-mul-join-row
 mul-join-row c = search (needs, mains)
 
 join-row-requires : tie.Need-join-row-requires
 join-row-requires c κs = search (needs, mains, zeros-small)
-
-slice-aggregate-without-reg : tie.Need-slice-aggregate-without-reg
-slice-aggregate-without-reg c = search needs
 
 without-reg-requires : tie.Need-without-reg-requires
 without-reg-requires c κs = search needs
@@ -31,9 +25,7 @@ main-row-spec =
     tie.close
     (tie.spec
     after-requires
-    slice-aggregate-join-row
     mul-join-row
     join-row-requires
-    slice-aggregate-without-reg
     without-reg-requires
     returns)

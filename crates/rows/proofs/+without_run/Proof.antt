@@ -11,16 +11,16 @@ use Rattle.rows.proofs.without_reg.Reads as without-reg-reads
 use Rattle.rows.proofs.+without_run.{statement}
 use Rattle.rows.proofs.+without_run.Tie.{close}
 
-abbrev μ-without-run : Measures 1 without-run-kinds.ps ℕ
+abbrev μ-without-run : Measures 0 without-run-kinds.ps ℕ
 μ-without-run κs a = a .1 .1 .1 .0
 
-abbrev without-run-at : ℕ → In 1 without-run-kinds.ps
+abbrev without-run-at : ℕ → In 0 without-run-kinds.ps
 without-run-at t =
-    and 1 without-run-kinds.ps (is 1 without-run-kinds.ps μ-without-run t) without-run.Pre
+    and 0 without-run-kinds.ps (is 0 without-run-kinds.ps μ-without-run t) without-run.Pre
 
-abbrev without-run-below : ℕ → In 1 without-run-kinds.ps
+abbrev without-run-below : ℕ → In 0 without-run-kinds.ps
 without-run-below t =
-    and 1 without-run-kinds.ps (falls 1 without-run-kinds.ps _<_ μ-without-run t) without-run.Pre
+    and 0 without-run-kinds.ps (falls 0 without-run-kinds.ps _<_ μ-without-run t) without-run.Pre
 
 without-run-returns : (t : ℕ) → without-run-lts.Need-returns (
   without-reg-reads.Asked,
@@ -62,14 +62,6 @@ without-run-without-run-requires : (t : ℕ) → without-run-lts.Need-without-ru
 ) (without-run-at t) without-run.Post
 without-run-without-run-requires t c κs = search needs
 
-without-run-same-length : (t : ℕ) → without-run-lts.Need-same-length (
-  without-reg-reads.Asked,
-  without-reg-reads.Learnt,
-  without-run-below t,
-  without-run.Post,
-) (without-run-at t) without-run.Post
-without-run-same-length t c = search needs
-
 without-run-returns-2 : (t : ℕ) → without-run-lts.Need-returns-2 (
   without-reg-reads.Asked,
   without-reg-reads.Learnt,
@@ -92,5 +84,4 @@ pub +without-run-spec : {M : Type 1} → statement M
     (without-run-add-without-run t)
     (without-run-sub-without-run t)
     (without-run-without-run-requires t)
-    (without-run-same-length t)
     (without-run-returns-2 t)

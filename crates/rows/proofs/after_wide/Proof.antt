@@ -4,17 +4,11 @@ use Rattle.rows.proofs.Words.{zeros-small, fits, after-holds}
 use Rattle.rows.proofs.after_wide.Statement.{statement}
 use Rattle.rows.proofs.after_wide.Tie as tie
 
-slice-aggregate-join-if : tie.Need-slice-aggregate-join-if
-slice-aggregate-join-if c = search needs
-
 add-join-if : tie.Need-add-join-if
 add-join-if c = search needs
 
 join-if-requires : tie.Need-join-if-requires
 join-if-requires c κs = search (needs, fits, zeros-small)
-
-slice-aggregate-join-if-2 : tie.Need-slice-aggregate-join-if-2
-slice-aggregate-join-if-2 c = search needs
 
 join-if-requires-2 : tie.Need-join-if-requires-2
 join-if-requires-2 c κs = search (needs, fits)
@@ -23,12 +17,4 @@ returns : tie.Need-returns
 returns c = search after-holds
 
 pub after-wide-spec : {M : Type 1} → statement M
-after-wide-spec =
-    tie.close
-    (tie.spec
-    slice-aggregate-join-if
-    add-join-if
-    join-if-requires
-    slice-aggregate-join-if-2
-    join-if-requires-2
-    returns)
+after-wide-spec = tie.close (tie.spec add-join-if join-if-requires join-if-requires-2 returns)

@@ -10,9 +10,6 @@ mul-join-row c = search needs
 join-row-requires : tie.Need-join-row-requires
 join-row-requires c κs = search needs
 
-same-length : tie.Need-same-length
-same-length c = search needs
-
 returns : tie.Need-returns
 returns c = search (joined-in, joined-out)
 
@@ -20,4 +17,4 @@ returns-2 : tie.Need-returns-2
 returns-2 c = search (joined-in, joined-out)
 
 pub join-if-spec : {M : Type 1} → statement M
-join-if-spec = tie.close (tie.spec mul-join-row join-row-requires same-length returns returns-2)
+join-if-spec = tie.close (tie.spec mul-join-row join-row-requires returns returns-2)

@@ -1,39 +1,39 @@
 -- `rows::join_row` meets its contract. Assumes nothing.
 use borrow.Author.Needs.{needs}
-use Prim.Native.Nat.{_-_}
 use Rattle.rows.proofs.Words.{Joining, joins}
+use Prim.Native.Nat.{_-_}
 use Rattle.rows.proofs.join_row.Statement.{statement}
 use Rattle.rows.proofs.join_row.Tie as tie
 
 abbrev Inv-loop : tie.InvT-loop
-Inv-loop set₀ rows at words j₀ set j = Joining set₀ rows at words j set
+Inv-loop rows at words out₀ j₀ out j = Joining out₀ rows at words j out
 
 abbrev μ-loop : tie.MeasureT-loop
-μ-loop set₀ rows at words j₀ set j = words - j
+μ-loop rows at words out₀ j₀ out j = words - j
 
 loop-holds : tie.Need-loop-holds Inv-loop μ-loop
 loop-holds c = search (needs, joins)
 
-mul-set : tie.Need-mul-set Inv-loop μ-loop
-mul-set c = search needs
+mul-out : tie.Need-mul-out Inv-loop μ-loop
+mul-out c = search needs
 
-slice-read-set : tie.Need-slice-read-set Inv-loop μ-loop
-slice-read-set c = search needs
+array-read-out : tie.Need-array-read-out Inv-loop μ-loop
+array-read-out c = search needs
 
-add-set : tie.Need-add-set Inv-loop μ-loop
-add-set c = search needs
+add-out : tie.Need-add-out Inv-loop μ-loop
+add-out c = search needs
 
-mul-set-2 : tie.Need-mul-set-2 Inv-loop μ-loop
-mul-set-2 c = search needs
+mul-out-2 : tie.Need-mul-out-2 Inv-loop μ-loop
+mul-out-2 c = search needs
 
-shared-slice-read-set : tie.Need-shared-slice-read-set Inv-loop μ-loop
-shared-slice-read-set c = search needs
+shared-slice-read-out : tie.Need-shared-slice-read-out Inv-loop μ-loop
+shared-slice-read-out c = search needs
 
-mul-set-3 : tie.Need-mul-set-3 Inv-loop μ-loop
-mul-set-3 c = search needs
+mul-out-3 : tie.Need-mul-out-3 Inv-loop μ-loop
+mul-out-3 c = search needs
 
-slice-write-set : tie.Need-slice-write-set Inv-loop μ-loop
-slice-write-set c = search needs
+array-write-out : tie.Need-array-write-out Inv-loop μ-loop
+array-write-out c = search needs
 
 add-j : tie.Need-add-j Inv-loop μ-loop
 add-j c = search needs
@@ -43,9 +43,6 @@ loop-less c = search needs
 
 loop-again : tie.Need-loop-again Inv-loop μ-loop
 loop-again c = search (needs, joins)
-
-same-length : tie.Need-same-length Inv-loop μ-loop
-same-length c = search needs
 
 returns : tie.Need-returns Inv-loop μ-loop
 returns c = search (needs, joins)
@@ -57,15 +54,14 @@ join-row-spec =
     Inv-loop
     μ-loop
     loop-holds
-    mul-set
-    slice-read-set
-    add-set
-    mul-set-2
-    shared-slice-read-set
-    mul-set-3
-    slice-write-set
+    mul-out
+    array-read-out
+    add-out
+    mul-out-2
+    shared-slice-read-out
+    mul-out-3
+    array-write-out
     add-j
     loop-less
     loop-again
-    same-length
     returns)

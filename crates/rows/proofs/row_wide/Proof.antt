@@ -7,23 +7,14 @@ use Rattle.rows.proofs.row_wide.Tie as tie
 after-wide-requires : tie.Need-after-wide-requires
 after-wide-requires c κs = search needs
 
-slice-aggregate-without-named : tie.Need-slice-aggregate-without-named
-slice-aggregate-without-named c = search needs
-
 without-named-requires : tie.Need-without-named-requires
 without-named-requires c κs = search needs
-
-slice-aggregate-without-run : tie.Need-slice-aggregate-without-run
-slice-aggregate-without-run c = search needs
 
 cast-without-run : tie.Need-cast-without-run
 cast-without-run c = search needs
 
 without-run-requires : tie.Need-without-run-requires
 without-run-requires c κs = search needs
-
-slice-aggregate-with-named : tie.Need-slice-aggregate-with-named
-slice-aggregate-with-named c = search needs
 
 with-named-requires : tie.Need-with-named-requires
 with-named-requires c κs = search needs
@@ -36,11 +27,8 @@ row-wide-spec =
     tie.close
     (tie.spec
     after-wide-requires
-    slice-aggregate-without-named
     without-named-requires
-    slice-aggregate-without-run
     cast-without-run
     without-run-requires
-    slice-aggregate-with-named
     with-named-requires
     returns)

@@ -13,13 +13,9 @@ with-reg-requires-2 c κs = search needs
 with-reg-requires-3 : tie.Need-with-reg-requires-3
 with-reg-requires-3 c κs = search needs
 
-same-length : tie.Need-same-length
-same-length c = search needs
-
 returns : tie.Need-returns
 returns c = search more
 
 pub with-named-spec : {M : Type 1} → statement M
 with-named-spec =
-    tie.close
-    (tie.spec with-reg-requires with-reg-requires-2 with-reg-requires-3 same-length returns)
+    tie.close (tie.spec with-reg-requires with-reg-requires-2 with-reg-requires-3 returns)

@@ -4,23 +4,20 @@ use Rattle.rows.proofs.Words.{regs-of}
 use Rattle.rows.proofs.with_reg.Statement.{statement}
 use Rattle.rows.proofs.with_reg.Tie as tie
 
-mul-set : tie.Need-mul-set
-mul-set c = search needs
+mul-out : tie.Need-mul-out
+mul-out c = search needs
 
-slice-read-set : tie.Need-slice-read-set
-slice-read-set c = search needs
+array-read-out : tie.Need-array-read-out
+array-read-out c = search needs
 
-shl-set : tie.Need-shl-set
-shl-set c = search needs
+shl-out : tie.Need-shl-out
+shl-out c = search needs
 
-mul-set-2 : tie.Need-mul-set-2
-mul-set-2 c = search needs
+mul-out-2 : tie.Need-mul-out-2
+mul-out-2 c = search needs
 
-slice-write-set : tie.Need-slice-write-set
-slice-write-set c = search needs
-
-same-length : tie.Need-same-length
-same-length c = search needs
+array-write-out : tie.Need-array-write-out
+array-write-out c = search needs
 
 returns : tie.Need-returns
 returns c = search (needs, regs-of)
@@ -34,13 +31,4 @@ returns-3 c = search (needs, regs-of)
 pub with-reg-spec : {M : Type 1} → statement M
 with-reg-spec =
     tie.close
-    (tie.spec
-    mul-set
-    slice-read-set
-    shl-set
-    mul-set-2
-    slice-write-set
-    same-length
-    returns
-    returns-2
-    returns-3)
+    (tie.spec mul-out array-read-out shl-out mul-out-2 array-write-out returns returns-2 returns-3)

@@ -13,18 +13,9 @@ without-reg-requires-2 c κs = search needs
 without-reg-requires-3 : tie.Need-without-reg-requires-3
 without-reg-requires-3 c κs = search needs
 
-same-length : tie.Need-same-length
-same-length c = search needs
-
 returns : tie.Need-returns
 returns c = search fewer
 
 pub without-named-spec : {M : Type 1} → statement M
 without-named-spec =
-    tie.close
-    (tie.spec
-    without-reg-requires
-    without-reg-requires-2
-    without-reg-requires-3
-    same-length
-    returns)
+    tie.close (tie.spec without-reg-requires without-reg-requires-2 without-reg-requires-3 returns)

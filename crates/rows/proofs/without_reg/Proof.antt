@@ -7,20 +7,17 @@ use Rattle.rows.proofs.without_reg.Tie as tie
 mul-word : tie.Need-mul-word
 mul-word c = search needs
 
-slice-read-word : tie.Need-slice-read-word
-slice-read-word c = search needs
+array-read-word : tie.Need-array-read-word
+array-read-word c = search needs
 
-shl-set : tie.Need-shl-set
-shl-set c = search needs
+shl-out : tie.Need-shl-out
+shl-out c = search needs
 
-mul-set : tie.Need-mul-set
-mul-set c = search needs
+mul-out : tie.Need-mul-out
+mul-out c = search needs
 
-slice-write-set : tie.Need-slice-write-set
-slice-write-set c = search needs
-
-same-length : tie.Need-same-length
-same-length c = search needs
+array-write-out : tie.Need-array-write-out
+array-write-out c = search needs
 
 returns : tie.Need-returns
 returns c = search (needs, regs-of)
@@ -34,13 +31,4 @@ returns-3 c = search (needs, regs-of)
 pub without-reg-spec : {M : Type 1} → statement M
 without-reg-spec =
     tie.close
-    (tie.spec
-    mul-word
-    slice-read-word
-    shl-set
-    mul-set
-    slice-write-set
-    same-length
-    returns
-    returns-2
-    returns-3)
+    (tie.spec mul-word array-read-word shl-out mul-out array-write-out returns returns-2 returns-3)

@@ -329,8 +329,8 @@ fn told_chunk(
     pool & phis & places & marks
 }
 
-fn fold_on(
-    code: &mut [u16],
+// Every list of a chunk is put into its buffer.
+fn chunk_given(
     nums: &[u64],
     p: usize,
     l: Lists,
@@ -347,6 +347,23 @@ fn fold_on(
     let phis = phis_given(nums, l.map, l.sources, map, sources);
     let places = places_given(nums, l.stmts, l.calls, stmts, calls);
     let marks = marks_given(nums, l.dead, l.remap, dead, remap);
+    pool & phis & places & marks
+}
+
+// The call, on buffers that hold the lists.
+fn fold_told(
+    code: &mut [u16],
+    nums: &[u64],
+    l: Lists,
+    kinds: &mut [u8],
+    words: &mut [u64],
+    map: &mut [u32],
+    sources: &mut [u16],
+    stmts: &mut [u32],
+    calls: &mut [u32],
+    dead: &mut [u8],
+    remap: &mut [u32],
+) -> bool {
     let a = turniploom::turniploom_fold(
         code,
         kinds,
@@ -365,15 +382,54 @@ fn fold_on(
         super::number_at(nums, l.strict) != 0,
     );
     let e = super::on(nums, l.strict, 1);
-    pool
-        & phis
-        & places
-        & marks
-        & told_chunk(
-            nums,
-            e,
-            a,
+    told_chunk(
+        nums,
+        e,
+        a,
+        code,
+        kinds,
+        words,
+        map,
+        sources,
+        stmts,
+        calls,
+        dead,
+        remap,
+    )
+}
+
+fn fold_on(
+    code: &mut [u16],
+    nums: &[u64],
+    p: usize,
+    l: Lists,
+    kinds: &mut [u8],
+    words: &mut [u64],
+    map: &mut [u32],
+    sources: &mut [u16],
+    stmts: &mut [u32],
+    calls: &mut [u32],
+    dead: &mut [u8],
+    remap: &mut [u32],
+) -> bool {
+    let given = chunk_given(
+        nums,
+        p,
+        l,
+        kinds,
+        words,
+        map,
+        sources,
+        stmts,
+        calls,
+        dead,
+        remap,
+    );
+    given
+        & fold_told(
             code,
+            nums,
+            l,
             kinds,
             words,
             map,

@@ -44,7 +44,8 @@ fn note(code: &[u16], scratch: &mut [u32], m: usize, k: usize)
     if m <= v {
         return;
     }
-    if lent::names_constant(code, k) {
+    let named = lent::names_constant(code, k);
+    if named {
         scratch[v] = 1;
     }
 }

@@ -318,7 +318,7 @@ pub fn live_wide(code: &[u16], regs: usize, rows: &mut [u64], words: usize) -> C
         let mut back = false;
         let mut k = n;
         while 0 < k {
-            let s = steps::step_told(code, n, k - 1);
+            let s = steps::step_at(code, n, k - 1);
             changed = put_wide(s, regs, rows, n, words, k - 1) | changed;
             back = steps::goes_before(s, k) | back;
             k -= 1;

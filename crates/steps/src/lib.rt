@@ -4,7 +4,7 @@ ghost use mathlib.Core.Bool.{cond};
 ghost use Prim.Native.Nat.{_+_, _-_, _*_, _/_, _%_, _<_, _≤_};
 ghost use lib.ListN.{length};
 ghost use Rattle.code.specs.Ins.{insAt, count};
-ghost use Rattle.code.specs.Check.{Whole, Valid};
+ghost use Rattle.code.specs.Check.{Whole};
 ghost use Rattle.roles.specs.Kinds.{kindsOf};
 ghost use Rattle.steps.specs.Level.{isLevel, firstLevel};
 ghost use Rattle.steps.specs.Code.{storeOf, overPending, pastStore, idle as idleAt};
@@ -331,16 +331,6 @@ pub fn step_by(code: &[u16], n: usize, k: usize, i: Ins, m: u8) -> Step
         return turn(i, m, n);
     }
     step_at(code, n, k)
-}
-
-// The step at k of accepted code, by its opcode alone where that tells all.
-pub fn step_told(code: &[u16], n: usize, k: usize) -> Step
-    requires { ⌜ Valid (now code) × (n ≡ count (now code)) × (k < n) ⌝ }
-    ensures { λ s. ⌜ StepAt (now (code .entry)) k s ⌝ }
-{
-    let i = code::ins_in(code, k);
-    let m = calm_of(i.op);
-    step_by(code, n, k, i, m)
 }
 
 // Whether a step jumps to before p.

@@ -33,11 +33,11 @@ loop-holds c = (search wide-starts, search cleared)
 loop2-holds : tie.Need-loop2-holds Inv-loop2 μ-loop2 Inv-loop μ-loop
 loop2-holds c = (search sweep-starts, search needs)
 
-sub-step-told : tie.Need-sub-step-told Inv-loop2 μ-loop2 Inv-loop μ-loop
-sub-step-told c = search needs
+sub-step-at : tie.Need-sub-step-at Inv-loop2 μ-loop2 Inv-loop μ-loop
+sub-step-at c = search needs
 
-step-told-requires : tie.Need-step-told-requires Inv-loop2 μ-loop2 Inv-loop μ-loop
-step-told-requires c κs = search needs
+step-at-requires : tie.Need-step-at-requires Inv-loop2 μ-loop2 Inv-loop μ-loop
+step-at-requires c κs = search needs
 
 sub-put-wide : tie.Need-sub-put-wide Inv-loop2 μ-loop2 Inv-loop μ-loop
 sub-put-wide c = search needs
@@ -55,7 +55,7 @@ loop2-less : tie.Need-loop2-less Inv-loop2 μ-loop2 Inv-loop μ-loop
 loop2-less c = search needs
 
 loop2-again : tie.Need-loop2-again Inv-loop2 μ-loop2 Inv-loop μ-loop
-loop2-again c = (wide-step (c .before .before .before .before .before .before .before .loop2 .inv .0) (c .before .before .before .before .before .step-told .ensures) (c .before .before .before .before .before .before .loop2-test .taken) (c .before .before .before .put-wide .ensures) (c .goes-before .ensures), search needs)
+loop2-again c = (wide-step (c .before .before .before .before .before .before .before .loop2 .inv .0) (c .before .before .before .before .before .step-at .ensures) (c .before .before .before .before .before .before .loop2-test .taken) (c .before .before .before .put-wide .ensures) (c .goes-before .ensures), search needs)
 
 add-full : tie.Need-add-full Inv-loop2 μ-loop2 Inv-loop μ-loop
 add-full c = record { fits = whole-few (c .before .loop2 .inv .0) (c .loop2-test .left) }
@@ -83,8 +83,8 @@ live-wide-spec =
     clear-requires
     loop-holds
     loop2-holds
-    sub-step-told
-    step-told-requires
+    sub-step-at
+    step-at-requires
     sub-put-wide
     put-wide-requires
     goes-before-requires

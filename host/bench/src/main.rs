@@ -161,6 +161,18 @@ fn report(cases: &[Case], costs: &Costs, unit: &str) {
     }
 }
 
+/// The check's time by crate, as the last check of each left it in target/log.
+fn checked() {
+    let root = concat!(env!("CARGO_MANIFEST_DIR"), "/../..");
+    let Ok(list) = fs::read_to_string(format!("{root}/crates.txt")) else { return };
+    println!("\nCheck, by crate:");
+    for name in list.lines().filter(|l| !l.starts_with('#')).filter_map(|l| l.split_once(':')).map(|(name, _)| name) {
+        let told = fs::read_to_string(format!("{root}/target/log/{name}.out")).unwrap_or_default();
+        let took = told.lines().find_map(|l| l.strip_prefix(&format!("rt: {name} proved ("))?.strip_suffix(')')).unwrap_or("not checked here yet");
+        println!("{name:<12}{took}");
+    }
+}
+
 fn bench() -> Result<(), String> {
     let (mut most, mut inside, mut times) = (usize::MAX, false, false);
     let mut args = env::args().skip(1);
@@ -181,6 +193,7 @@ fn bench() -> Result<(), String> {
         Some(costs) => report(&cases, &costs, "instr."),
         None => report(&cases, &timed(&cases), "ns"),
     }
+    checked();
     Ok(())
 }
 

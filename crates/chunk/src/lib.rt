@@ -2,13 +2,13 @@
 use values::Maybe;
 use values::Val;
 ghost use mathlib.Core.Path.{_≡_};
-ghost use Prim.Native.Nat.{_≤_};
+ghost use Prim.Native.Nat.{_≤_, _<_};
 ghost use lib.ListN.{length};
 ghost use lib.Ieee.{binary64, ofBits, toBits};
 ghost use mir.Syntax.{w64};
 ghost use mir.Val.{toZ, ofZ};
 ghost use Rattle.values.specs.Folds.{inRange};
-ghost use Rattle.chunk.specs.Pool.{Room, toVal, constToVal, position, stored, findOrPush, findOrPushConst};
+ghost use Rattle.chunk.specs.Pool.{Room, toVal, constToVal, equals, position, stored, findOrPush, findOrPushConst};
 
 // Where a result is kept: its index and the new count, or no room.
 pub enum Kept {
@@ -63,6 +63,14 @@ fn find_or_push(kinds: &mut [u8], words: &mut [u64], count: usize, kind: u8, wor
     Kept::At(count as u16, count + 1)
 }
 
+// Whether constant i is this one: the word first, which tells most apart.
+fn is_at(kinds: &[u8], words: &[u64], kind: u8, word: u64, i: usize) -> bool
+    requires { ⌜ (i < length (now kinds)) × (i < length (now words)) ⌝ }
+    ensures { λ r. ⌜ r ≡ equals (now (kinds .entry)) (now (words .entry)) kind word i ⌝ }
+{
+    (words[i] == word) & (kinds[i] == kind)
+}
+
 // The first equal constant, else the count.
 fn find(kinds: &[u8], words: &[u64], count: usize, kind: u8, word: u64) -> usize
     requires { ⌜ (count ≤ length (now kinds)) × (count ≤ length (now words)) ⌝ }
@@ -70,8 +78,7 @@ fn find(kinds: &[u8], words: &[u64], count: usize, kind: u8, word: u64) -> usize
 {
     let mut i: usize = 0;
     while i < count {
-        let same = (kinds[i] == kind) & (words[i] == word);
-        if same {
+        if is_at(kinds, words, kind, word, i) {
             return i;
         }
         i += 1;

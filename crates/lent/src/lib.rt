@@ -7,7 +7,7 @@ ghost use mir.Val.{boolByte};
 ghost use Rattle.laws.specs.All.{every};
 ghost use Rattle.lent.specs.Chunk.{count, opAt, markAt, operandAt, jumps, names, folds, rules};
 ghost use Rattle.lent.specs.Tables.{constantKept, constantsKept, mapKept, pairsKept, tableOf};
-ghost use Rattle.lent.specs.Check.{firstBad, checkOf, tablesOf, tallyOf, constantRoom, sourceRoom, roomsOf, readyOf};
+ghost use Rattle.lent.specs.Check.{firstBad, checkOf, tablesOf, tallyOf, constantRoom, sourceRoom, ample, roomsOf, readyOf};
 use code::Checked;
 use code::Refusal;
 use code::op::*;
@@ -107,16 +107,18 @@ pub fn is_folding(o: u16) -> bool
         | (o == Minus)
 }
 
-// Whether an instruction breaks a record rule.
+// Whether an instruction breaks a record rule: LoadConst has the mark 2, a Phi or a folding operator none, any other no two marks.
 fn breaks(o: u16, marks: u16) -> bool
     ensures { λ r. ⌜ r ≡ not (rules o marks) ⌝ }
 {
-    let jump = marks % 2 == 1;
-    let named = marks / 2 % 2 == 1;
-    let folding = is_folding(o);
-    let jump_kept = !jump | !((o == LoadConst) | (o == Phi) | folding);
-    let names_kept = ((o != LoadConst) | named) & (!named | !(jump | (o == Phi) | folding));
-    let kept = (o <= LAST) & (marks <= 3) & jump_kept & names_kept;
+    if o == LoadConst {
+        return marks != 2;
+    }
+    if (o == Phi) | is_folding(o) {
+        let kept = (o <= LAST) & (marks == 0);
+        return !kept;
+    }
+    let kept = (o <= LAST) & (marks <= 2);
     !kept
 }
 
@@ -268,11 +270,28 @@ pub fn source_room(sources: usize, phis: usize) -> usize
     2 * pairs
 }
 
-// Refusal 5: the first buffer that is too short.
+// Whether the buffers have room for any chunk of n instructions, which has n folding operators and n Phis at most.
+fn is_ample(n: usize, counts: Counts, lens: Lens) -> bool
+    requires { ⌜ n < 2 ^ 63 ⌝ }
+    ensures { λ r. ⌜ r ≡ ample n counts lens ⌝ }
+{
+    if 65536 < counts.constants {
+        return false;
+    }
+    let most = counts.constants + n;
+    let pool = (most <= lens.kinds) & (most <= lens.words);
+    let phis = (n <= lens.map) & (n <= lens.sources / 2) & (counts.sources <= lens.sources);
+    pool & phis & (n <= lens.dead) & (n < lens.remap)
+}
+
+// Refusal 5: the first buffer that is too short. Nothing is counted where there is room for anything.
 fn rooms(v: Checked, code: &[u16], counts: Counts, lens: Lens) -> Checked
     ensures { λ r. ⌜ r ≡ roomsOf v (now (code .entry)) counts lens ⌝ }
 {
     let n = code.len() / STRIDE;
+    if is_ample(n, counts, lens) {
+        return v;
+    }
     let t = tallied(code);
     let constants = constant_room(counts.constants, t.folding);
     let v = code::room(v, 1, lens.kinds, constants);

@@ -1,6 +1,7 @@
 -- Laws of the Phi pass, for the loops that write its tables. Assumes nothing.
-use Prim.Native.Nat.{ℕ, zero, suc, _+_, _-_, _*_, _/_, _%_, _≤_, _<_}
+use Prim.Native.Nat.{ℕ, zero, suc, _+_, _-_, _*_, _/_, _%_, _≤_, _<_, zero-le}
 use native.Mathlib.Nat.{le-refl}
+use native.Mathlib.Decide.{ℕ-discrete}
 use native.Mathlib.Numerals.{add-one}
 use native.Mathlib.Omega.{arith}
 use mathlib.Core.Path.{_≡_, refl, sym, ap, _∙_}
@@ -8,7 +9,7 @@ use mathlib.Core.Bool.{Bool, true, false, cond, _&&_}
 use mathlib.Core.List.{List, [], _∷_, _++_, append-nil}
 use lib.Dec.{eqb, ltb}
 use lib.ListN.{length, getD, set, take, drop, replicate, length-set, length-append}
-use lib.Seq.{take-suc, take-suc-set, length-take-le}
+use lib.Seq.{take-suc, take-suc-set, length-take-le, set-getD}
 use borrow.Author.Tests.{eq-eqb, ne-eqb, lt-ltb, le-ltb, ltb-true, eqb-true}
 use mir.Val.{boolByte}
 use Rattle.laws.specs.All.{many}
@@ -113,6 +114,33 @@ module _ {w map sources xs old : List ℕ} {i : ℕ} (m : Marked w map sources x
   unfolding marked
   marked-whole h l = let e : i ≡ length old = omega arith in rw e at (walk-whole (m .walked) h)
 
+-- with no entry in phi_map no Phi has a pair, and no mark changes
+pub unpaired : (w map sources : List ℕ) (i : ℕ) → length map ≡ 0 → paired w map sources i ≡ false
+unfolding paired
+unpaired w map sources i e = rw (e, le-ltb i 0 zero-le) (go (isPhi w i))
+  where
+    go : (p : Bool) → p && false ≡ false
+    go true = refl
+    go false = refl
+
+mark-stays : (w map sources old : List ℕ) (i : ℕ) → length map ≡ 0 → markAt w map sources old i ≡ getD old i 0
+unfolding markAt noop
+mark-stays w map sources old i e = rw (unpaired w map sources i e) (go (eqb (getD old i 0) 0) refl)
+  where
+    go : (t : Bool) → eqb (getD old i 0) 0 ≡ t → cond t 0 (getD old i 0) ≡ getD old i 0
+    go true h = sym (eqb-true (getD old i 0) 0 h)
+    go false h = refl
+
+marks-stay : (w map sources old : List ℕ) → length map ≡ 0 → (i : ℕ) → i ≤ length old → Marked w map sources old old i
+marks-stay w map sources old e zero l = marked-none w map sources old
+marks-stay w map sources old e (suc i) l =
+    let m = marked-more (marks-stay w map sources old e i (omega arith)) (markAt w map sources old i) refl (omega arith) in
+    let same : set old i (markAt w map sources old i) ≡ old = ap (set old i) (mark-stays w map sources old i e) ∙ set-getD old i 0 in
+    rw (same, add-one i) at m
+
+pub none-marked : (w map sources old : List ℕ) → length map ≡ 0 → old ≡ marked w map sources old
+none-marked w map sources old e = marked-whole (marks-stay w map sources old e (length old) (le-refl (length old))) (le-refl (length old)) (le-refl (length old))
+
 -- ---- the surviving pairs
 
 spread-more : (xs : List ℕ) (v : ℕ) → spread (xs ++ (v ∷ [])) ≡ spread xs ++ (v / 65536 ∷ v % 65536 ∷ [])
@@ -175,6 +203,19 @@ module _ {w map sources dead queue : List ℕ} {to i : ℕ} (g : Gathered w map 
 
     pub gathered-all : to ≤ many (isPhi w) (length dead)
     gathered-all = let e : i ≡ length dead = omega arith in rw e at (g .few)
+
+-- with no entry in phi_map there are none
+none-gathered : (w map sources dead queue : List ℕ) → length map ≡ 0 → (i : ℕ) → Gathered w map sources dead queue 0 i
+none-gathered w map sources dead queue e zero = gathered-none w map sources dead queue
+none-gathered w map sources dead queue e (suc i) = rw (add-one i) at (go (none-gathered w map sources dead queue e i) (ℕ-discrete (getD dead i 0) 0))
+  where
+    go : Gathered w map sources dead queue 0 i → Dec (getD dead i 0 ≡ 0) → Gathered w map sources dead queue 0 (i + 1)
+    go g (yes z) = gathered-skip g false z (sym (unpaired w map sources i e)) refl
+    go g (no z) = gathered-dead g z
+
+module _ (w map sources dead queue : List ℕ) (e : length map ≡ 0) where
+  pub none-left : spread (take 0 queue) ≡ pairsLeft w map sources dead
+  none-left = gathered-whole (none-gathered w map sources dead queue e (length dead)) (le-refl (length dead)) (le-refl (length dead))
 
 -- where the spreading stands at pair j
 pub record Spread (queue xs old : List ℕ) (j : ℕ) : Type 0 where

@@ -71,6 +71,9 @@ pub fn mark_noops(code: &[u16], dead: &mut [u8], map: &[u32], sources: &[u16])
     requires { ⌜ length (now dead) ≡ count (now code) ⌝ }
     ensures { λ _. ⌜ now (dead .exit) ≡ marked (now (code .entry)) (now (map .entry)) (now (sources .entry)) (now (dead .entry)) ⌝ }
 {
+    if map.len() == 0 {
+        return;
+    }
     let n = dead.len();
     let mut i: usize = 0;
     while i < n {
@@ -128,6 +131,9 @@ pub fn gather(code: &[u16], dead: &[u8], map: &[u32], sources: &[u16], queue: &m
     requires { ⌜ (length (now dead) ≡ count (now code)) × (length (now dead) ≤ length (now queue)) ⌝ }
     ensures { λ r. ⌜ (spread (take r (now (queue .exit))) ≡ pairsLeft (now (code .entry)) (now (map .entry)) (now (sources .entry)) (now (dead .entry))) × (r ≤ many (isPhi (now (code .entry))) (length (now (dead .entry)))) × (r ≤ length (now (queue .exit))) ⌝ }
 {
+    if map.len() == 0 {
+        return 0;
+    }
     let n = dead.len();
     let mut to: usize = 0;
     let mut i: usize = 0;

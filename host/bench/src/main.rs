@@ -24,8 +24,7 @@ struct Case {
 fn cases(most: usize) -> Vec<Case> {
     let sizes = [100, 10_000, 65_535];
     let kept = ["straight", "loops"].into_iter().flat_map(|shape| sizes.into_iter().flat_map(move |n| [8, 64, 65, 1_024].map(|regs| Case { call: Kept, shape, n, regs })));
-    // A new constant is looked for among all, so the longest chunk of them is left out.
-    let folds = sizes.map(|n| ("few constants", n)).into_iter().chain([("new constants", 100), ("new constants", 10_000)]);
+    let folds = ["few constants", "new constants"].into_iter().flat_map(|shape| sizes.map(|n| (shape, n)));
     kept.chain(folds.map(|(shape, n)| Case { call: Fold, shape, n, regs: 0 })).filter(|c| c.n <= most).collect()
 }
 

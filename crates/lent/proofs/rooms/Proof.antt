@@ -1,15 +1,21 @@
 -- `lent::rooms` meets its contract: each test follows the one before it. Assumes nothing.
 use borrow.Author.Needs.{needs}
-use mathlib.Core.Path.{_≡_}
+use mathlib.Core.Path.{_≡_, refl, sym, _∙_}
+use mathlib.Core.Bool.{Bool, true, false, _&&_, false≢true}
 use mathlib.Core.List.{List}
-use Prim.Native.Nat.{ℕ, _+_, _^_, _<_}
+use Prim.Native.Nat.{ℕ, _+_, _/_, _^_, _≤_, _<_}
 use native.Mathlib.Omega.{arith}
+use lib.Dec.{leb, ltb}
 use lib.ListN.{length}
+use borrow.Author.Tests.{leb-true, ltb-true, le-ltb}
 use Rattle.code.specs.Check.{roomOf}
 use Rattle.code.specs.declared.Checked.{Checked}
+use Rattle.code.specs.declared.Checked.the-variants.{Count, No}
+use Rattle.laws.specs.All.{many}
+use Rattle.laws.proofs.Branch.{and-true}
 use Rattle.laws.proofs.Many.{many-few}
-use Rattle.lent.specs.Chunk.{count, isPhi}
-use Rattle.lent.specs.Check.{tallyOf, constantRoom, sourceRoom, roomsOf}
+use Rattle.lent.specs.Chunk.{count, opAt, isPhi, folds}
+use Rattle.lent.specs.Check.{tallyOf, constantRoom, sourceRoom, ample, roomsOf}
 use Rattle.lent.specs.declared.Tally.{Tally}
 use Rattle.lent.specs.declared.Counts.{Counts}
 use Rattle.lent.specs.declared.Lens.{Lens}
@@ -33,6 +39,52 @@ six : (v v₁ v₂ v₃ v₄ v₅ v₆ : Checked) (w : List ℕ) (c : Counts) (l
     → v₆ ≡ roomsOf v w c l
 unfolding roomsOf
 six v v₁ v₂ v₃ v₄ v₅ v₆ w c l t k s e f g e₁ e₂ e₃ e₄ e₅ e₆ = rw (e₆, e₅, e₄, e₃, e₂, e₁, f, g, e)
+
+passes : (v : Checked) (b have needed : ℕ) → needed ≤ have → roomOf v b have needed ≡ v
+passes (No r) b have needed h = refl
+passes (Count n) b have needed h = rw (le-ltb have needed h)
+
+-- where there is room for any chunk, there is room for this one
+module _ (v : Checked) (w : List ℕ) (c : Counts) (l : Lens) where
+  enough : leb (c .constants + count w) (l .kinds) && leb (c .constants + count w) (l .words)
+      && (leb (count w) (l .map) && leb (count w) (l .sources / 2) && leb (c .sources) (l .sources)) && leb (count w) (l .dead) && ltb (count w) (l .remap) ≡ true
+      → v ≡ roomsOf v w c l
+  unfolding roomsOf tallyOf
+  enough e =
+      let p = and-true _ _ e in
+      let q = and-true _ _ (p .0) in
+      let r = and-true _ _ (q .0) in
+      let s = and-true _ _ (r .1) in
+      let t = and-true _ _ (s .0) in
+      let u = and-true _ _ (r .0) in
+      let kinds = leb-true (c .constants + count w) (l .kinds) (u .0) in
+      let words = leb-true (c .constants + count w) (l .words) (u .1) in
+      let map = leb-true (count w) (l .map) (t .0) in
+      let sources = leb-true (count w) (l .sources / 2) (t .1) in
+      let pairs = leb-true (c .sources) (l .sources) (s .1) in
+      let dead = leb-true (count w) (l .dead) (q .1) in
+      let remap = ltb-true (count w) (l .remap) (p .1) in
+      let f = many-few (λ k. folds (opAt w k)) (count w) in
+      let h = many-few (isPhi w) (count w) in
+      sym
+      (passes _ 6 (l .remap) (count w + 1) (omega (arith, remap)) ∙ passes _ 5 (l .dead) (count w) dead
+      ∙ passes _ 4 (l .sources) (sourceRoom (c .sources) (many (isPhi w) (count w))) (omega (arith, h, sources, pairs)) ∙ passes _ 3 (l .map) (count w) map
+      ∙ passes _ 2 (l .words) (constantRoom (c .constants) (many (λ k. folds (opAt w k)) (count w))) (omega (arith, f, words))
+      ∙ passes v 1 (l .kinds) (constantRoom (c .constants) (many (λ k. folds (opAt w k)) (count w))) (omega (arith, f, kinds)))
+
+  at-ease : (t : Bool) → t ≡ ample (count w) c l → t ≡ true → v ≡ roomsOf v w c l
+  unfolding ample
+  at-ease t e h = go (ltb 65536 (c .constants)) refl
+    where
+      go : (b : Bool) → ltb 65536 (c .constants) ≡ b → v ≡ roomsOf v w c l
+      go true z = absurd (false≢true (sym (rw z at e) ∙ h))
+      go false z = enough (sym (rw z at e) ∙ h)
+
+is-ample-requires : tie.Need-is-ample-requires
+is-ample-requires c κs = search needs
+
+returns : tie.Need-returns
+returns c = search at-ease
 
 tallied-requires : tie.Need-tallied-requires
 tallied-requires c κs = search needs
@@ -64,13 +116,15 @@ add-room c = search needs
 room-requires-6 : tie.Need-room-requires-6
 room-requires-6 c κs = search needs
 
-returns : tie.Need-returns
-returns c = search six
+returns-2 : tie.Need-returns-2
+returns-2 c = search six
 
 pub rooms-spec : {M : Type 1} → statement M
 rooms-spec =
     tie.close
     (tie.spec
+    is-ample-requires
+    returns
     tallied-requires
     constant-room-requires
     room-requires
@@ -81,4 +135,4 @@ rooms-spec =
     room-requires-5
     add-room
     room-requires-6
-    returns)
+    returns-2)

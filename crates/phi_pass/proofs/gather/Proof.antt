@@ -3,7 +3,7 @@ use borrow.Author.Needs.{needs}
 use mathlib.Core.Path.{_≡_}
 use Prim.Native.Nat.{_≤_, _-_}
 use lib.ListN.{length}
-use Rattle.phi_pass.proofs.Pairs.{in-map, in-sources, Gathered, gathered-none, gathered-dead, gathered-skip, gathered-put, gathered-few, gathered-whole, gathered-all}
+use Rattle.phi_pass.proofs.Pairs.{none-left, in-map, in-sources, Gathered, gathered-none, gathered-dead, gathered-skip, gathered-put, gathered-few, gathered-whole, gathered-all}
 use Rattle.phi_pass.proofs.gather.Statement.{statement}
 use Rattle.phi_pass.proofs.gather.Tie as tie
 
@@ -13,14 +13,17 @@ Inv-loop code dead map sources queue₀ n to₀ i₀ queue to i = Gathered code 
 abbrev μ-loop : tie.MeasureT-loop
 μ-loop code dead map sources queue₀ n to₀ i₀ queue to i = n - i
 
+returns : tie.Need-returns Inv-loop μ-loop
+returns c = search (needs, none-left)
+
 loop-holds : tie.Need-loop-holds Inv-loop μ-loop
 loop-holds c = search (needs, gathered-none, gathered-dead, gathered-skip, gathered-put, gathered-few, gathered-whole, gathered-all)
 
 add-i : tie.Need-add-i Inv-loop μ-loop
 add-i c = search (needs, gathered-none, gathered-dead, gathered-skip, gathered-put, gathered-few, gathered-whole, gathered-all)
 
-shared-slice-read-if1 : tie.Need-shared-slice-read-if1 Inv-loop μ-loop
-shared-slice-read-if1 c = search (needs, gathered-none, gathered-dead, gathered-skip, gathered-put, gathered-few, gathered-whole, gathered-all)
+shared-slice-read-if2 : tie.Need-shared-slice-read-if2 Inv-loop μ-loop
+shared-slice-read-if2 c = search (needs, gathered-none, gathered-dead, gathered-skip, gathered-put, gathered-few, gathered-whole, gathered-all)
 
 loop-less : tie.Need-loop-less Inv-loop μ-loop
 loop-less c = search (needs, gathered-none, gathered-dead, gathered-skip, gathered-put, gathered-few, gathered-whole, gathered-all)
@@ -32,7 +35,7 @@ has-pair-requires : tie.Need-has-pair-requires Inv-loop μ-loop
 has-pair-requires c κs = search (needs, gathered-none, gathered-dead, gathered-skip, gathered-put, gathered-few, gathered-whole, gathered-all)
 
 pack-requires : tie.Need-pack-requires Inv-loop μ-loop
-pack-requires c κs = let h = c .before .has-pair .ensures in let t = c .if2 .taken in (in-map _ _ _ _ _ h t, in-sources _ _ _ _ _ h t)
+pack-requires c κs = let h = c .before .has-pair .ensures in let t = c .if3 .taken in (in-map _ _ _ _ _ h t, in-sources _ _ _ _ _ h t)
 
 mul-queue : tie.Need-mul-queue Inv-loop μ-loop
 mul-queue c = search (needs, gathered-none, gathered-dead, gathered-skip, gathered-put, gathered-few, gathered-whole, gathered-all)
@@ -58,8 +61,8 @@ loop-again-3 c = search (needs, gathered-none, gathered-dead, gathered-skip, gat
 same-length : tie.Need-same-length Inv-loop μ-loop
 same-length c = search (needs, gathered-none, gathered-dead, gathered-skip, gathered-put, gathered-few, gathered-whole, gathered-all)
 
-returns : tie.Need-returns Inv-loop μ-loop
-returns c = search (needs, gathered-none, gathered-dead, gathered-skip, gathered-put, gathered-few, gathered-whole, gathered-all)
+returns-2 : tie.Need-returns-2 Inv-loop μ-loop
+returns-2 c = search (needs, gathered-none, gathered-dead, gathered-skip, gathered-put, gathered-few, gathered-whole, gathered-all)
 
 pub gather-spec : {M : Type 1} → statement M
 gather-spec =
@@ -67,9 +70,10 @@ gather-spec =
     (tie.spec
     Inv-loop
     μ-loop
+    returns
     loop-holds
     add-i
-    shared-slice-read-if1
+    shared-slice-read-if2
     loop-less
     loop-again
     has-pair-requires
@@ -82,4 +86,4 @@ gather-spec =
     loop-less-3
     loop-again-3
     same-length
-    returns)
+    returns-2)

@@ -1,7 +1,7 @@
 -- `phi_pass::mark_noops` meets its contract. Assumes nothing.
 use borrow.Author.Needs.{needs}
 use Prim.Native.Nat.{_≤_, _-_}
-use Rattle.phi_pass.proofs.Pairs.{Marked, marked-none, marked-more, marked-same, marked-whole}
+use Rattle.phi_pass.proofs.Pairs.{none-marked, Marked, marked-none, marked-more, marked-same, marked-whole}
 use Rattle.phi_pass.proofs.mark_noops.Statement.{statement}
 use Rattle.phi_pass.proofs.mark_noops.Tie as tie
 
@@ -10,6 +10,9 @@ Inv-loop code dead₀ map sources n i₀ dead i = Marked code map sources dead d
 
 abbrev μ-loop : tie.MeasureT-loop
 μ-loop code dead₀ map sources n i₀ dead i = n - i
+
+returns : tie.Need-returns Inv-loop μ-loop
+returns c = search none-marked
 
 loop-holds : tie.Need-loop-holds Inv-loop μ-loop
 loop-holds c = search (needs, marked-none, marked-more, marked-same, marked-whole)
@@ -32,8 +35,8 @@ loop-again c = search (needs, marked-none, marked-more, marked-same, marked-whol
 same-length : tie.Need-same-length Inv-loop μ-loop
 same-length c = search (needs, marked-none, marked-more, marked-same, marked-whole)
 
-returns : tie.Need-returns Inv-loop μ-loop
-returns c = search (needs, marked-none, marked-more, marked-same, marked-whole)
+returns-2 : tie.Need-returns-2 Inv-loop μ-loop
+returns-2 c = search (needs, marked-none, marked-more, marked-same, marked-whole)
 
 pub mark-noops-spec : {M : Type 1} → statement M
 mark-noops-spec =
@@ -41,6 +44,7 @@ mark-noops-spec =
     (tie.spec
     Inv-loop
     μ-loop
+    returns
     loop-holds
     mark-requires
     slice-write-dead
@@ -48,4 +52,4 @@ mark-noops-spec =
     loop-less
     loop-again
     same-length
-    returns)
+    returns-2)

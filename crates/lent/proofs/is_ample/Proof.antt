@@ -1,0 +1,20 @@
+-- `lent::is_ample` meets its contract. Assumes nothing.
+use borrow.Author.Needs.{needs}
+use Rattle.laws.proofs.Branch.{branch}
+use Rattle.lent.specs.Check.{ample}
+use Rattle.lent.proofs.is_ample.Statement.{statement}
+use Rattle.lent.proofs.is_ample.Tie as tie
+
+returns : tie.Need-returns
+unfolding ample
+returns c = search (needs, branch)
+
+add-most : tie.Need-add-most
+add-most c = search needs
+
+returns-2 : tie.Need-returns-2
+unfolding ample
+returns-2 c = search (needs, branch)
+
+pub is-ample-spec : {M : Type 1} → statement M
+is-ample-spec = tie.close (tie.spec returns add-most returns-2)

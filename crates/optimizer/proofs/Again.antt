@@ -41,7 +41,7 @@ use Rattle.compact.specs.Remap.{alive, live}
 use Rattle.compact.specs.Tables.{operandOf, leftAt, left, compacted}
 use Rattle.phi_pass.specs.Phi.{marked}
 use Rattle.phi_pass.proofs.Pairs.{marked-length}
-use Rattle.optimizer.specs.Finish.{Tables, tables, mapOf, sourcesOf, renewed, finished}
+use Rattle.finish.specs.Finish.{Tables, tables, mapOf, sourcesOf, renewed, finished}
 use Rattle.optimizer.specs.Fold.{Buffers, lensOf, needed, outcome, foldPass, constantFold, joined, foldCall}
 use Rattle.optimizer.specs.declared.FoldAnswer.the-variants.{No}
 use Rattle.optimizer.proofs.Tested.{held-of}

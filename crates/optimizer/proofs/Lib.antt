@@ -1,5 +1,4 @@
 pub mod Again
-pub mod Anew
 pub mod Idle
 pub mod Examples
 pub mod Tested

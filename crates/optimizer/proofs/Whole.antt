@@ -19,9 +19,9 @@ use Rattle.lent.specs.declared.Tally.{Tally}
 use Rattle.fold.specs.Plan.{Chunk, chunk}
 use Rattle.fold.specs.Pass.{foldAll, Lent}
 use Rattle.fold.proofs.Passed.{Passed, all-passed}
-use Rattle.optimizer.specs.Finish.{Tables, tables, finished, Fit}
+use Rattle.finish.specs.Finish.{Tables, tables, finished, Fit}
 use Rattle.optimizer.specs.Fold.{Buffers, buffers, lensOf, needed, sourcesNeeded, Outcome, outcome, constantFold, foldPass, joined, foldCall, Held, Exact}
-use Rattle.optimizer.specs.declared.Left.{Left}
+use Rattle.finish.specs.declared.Left.{Left}
 use Rattle.optimizer.specs.declared.Folded.{Folded}
 use Rattle.optimizer.specs.declared.FoldAnswer.{FoldAnswer}
 use Rattle.optimizer.specs.declared.FoldAnswer.the-variants.{Is, No}

@@ -12,7 +12,7 @@ use Rattle.lent.specs.declared.Counts.{Counts}
 use Rattle.lent.specs.declared.Lens.{Lens}
 use Rattle.fold.specs.Plan.{Chunk, chunk}
 use Rattle.fold.specs.Pass.{foldAll}
-use Rattle.optimizer.specs.Finish.{Tables, tables, finished}
+use Rattle.finish.specs.Finish.{Tables, tables, finished}
 use Rattle.optimizer.specs.declared.Folded.{Folded}
 use Rattle.optimizer.specs.declared.FoldAnswer.{FoldAnswer}
 use Rattle.optimizer.specs.declared.FoldAnswer.the-variants.{Is, No}

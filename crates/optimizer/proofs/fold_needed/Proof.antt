@@ -1,7 +1,7 @@
 -- `optimizer::fold_needed` meets its contract. Assumes nothing.
 use borrow.Author.Needs.{needs}
 use Rattle.optimizer.proofs.Whole.{exact-of, joins}
-use Rattle.optimizer.proofs.Anew.{took, took-by}
+use Rattle.finish.proofs.Anew.{took, took-by}
 use Rattle.optimizer.proofs.fold_needed.Statement.{statement}
 use Rattle.optimizer.proofs.fold_needed.Tie as tie
 
@@ -51,13 +51,13 @@ constant-fold-requires : tie.Need-constant-fold-requires
 constant-fold-requires c κs = exact-of _ _ _ _ _ _ _ _ _ _ _ (c .before .before .before .before .before .before .before .before .before .sources-needed .ensures) (c .before .before .before .before .before .before .before .before .before .before .before .before .before .before .before .before .before .before .before .before .pre)
 
 same-length : tie.Need-same-length
-same-length c = search needs
+same-length c = c .before .before .before .before .before .before .before .before .before .before .before .before .before .before .before .before .before .code .given
 
 same-length-2 : tie.Need-same-length-2
-same-length-2 c = search needs
+same-length-2 c = c .before .before .before .before .before .before .before .before .before .before .before .before .before .before .before .kinds .given
 
 same-length-3 : tie.Need-same-length-3
-same-length-3 c = search needs
+same-length-3 c = c .before .before .before .before .before .before .before .before .before .before .before .before .before .words .given
 
 same-length-4 : tie.Need-same-length-4
 same-length-4 c = search needs

@@ -1,8 +1,8 @@
 -- `optimizer::map_count` meets its contract. Assumes nothing.
 use borrow.Author.Needs.{needs}
 use Rattle.laws.proofs.Branch.{branch}
-use Rattle.optimizer.proofs.map_count.Statement.{statement}
-use Rattle.optimizer.proofs.map_count.Tie as tie
+use Rattle.finish.proofs.map_count.Statement.{statement}
+use Rattle.finish.proofs.map_count.Tie as tie
 
 returns : tie.Need-returns
 returns c = search (needs, branch)

@@ -10,7 +10,7 @@ use Rattle.lent.specs.Chunk.{stride, count, isPhi}
 use Rattle.compact.specs.Remap.{alive, live, remapOf}
 use Rattle.compact.specs.Tables.{compacted, placed}
 use Rattle.phi_pass.specs.Phi.{marked, pairsLeft, indexed}
-use Rattle.optimizer.specs.declared.Left.{Left}
+use Rattle.finish.specs.declared.Left.{Left}
 
 -- the lent tables of n instructions, each as far as it is needed, and their counts
 pub record Tables : Type 0 where

@@ -1,8 +1,8 @@
 -- `optimizer::renew` meets its contract. Assumes nothing.
 use borrow.Author.Needs.{needs}
-use Rattle.optimizer.proofs.Anew.{renews}
-use Rattle.optimizer.proofs.renew.Statement.{statement}
-use Rattle.optimizer.proofs.renew.Tie as tie
+use Rattle.finish.proofs.Anew.{renews}
+use Rattle.finish.proofs.renew.Statement.{statement}
+use Rattle.finish.proofs.renew.Tie as tie
 
 renew-sources-requires : tie.Need-renew-sources-requires
 renew-sources-requires c κs = search needs

@@ -1,8 +1,8 @@
 -- `optimizer::finish` meets its contract. Assumes nothing.
 use borrow.Author.Needs.{needs}
-use Rattle.optimizer.proofs.Anew.{fit-marked, none-died, some-died}
-use Rattle.optimizer.proofs.finish.Statement.{statement}
-use Rattle.optimizer.proofs.finish.Tie as tie
+use Rattle.finish.proofs.Anew.{fit-marked, none-died, some-died}
+use Rattle.finish.proofs.finish.Statement.{statement}
+use Rattle.finish.proofs.finish.Tie as tie
 
 mark-phis-requires : tie.Need-mark-phis-requires
 mark-phis-requires c κs = search needs

@@ -1,8 +1,8 @@
 -- `optimizer::mark_phis` meets its contract. Assumes nothing.
 use borrow.Author.Needs.{needs}
-use Rattle.optimizer.proofs.Anew.{took}
-use Rattle.optimizer.proofs.mark_phis.Statement.{statement}
-use Rattle.optimizer.proofs.mark_phis.Tie as tie
+use Rattle.finish.proofs.Anew.{took}
+use Rattle.finish.proofs.mark_phis.Statement.{statement}
+use Rattle.finish.proofs.mark_phis.Tie as tie
 
 slice-aggregate-mark-noops : tie.Need-slice-aggregate-mark-noops
 slice-aggregate-mark-noops c = search took

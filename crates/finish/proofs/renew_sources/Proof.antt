@@ -1,8 +1,8 @@
 -- `optimizer::renew_sources` meets its contract. Assumes nothing.
 use borrow.Author.Needs.{needs}
-use Rattle.optimizer.proofs.Anew.{took, words-left, words-after}
-use Rattle.optimizer.proofs.renew_sources.Statement.{statement}
-use Rattle.optimizer.proofs.renew_sources.Tie as tie
+use Rattle.finish.proofs.Anew.{took, words-left, words-after}
+use Rattle.finish.proofs.renew_sources.Statement.{statement}
+use Rattle.finish.proofs.renew_sources.Tie as tie
 
 slice-aggregate-gather : tie.Need-slice-aggregate-gather
 slice-aggregate-gather c = search took

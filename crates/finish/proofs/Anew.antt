@@ -12,8 +12,8 @@ use Rattle.compact.specs.Remap.{alive}
 use Rattle.compact.specs.Tables.{Compacted}
 use Rattle.phi_pass.specs.Phi.{marked, pairsLeft, spread, indexed}
 use Rattle.phi_pass.proofs.Pairs.{spread-length, marked-length}
-use Rattle.optimizer.specs.Finish.{Tables, tables, sourcesAfter, mapCount, mapOf, sourcesOf, renewed, finished, Fit}
-use Rattle.optimizer.specs.declared.Left.{Left}
+use Rattle.finish.specs.Finish.{Tables, tables, sourcesAfter, mapCount, mapOf, sourcesOf, renewed, finished, Fit}
+use Rattle.finish.specs.declared.Left.{Left}
 
 pub took : (m : ℕ) (l : List ℕ) → m ≤ length l → m ≡ length (take m l)
 took m l h = sym (length-take-le m l h)

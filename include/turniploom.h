@@ -2,8 +2,8 @@
  *
  * A slice is a pointer and a length in elements. No call asks anything of its input but that each pointer has as many elements
  * as its length says (a length of 0 may come with any pointer that is not null), that buffers lent to be written do not overlap
- * anything else, and that a bool is one. Nothing is allocated. docs/BUFFERS.md has the order of the tests and what each buffer
- * holds afterwards. */
+ * anything else, and that a bool is one. Nothing is allocated. No call needs more than 4 KiB of stack. docs/BUFFERS.md has the
+ * order of the tests and what each buffer holds afterwards. */
 #ifndef TURNIPLOOM_H
 #define TURNIPLOOM_H
 

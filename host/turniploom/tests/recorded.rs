@@ -3,15 +3,11 @@
 //! host/README.md has the form of a record; `oracle record` writes the file.
 
 use std::{collections::BTreeMap, str::SplitWhitespace};
-use turniploom::abi::{self, Answer};
+use turniploom::abi::{Answer, Arg, CALLS, Kind, Width};
 
 const RECORDED: &str = include_str!("recorded.txt");
 
-/// The calls by their number, from 1, and how many records of each the file holds.
-const CALLS: [&str; 20] = [
-    "kinds", "role", "field", "writes", "pure", "flat", "guarded", "returns", "params_written", "passed", "gen_pure", "dead_phi",
-    "loops_around", "targets", "global_of", "pushed_back", "stack_callee", "kept", "fold", "clear",
-];
+/// How many records of each call the file holds.
 const EACH: usize = 64;
 
 /// The numbers of a record that are not read yet.
@@ -25,80 +21,65 @@ impl Numbers<'_> {
         word.parse::<u64>().ok().and_then(|v| v.try_into().ok()).ok_or_else(|| format!("`{word}` is no number that fits here"))
     }
 
-    fn truth(&mut self) -> Read<bool> { Ok(self.one::<u8>()? != 0) }
-
     /// A slice: its length, then its elements.
     fn slice<T: TryFrom<u64>>(&mut self) -> Read<Vec<T>> {
         let length: u16 = self.one()?;
         (0..length).map(|_| self.one()).collect()
     }
+
+    fn lent(&mut self, kind: Kind) -> Read<Lent> {
+        Ok(match kind {
+            Kind::Bool | Kind::U8 => Lent::Number(self.one::<u8>()?.into()),
+            Kind::U16 => Lent::Number(self.one::<u16>()?.into()),
+            Kind::Slice(Width::U8) | Kind::Buffer(Width::U8) => Lent::U8(self.slice()?),
+            Kind::Slice(Width::U16) | Kind::Buffer(Width::U16) => Lent::U16(self.slice()?),
+            Kind::Slice(Width::U32) | Kind::Buffer(Width::U32) => Lent::U32(self.slice()?),
+            Kind::Slice(Width::U64) | Kind::Buffer(Width::U64) => Lent::U64(self.slice()?),
+            _ => Lent::Number(self.one()?),
+        })
+    }
 }
 
-/// A buffer after the call, as a record has it: its length, then its elements.
-fn after<T: Copy + Into<u64>>(buffer: &[T]) -> Vec<u64> {
-    std::iter::once(buffer.len() as u64).chain(buffer.iter().map(|&w| w.into())).collect()
+/// An argument that the test owns.
+enum Lent {
+    Number(u64),
+    U8(Vec<u8>),
+    U16(Vec<u16>),
+    U32(Vec<u32>),
+    U64(Vec<u64>),
 }
 
-/// Asks a call with lent buffers, and gives its answer with what each of them holds.
-macro_rules! lend {
-    ($($buffer:ident),*; $answer:expr) => {{ let answer = $answer; (answer, [$(after(&$buffer)),*].concat()) }};
+impl Lent {
+    fn arg(&mut self) -> Arg<'_> {
+        match self {
+            Lent::Number(v) => Arg::Number(*v),
+            Lent::U8(v) => Arg::U8(v),
+            Lent::U16(v) => Arg::U16(v),
+            Lent::U32(v) => Arg::U32(v),
+            Lent::U64(v) => Arg::U64(v),
+        }
+    }
+
+    /// A slice as a record has it: its length, then its elements.
+    fn numbers(&self) -> Vec<u64> {
+        fn all<T: Copy + Into<u64>>(v: &[T]) -> Vec<u64> { std::iter::once(v.len() as u64).chain(v.iter().map(|&w| w.into())).collect() }
+        match self {
+            Lent::Number(v) => vec![*v],
+            Lent::U8(v) => all(v),
+            Lent::U16(v) => all(v),
+            Lent::U32(v) => all(v),
+            Lent::U64(v) => all(v),
+        }
+    }
 }
 
 /// Asks the call of that number with the arguments that follow in the record: the answer, and the buffers lent to be written.
 fn asked(call: usize, r: &mut Numbers) -> Read<(Answer, Vec<u64>)> {
-    let mut code: Vec<u16> = r.slice()?;
-    let answer = match call {
-        1 => abi::kinds(&code, r.one()?),
-        2 => abi::role(&code, r.one()?),
-        3 => abi::field(&code, r.one()?, r.one()?),
-        4 => abi::writes(&code, r.one()?, r.one()?),
-        5 => abi::pure(&code),
-        6 => abi::flat(&code),
-        7 => abi::guarded(&code),
-        8 => abi::returns(&code, r.one()?),
-        9 => abi::params_written(&code, r.one()?),
-        10 => abi::passed(&code, r.one()?, r.one()?),
-        11 => {
-            let (mut seen, mut todo) = (r.slice()?, r.slice()?);
-            return Ok(lend!(seen, todo; abi::gen_pure(&code, &mut seen, &mut todo)));
-        }
-        12 => {
-            let (at, reg, mut seen, mut todo) = (r.one()?, r.one()?, r.slice()?, r.slice()?);
-            return Ok(lend!(seen, todo; abi::dead_phi(&code, at, reg, &mut seen, &mut todo)));
-        }
-        13 => {
-            let mut out = r.slice()?;
-            return Ok(lend!(out; abi::loops_around(&code, &mut out)));
-        }
-        14 => {
-            let (tries, mut out) = (r.slice()?, r.slice()?);
-            return Ok(lend!(out; abi::targets(&code, &tries, &mut out)));
-        }
-        15 => abi::global_of(&code, r.one()?),
-        16 => abi::pushed_back(&code, r.one()?, r.one()?),
-        17 => abi::stack_callee(&code, r.one()?, r.one()?),
-        18 => {
-            let (regs, tries, wide) = (r.one()?, r.slice()?, r.truth()?);
-            let (mut rows, mut offsets, mut list) = (r.slice()?, r.slice()?, r.slice()?);
-            return Ok(lend!(rows, offsets, list; abi::kept(&code, regs, &tries, wide, &mut rows, &mut offsets, &mut list)));
-        }
-        19 => {
-            let (mut kinds, mut words, constants) = (r.slice()?, r.slice()?, r.one()?);
-            let (mut phi_map, phis, mut sources, pairs) = (r.slice()?, r.one()?, r.slice()?, r.one()?);
-            let (mut stmts, stmt_count, mut calls, call_count) = (r.slice()?, r.one()?, r.slice()?, r.one()?);
-            let (mut dead, mut remap, strict) = (r.slice()?, r.slice()?, r.truth()?);
-            return Ok(lend!(code, kinds, words, phi_map, sources, stmts, calls, dead, remap; abi::fold(
-                &mut code, &mut kinds, &mut words, constants, &mut phi_map, phis, &mut sources, pairs, &mut stmts, stmt_count,
-                &mut calls, call_count, &mut dead, &mut remap, strict,
-            )));
-        }
-        20 => {
-            let (mut kinds, mut words, constants, mut scratch) = (r.slice()?, r.slice()?, r.one()?, r.slice()?);
-            return Ok(lend!(code, kinds, words, scratch; abi::clear(&mut code, &mut kinds, &mut words, constants, &mut scratch)));
-        }
-        _ => return Err(format!("no call has the number {call}")),
-    };
-    Ok((answer, vec![]))
+    let Some(entry) = CALLS.get(call.wrapping_sub(1)) else { return Err(format!("no call has the number {call}")) };
+    let mut lent: Vec<Lent> = entry.params.iter().map(|p| r.lent(p.kind)).collect::<Read<_>>()?;
+    let answer = (entry.ask)(&mut lent.iter_mut().map(Lent::arg).collect::<Vec<_>>());
+    let written = entry.params.iter().zip(&lent).filter(|(p, _)| matches!(p.kind, Kind::Buffer(_)));
+    Ok((answer, written.flat_map(|(_, l)| l.numbers()).collect()))
 }
 
 /// Asks a record anew, and says which call it is of.
@@ -110,7 +91,7 @@ fn agrees(record: &str) -> Read<&'static str> {
     let recorded: Vec<u64> = (0..told.len()).map(|_| numbers.one()).collect::<Read<_>>()?;
     if recorded != told { return Err(format!("the record says {recorded:?}, the archive {told:?}")) }
     if numbers.0.next().is_some() { return Err("it has more numbers than the call".into()) }
-    Ok(CALLS[call - 1])
+    Ok(CALLS[call - 1].name)
 }
 
 /// How many records of each call agree, or the line of the first that does not.
@@ -123,11 +104,14 @@ fn replayed(text: &str) -> Read<BTreeMap<&'static str, usize>> {
     Ok(agree)
 }
 
+/// As many records of each call.
+fn whole() -> BTreeMap<&'static str, usize> { CALLS.iter().map(|call| (call.name, EACH)).collect() }
+
 #[test]
 fn every_record_agrees() {
     let agree = replayed(RECORDED).unwrap_or_else(|says| panic!("tests/recorded.txt, {says}"));
     for (call, count) in &agree { println!("{call} {count} agree") }
-    assert_eq!(agree, CALLS.map(|call| (call, EACH)).into());
+    assert_eq!(agree, whole());
 }
 
 /// A record whose number at `place` is one more, or 0 where there is no more.
@@ -167,6 +151,6 @@ fn the_first_bad_record_is_named_by_its_line() {
 fn a_record_that_is_lost_is_seen() {
     for lost in [0, RECORDED.lines().count() - 1] {
         let text: Vec<&str> = RECORDED.lines().enumerate().filter(|l| l.0 != lost).map(|l| l.1).collect();
-        assert_ne!(replayed(&text.join("\n")).unwrap(), CALLS.map(|call| (call, EACH)).into());
+        assert_ne!(replayed(&text.join("\n")).unwrap(), whole());
     }
 }

@@ -32,11 +32,13 @@ enum turniploom_refusal {
     TURNIPLOOM_TABLE = 7      /* a table of the chunk breaks its rule: table number */
 };
 
-/* Marks of an instruction: six words, opcode, marks, a, b, c, x. */
+/* Marks of an instruction: six words, opcode, marks, a, b, c, x. They stand for the Rust's `lower::wide`, `lower::dunder_op` and
+ * `is_register`, and answers hang on them: a wide call without its mark seems to resume at its ArgsR, and an opcode that a dunder may run
+ * is no level without its mark, so a register that must be kept is lost. turniploom_mark, below, sets them. */
 enum turniploom_mark { TURNIPLOOM_WIDE = 1, TURNIPLOOM_DUNDER = 2, TURNIPLOOM_IS_REGISTER = 4 };
 
 /* The marks of a chunk's instruction: three words, opcode, marks, operand. Every LoadConst names a constant; a jump, a Phi and a
- * folding operator never do. */
+ * folding operator never do. A jump without its mark keeps its old target when the code shrinks; turniploom_mark_chunk sets both. */
 enum turniploom_chunk_mark { TURNIPLOOM_IS_JUMP = 1, TURNIPLOOM_NAMES_CONSTANT = 2 };
 
 /* The kind of a constant. */
@@ -183,6 +185,36 @@ enum turniploom_opcode {
     TURNIPLOOM_SuperR = 181, TURNIPLOOM_WrapCellR = 183, TURNIPLOOM_CallValueR = 185, TURNIPLOOM_CallSpreadR = 187,
     TURNIPLOOM_ListPushR = 189
 };
+
+/* Whether an opcode is a register form, and whether it is a jump: the Rust's `is_register` and `is_jump`. */
+static inline bool turniploom_is_register(uint16_t op) {
+    static const uint64_t forms[3] = {0xAA00000000000000ULL, 0xAAAAAAAAAAAAAAAAULL, 0x2AAAAAAAAAAAAAAAULL};
+    return op <= 190 && (forms[op / 64] >> (op % 64) & 1) != 0;
+}
+static inline bool turniploom_is_jump(uint16_t op) {
+    static const uint64_t jumps[3] = {0x0000000000000000ULL, 0x1000004500000000ULL, 0x5000000100000000ULL};
+    return op <= 190 && (jumps[op / 64] >> (op % 64) & 1) != 0;
+}
+
+/* Sets the marks of code as the Rust's tests have them: register by the opcode, wide on one of the four calls right before an ArgsR, and
+ * dunder where dunder_op, the host's own test, says so. */
+static inline void turniploom_mark(uint16_t *code, size_t code_len, bool (*dunder_op)(uint16_t op)) {
+    size_t k;
+    for (k = 0; k + 6 <= code_len; k += 6) {
+        uint16_t op = code[k];
+        bool call = op == TURNIPLOOM_CallGlobalR || op == TURNIPLOOM_CallR || op == TURNIPLOOM_CallMethodR || op == TURNIPLOOM_CallSpreadR;
+        bool wide = call && k + 12 <= code_len && code[k + 6] == TURNIPLOOM_ArgsR;
+        code[k + 1] = (uint16_t)((wide ? TURNIPLOOM_WIDE : 0) | (dunder_op(op) ? TURNIPLOOM_DUNDER : 0) |
+                                 (turniploom_is_register(op) ? TURNIPLOOM_IS_REGISTER : 0));
+    }
+}
+
+/* Sets the marks of a chunk: jump by the opcode, and that a LoadConst names a constant. What other opcodes name is for the host to add. */
+static inline void turniploom_mark_chunk(uint16_t *code, size_t code_len) {
+    size_t k;
+    for (k = 0; k + 3 <= code_len; k += 3)
+        code[k + 1] = turniploom_is_jump(code[k]) ? TURNIPLOOM_IS_JUMP : code[k] == TURNIPLOOM_LoadConst ? TURNIPLOOM_NAMES_CONSTANT : 0;
+}
 
 #ifdef __cplusplus
 }

@@ -1,8 +1,7 @@
 //! A refusal in words, with the rule that was broken and the line it stands on.
 
 use crate::notation::{Body, Chunk};
-use model::{code::is_call, facts::fact};
-use turniploom::{DUNDER, Ins, JUMP, NAMES, REGISTER, Refusal, WIDE, op};
+use turniploom::{DUNDER, Ins, JUMP, NAMES, Op, REGISTER, Refusal, WIDE, op};
 
 /// The refusal of a body in words.
 pub fn body(refusal: Refusal, body: &Body) -> String {
@@ -25,10 +24,11 @@ pub fn chunk(refusal: Refusal, chunk: &Chunk) -> String {
     match refusal {
         Refusal::Record { position } => {
             let [o, marks, _] = chunk.code[position as usize];
+            let o = Op(o);
             let rule = match marks {
-                _ if o > 190 => format!("no opcode has the number {o}"),
+                _ if o.0 > 190 => format!("no opcode has the number {}", o.0),
                 m if m & !(JUMP | NAMES) != 0 => format!("{m} has bits that are no mark"),
-                m if m & JUMP != 0 && (o == op::LoadConst || o == op::Phi || folds(o)) => "LoadConst, Phi and the folding operators are no jumps".into(),
+                m if m & JUMP != 0 && (o == op::LoadConst || o == op::Phi || o.folds()) => "LoadConst, Phi and the folding operators are no jumps".into(),
                 _ if o == op::LoadConst => "LoadConst names a constant, and lacks that mark".into(),
                 _ => "a jump, a Phi and a folding operator name no constant".into(),
             };
@@ -54,11 +54,11 @@ fn record(refusal: Refusal, position: usize, lines: &[usize], rule: String) -> S
 /// The record rule that the instruction at `k` breaks.
 fn broken(code: &[Ins], k: usize) -> String {
     let i = code[k];
-    let name = op::name(i.op).unwrap_or("this opcode");
+    let name = i.op;
     match i {
-        _ if i.op > 190 => format!("no opcode has the number {}", i.op),
+        _ if i.op.0 > 190 => format!("no opcode has the number {}", i.op.0),
         _ if i.marks & !(WIDE | DUNDER | REGISTER) != 0 => format!("{} has bits that are no mark", i.marks),
-        _ if i.marks & WIDE != 0 && !is_call(&i) => format!("{name} is none of the four calls that can be wide"),
+        _ if i.marks & WIDE != 0 && !i.op.is_call() => format!("{name} is none of the four calls that can be wide"),
         _ if i.x > 255 => format!("x is {}, more than 255", i.x),
         _ if i.op == op::PushRegs => format!("PushRegs pushes at most 3 registers, not {}", i.x),
         _ if i.op == op::UnpackR => "UnpackR unpacks into at least one register".into(),
@@ -67,6 +67,3 @@ fn broken(code: &[Ins], k: usize) -> String {
         _ => format!("b is {}, and {name} writes registers from b on past 65,535", i.b),
     }
 }
-
-/// Whether an opcode is a folding operator.
-pub fn folds(o: u16) -> bool { o <= 190 && fact(o).folding != 0 }

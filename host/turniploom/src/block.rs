@@ -1,16 +1,16 @@
 //! block.rs's own signatures, so that a host which has `mod block` swaps it for this one by changing imports.
 //!
 //! Each function panics on what document 01 refuses; the functions of the same name at the crate's root answer a `Result`.
-//! An instruction that is asked about by itself is asked about as part of a code that holds it.
+//! Code has its marks, as [`marked`](crate::marked) sets them. An instruction that is asked about by itself is asked about as part of a code that holds it.
 //!
 //! ```
-//! use turniploom::{Ins, block, op::*};
-//! let add = Ins::new(AddR, 3, 0, 2, 0);
+//! use turniploom::{Lowered, block, marked, op::*};
+//! let add = marked(&[Lowered::new(AddR, 3, 0, 2, 0)], |_| false)[0];
 //! assert_eq!(block::role(&add), Some((true, &[1, 2][..], false)));
-//! # let _ = add;
 //! ```
 
 use crate::{Ins, Refusal, op};
+use alloc::vec::Vec;
 
 #[track_caller]
 fn granted<T>(answer: Result<T, Refusal>) -> T { answer.unwrap_or_else(|refusal| panic!("turniploom: {refusal}")) }

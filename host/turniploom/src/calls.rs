@@ -2,6 +2,7 @@
 //! or of their words.
 
 use crate::{Code, Refusal, abi::{self, Answer}};
+use alloc::{vec, vec::Vec};
 
 fn truth(answer: Answer) -> Result<bool, Refusal> { Ok(answer.granted()?.first != 0) }
 
@@ -83,9 +84,9 @@ pub fn targets(ins: &(impl Code + ?Sized), tries: &[(usize, usize)]) -> Result<V
 /// The call of P1 in document 01, two instructions into code K:
 ///
 /// ```
-/// use turniploom::{Ins, global_of, op::*};
-/// let k = [Ins::new(LoadGlobalR, 0, 7, 0, 0), Ins::new(LoadGlobalR, 1, 9, 0, 0), Ins::new(CallR, 1, 0, 0, 0)];
-/// assert_eq!(global_of(&k, 2), Ok(Some(9)));
+/// use turniploom::{Lowered, global_of, marked, op::*};
+/// let k = [Lowered::new(LoadGlobalR, 0, 7, 0, 0), Lowered::new(LoadGlobalR, 1, 9, 0, 0), Lowered::new(CallR, 1, 0, 0, 0)];
+/// assert_eq!(global_of(&marked(&k, |_| false), 2), Ok(Some(9)));
 /// ```
 pub fn global_of(ins: &(impl Code + ?Sized), j: usize) -> Result<Option<u16>, Refusal> {
     let found = abi::global_of(ins.words(), j).granted()?;
@@ -131,15 +132,15 @@ impl Kept {
 /// The loop of P5 in document 01, whose first sweep is abandoned:
 ///
 /// ```
-/// use turniploom::{Ins, kept, op::*};
+/// use turniploom::{Lowered, kept, marked, op::*};
 /// let p5 = [
-///     Ins::new(Move, 1, 0, 0, 0),
-///     Ins::new(LenR, 2, 1, 0, 0),
-///     Ins::new(JumpIfFalseR, 4, 1, 0, 0),
-///     Ins::new(Jump, 0, 0, 0, 0),
-///     Ins::new(ReturnR, 0, 2, 0, 0),
+///     Lowered::new(Move, 1, 0, 0, 0),
+///     Lowered::new(LenR, 2, 1, 0, 0),
+///     Lowered::new(JumpIfFalseR, 4, 1, 0, 0),
+///     Lowered::new(Jump, 0, 0, 0, 0),
+///     Lowered::new(ReturnR, 0, 2, 0, 0),
 /// ];
-/// let found = kept(&p5, 3, &[], false)?;
+/// let found = kept(&marked(&p5, |_| false), 3, &[], false)?;
 /// assert_eq!((&found.rows[..], found.full, found.abandoned), (&[1, 3, 7, 1, 4, 0][..], 3, 1));
 /// assert_eq!(found.at(2), [0, 1, 2]);
 /// # Ok::<(), turniploom::Refusal>(())
@@ -165,15 +166,16 @@ pub fn kept(ins: &(impl Code + ?Sized), regs: usize, tries: &[(usize, usize)], w
 /// Code K of document 01 (P1, P2): the call at 2 keeps register 0, and with a try around it what the handler reads as well.
 ///
 /// ```
-/// use turniploom::{Ins, Refusal, live_across, op::*};
+/// use turniploom::{Lowered, Refusal, live_across, marked, op::*};
 /// let k = [
-///     Ins::new(LoadGlobalR, 0, 7, 0, 0),
-///     Ins::new(LoadGlobalR, 1, 9, 0, 0),
-///     Ins::new(CallR, 1, 0, 0, 0),
-///     Ins::new(StoreTopR, 2, 0, 0, 0),
-///     Ins::new(AddR, 3, 0, 2, 0),
-///     Ins::new(ReturnR, 0, 3, 0, 0),
+///     Lowered::new(LoadGlobalR, 0, 7, 0, 0),
+///     Lowered::new(LoadGlobalR, 1, 9, 0, 0),
+///     Lowered::new(CallR, 1, 0, 0, 0),
+///     Lowered::new(StoreTopR, 2, 0, 0, 0),
+///     Lowered::new(AddR, 3, 0, 2, 0),
+///     Lowered::new(ReturnR, 0, 3, 0, 0),
 /// ];
+/// let k = marked(&k, |_| false);
 /// assert_eq!(live_across(&k, 4, &[])?[2], [0]);
 /// assert_eq!(live_across(&k, 4, &[(1, 5)])?[2], [0, 3]);
 /// assert_eq!(live_across(&k, 4, &[(3, 2)]), Err(Refusal::Try { index: 0 }));

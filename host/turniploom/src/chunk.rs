@@ -1,14 +1,31 @@
 //! The call of optimizer.rs over a plain chunk, as near the Rust's as a refusal allows, and the clearing of its constants.
 
-/// An instruction of a chunk: three words.
-#[derive(Clone, Copy, Debug, Default, PartialEq, Eq)]
+use crate::{Op, op::LoadConst};
+use alloc::{vec, vec::Vec};
+
+/// An instruction of a chunk with its marks: three words.
+#[derive(Clone, Copy, Debug, Default, PartialEq, Eq, Hash)]
 pub struct Instruction {
-    /// The opcode's number, one of [`crate::op`] or 0 for any other.
-    pub opcode: u16,
+    /// The opcode.
+    pub opcode: Op,
     /// The mark [`JUMP`] or [`NAMES`], or 0. A LoadConst gets the second of itself.
     pub marks: u16,
     /// The operand.
     pub operand: u16,
+}
+
+impl Instruction {
+    /// An instruction marked by its opcode: a jump's operand is a position, and a LoadConst's names a constant.
+    pub const fn new(opcode: Op, operand: u16) -> Instruction {
+        let marks = if opcode.is_jump() { JUMP } else if opcode.0 == LoadConst.0 { NAMES } else { 0 };
+        Instruction { opcode, marks, operand }
+    }
+
+    /// An instruction whose operand names a constant, as the host knows of an opcode that is no LoadConst.
+    pub const fn naming(opcode: Op, operand: u16) -> Instruction { Instruction { opcode, marks: NAMES, operand } }
+
+    /// An instruction that has no mark. A jump without its mark keeps its old target when the code shrinks.
+    pub const fn unmarked(opcode: Op, operand: u16) -> Instruction { Instruction { opcode, marks: 0, operand } }
 }
 
 /// The mark of a chunk's instruction whose operand is a position.
@@ -53,14 +70,9 @@ pub struct Chunk {
 /// P13 of document 01: 2 + 3 folds, and the jump follows; in strict mode the jump keeps it from folding.
 ///
 /// ```
-/// use turniploom::{Chunk, Constant::Int, Instruction, JUMP, NAMES, constant_fold, op::*};
+/// use turniploom::{Chunk, Constant::Int, Instruction, constant_fold, op::*};
 /// let p13 = Chunk {
-///     instructions: vec![
-///         Instruction { opcode: LoadConst, marks: NAMES, operand: 0 },
-///         Instruction { opcode: LoadConst, marks: NAMES, operand: 1 },
-///         Instruction { opcode: Add, marks: 0, operand: 0 },
-///         Instruction { opcode: Jump, marks: JUMP, operand: 2 },
-///     ],
+///     instructions: vec![Instruction::new(LoadConst, 0), Instruction::new(LoadConst, 1), Instruction::new(Add, 0), Instruction::new(Jump, 2)],
 ///     constants: vec![Int(2), Int(3)],
 ///     ..Chunk::default()
 /// };
@@ -71,10 +83,7 @@ pub struct Chunk {
 /// let mut plain = p13;
 /// constant_fold(&mut plain, false)?;
 /// assert_eq!(plain.constants, [Int(2), Int(3), Int(5)]);
-/// assert_eq!(plain.instructions, [
-///     Instruction { opcode: LoadConst, marks: NAMES, operand: 2 },
-///     Instruction { opcode: Jump, marks: JUMP, operand: 1 },
-/// ]);
+/// assert_eq!(plain.instructions, [Instruction::new(LoadConst, 2), Instruction::new(Jump, 1)]);
 /// # Ok::<(), turniploom::Refusal>(())
 /// ```
 pub fn constant_fold(chunk: &mut Chunk, strict: bool) -> Result<(), crate::Refusal> {
@@ -114,12 +123,9 @@ pub fn constant_fold(chunk: &mut Chunk, strict: bool) -> Result<(), crate::Refus
 /// After the fold of P13 of document 01 the sum alone is loaded, so it alone is left.
 ///
 /// ```
-/// use turniploom::{Chunk, Constant::Int, Instruction, JUMP, NAMES, op::*};
+/// use turniploom::{Chunk, Constant::Int, Instruction, op::*};
 /// let mut folded = Chunk {
-///     instructions: vec![
-///         Instruction { opcode: LoadConst, marks: NAMES, operand: 2 },
-///         Instruction { opcode: Jump, marks: JUMP, operand: 1 },
-///     ],
+///     instructions: vec![Instruction::new(LoadConst, 2), Instruction::new(Jump, 1)],
 ///     constants: vec![Int(2), Int(3), Int(5)],
 ///     ..Chunk::default()
 /// };
@@ -144,13 +150,13 @@ pub fn clear(chunk: &mut Chunk) -> Result<(), crate::Refusal> {
 
 /// The lent words of a chunk. A LoadConst names a constant, whether it is marked so or not.
 fn words_of(chunk: &Chunk) -> Vec<u16> {
-    let marks = |i: &Instruction| if i.opcode == crate::op::LoadConst { i.marks | NAMES } else { i.marks };
-    chunk.instructions.iter().flat_map(|i| [i.opcode, marks(i), i.operand]).collect()
+    let marks = |i: &Instruction| if i.opcode == LoadConst { i.marks | NAMES } else { i.marks };
+    chunk.instructions.iter().flat_map(|i| [i.opcode.0, marks(i), i.operand]).collect()
 }
 
 /// The first `n` instructions of lent words.
 fn instructions(code: &[u16], n: usize) -> Vec<Instruction> {
-    code.chunks(3).take(n).map(|w| Instruction { opcode: w[0], marks: w[1], operand: w[2] }).collect()
+    code.chunks(3).take(n).map(|w| Instruction { opcode: Op(w[0]), marks: w[1], operand: w[2] }).collect()
 }
 
 fn stored(constant: Constant) -> (u8, u64) {

@@ -1,7 +1,7 @@
 //! The refusals, one for each number of document 01.
 
 use crate::abi::Answer;
-use std::{error::Error, fmt};
+use core::{error::Error, fmt};
 
 /// Why a call gave no answer. Every lent buffer is then as it was, but for the rows of a kept-register call whose list is
 /// too short.

@@ -126,10 +126,10 @@ fn printed(folder: &Folder, lib: Option<&str>) -> String {
 }
 
 const KEEP: &str = "
-use turniploom::{Ins, op::*};
+use turniploom::{Lowered, marked, op::*};
 fn main() {
-    let code = [Ins::new(CallGlobalR, 3, 0, 0, 0), Ins::new(StoreTopR, 1, 0, 0, 0), Ins::new(AddR, 2, 0, 1, 0), Ins::new(ReturnR, 0, 2, 0, 0)];
-    println!(\"{:?}\", turniploom::live_across(&code, 3, &[]).unwrap()[0]);
+    let code = [Lowered::new(CallGlobalR, 3, 0, 0, 0), Lowered::new(StoreTopR, 1, 0, 0, 0), Lowered::new(AddR, 2, 0, 1, 0), Lowered::new(ReturnR, 0, 2, 0, 0)];
+    println!(\"{:?}\", turniploom::live_across(&marked(&code, |_| false), 3, &[]).unwrap()[0]);
 }";
 
 /// By its path in the repository, with an archive that is reached through a link of another name.

@@ -1,10 +1,10 @@
 //! A chunk through the safe crate: folded, cleared, and folded again.
 
-use turniploom::{Chunk, Constant::*, Instruction, JUMP, NAMES, Refusal, clear, constant_fold, op::*};
+use turniploom::{Chunk, Constant::*, Instruction, JUMP, NAMES, Op, Refusal, clear, constant_fold, op::*};
 
-fn i(opcode: u16, operand: u16) -> Instruction { Instruction { opcode, marks: 0, operand } }
+fn i(opcode: Op, operand: u16) -> Instruction { Instruction::unmarked(opcode, operand) }
 
-fn load(operand: u16) -> Instruction { Instruction { opcode: LoadConst, marks: NAMES, operand } }
+fn load(operand: u16) -> Instruction { Instruction::new(LoadConst, operand) }
 
 /// -((2 + 3) * 2), and a jump to its end.
 fn chain() -> Chunk {

@@ -13,7 +13,33 @@ static const uint16_t K[] = {
 };
 enum { WORDS = sizeof K / sizeof K[0] };
 
+static bool no_dunder(uint16_t op) { (void)op; return false; }
+static bool get_item(uint16_t op) { return op == TURNIPLOOM_GetItemR; }
+
+/* A wide call, whose mark decides what is kept, and the marks of every opcode. */
+static void marks(void) {
+    uint16_t code[] = {TURNIPLOOM_CallR, 0, 5, 0, 1, 5, TURNIPLOOM_ArgsR, 0, 9, 4, 5, 0, TURNIPLOOM_StoreTopR, 0, 6, 0, 0, 0,
+                       TURNIPLOOM_AddR, 0, 7, 6, 9, 0,  TURNIPLOOM_ReturnR, 0, 0, 7, 0, 0};
+    static const uint32_t no_tries[1] = {0};
+    uint64_t rows[6];
+    uint32_t offsets[6];
+    uint16_t list[4], op, one[6] = {0}, chunk[3] = {0};
+    turniploom_answer kept = turniploom_kept(code, 30, 10, no_tries, 0, false, rows, 6, offsets, 6, list, 4);
+    SHOW(kept.first == 2 && list[0] == 4 && list[1] == 5);
+    turniploom_mark(code, 30, no_dunder);
+    SHOW(code[1] == (TURNIPLOOM_WIDE | TURNIPLOOM_IS_REGISTER));
+    kept = turniploom_kept(code, 30, 10, no_tries, 0, false, rows, 6, offsets, 6, list, 4);
+    SHOW(kept.first == 1 && list[0] == 9);
+    for (op = 0; op <= 191; op++) {
+        one[0] = chunk[0] = op;
+        turniploom_mark(one, 6, get_item);
+        turniploom_mark_chunk(chunk, 3);
+        printf("%d %d %d\n", op, one[1], chunk[1]);
+    }
+}
+
 int main(void) {
+    marks();
     SHOW(turniploom_kinds(K, WORDS, 4).first == 13);
     turniploom_answer refused = turniploom_kinds(K, WORDS - 1, 4);
     SHOW(refused.refusal == TURNIPLOOM_CODE && refused.first == WORDS - 1 && refused.second == 0);

@@ -208,14 +208,27 @@ fn pool(pair: &[(u8, u64)], code: Vec<[u16; 3]>) -> Chunk {
     Chunk { code, kinds: pair.iter().map(|p| p.0).collect(), words: pair.iter().map(|p| p.1).collect(), ..Chunk::default() }
 }
 
-/// Every operator over every pair of constants.
-pub fn pairs(rng: &mut Rng, constants: &[(u8, u64)], take: &mut dyn FnMut(Question)) {
-    for &a in constants {
-        for o in [Not, Minus] { take(lent(rng, pool(&[a], vec![[LoadConst.0, NAMES, 0], [o.0, 0, 0]]))) }
-        for &b in constants {
-            for o in BINARY { take(lent(rng, pool(&[a, b], vec![[LoadConst.0, NAMES, 0], [LoadConst.0, NAMES, 1], [o.0, 0, 0]]))) }
-        }
+/// Every operator over `a` and each of the constants after it.
+fn pairs(a: (u8, u64), constants: &[(u8, u64)], take: &mut dyn FnMut(Chunk)) {
+    for o in [Not, Minus] { take(pool(&[a], vec![[LoadConst.0, NAMES, 0], [o.0, 0, 0]])) }
+    for &b in constants {
+        for o in BINARY { take(pool(&[a, b], vec![[LoadConst.0, NAMES, 0], [LoadConst.0, NAMES, 1], [o.0, 0, 0]])) }
     }
+}
+
+/// The same as questions that the Rust answers, every one: plain mode, and each buffer as long as it needs to be.
+pub fn plain_pairs(a: (u8, u64), constants: &[(u8, u64)], take: &mut dyn FnMut(Question)) {
+    pairs(a, constants, &mut |mut c| {
+        let (n, count) = (c.code.len(), c.kinds.len() as u64);
+        c.kinds.push(0);
+        c.words.push(0);
+        let none = || Arg::U32(vec![]);
+        let args = vec![
+            Arg::U16(c.code.into_flattened()), Arg::U8(c.kinds), Arg::U64(c.words), Arg::N(count), Arg::U32(vec![0; n]), Arg::N(0), Arg::U16(vec![]), Arg::N(0),
+            none(), Arg::N(0), none(), Arg::N(0), Arg::U8(vec![9; n]), Arg::U32(vec![9; n + 1]), Arg::N(0),
+        ];
+        take(Question { call: Fold, args })
+    });
 }
 
 /// Every opcode with every mark that it may or may not have.
@@ -246,7 +259,7 @@ pub fn systematic(rng: &mut Rng, take: &mut dyn FnMut(Question)) {
     every_mark(rng, lent, take);
     let mut constants: Vec<(u8, u64)> = INTS.iter().map(|&i| (1, i as u64)).chain(FLOATS.iter().map(|f| (2, f.to_bits()))).collect();
     constants.extend([(3, 0), (3, 1), (0, 5), (2, 0xFFF8_0000_0000_0000), (2, 0x7FF0_0000_0000_0001)]);
-    pairs(rng, &constants, take);
+    for &a in &constants { pairs(a, &constants, &mut |c| take(lent(rng, c))) }
     for n in [65_535, 65_536] {
         let code = (0..n).map(|k| match k % 8 { 0 | 1 => [LoadConst.0, NAMES, 0], 2 => [Add.0, 0, 0], 3 => [Jump.0, JUMP, (k % 65_536) as u16], _ => [PopTop.0, 0, 0] }).collect();
         take(lent(rng, pool(&[(1, 1)], code)));

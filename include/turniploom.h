@@ -11,6 +11,29 @@
 #include <stddef.h>
 #include <stdint.h>
 
+/* The version of the calls that this header declares. */
+#define TURNIPLOOM_VERSION_MAJOR 0
+#define TURNIPLOOM_VERSION_MINOR 1
+#define TURNIPLOOM_VERSION_PATCH 0
+#define TURNIPLOOM_VERSION "0.1.0"
+
+/* The words of an instruction, of code and of a chunk, and the limits of what is lent. */
+#define TURNIPLOOM_CODE_WORDS 6
+#define TURNIPLOOM_CHUNK_WORDS 3
+#define TURNIPLOOM_MOST_INSTRUCTIONS 65535
+#define TURNIPLOOM_MOST_REGISTERS 1024
+#define TURNIPLOOM_MOST_CONSTANTS 65536
+
+/* Lengths that are always enough, for n instructions: seen, todo, out, offsets and remap; rows; a list, whose needed length a refusal
+ * also tells; kinds and words of a fold; its phi_map and dead marks; its phi_sources, of which `words` are in use. */
+#define TURNIPLOOM_ENDS_LEN(n) ((size_t)(n) + 1)
+#define TURNIPLOOM_ROW_WORDS(regs) ((size_t)(regs) <= 64 ? (size_t)1 : ((size_t)(regs) + 63) / 64)
+#define TURNIPLOOM_ROWS_LEN(n, regs) (((size_t)(n) + 1) * TURNIPLOOM_ROW_WORDS(regs))
+#define TURNIPLOOM_LIST_LEN(n, regs) ((size_t)(n) * (size_t)(regs))
+#define TURNIPLOOM_CONSTANTS_LEN(n, count) ((size_t)(n) + (size_t)(count))
+#define TURNIPLOOM_MARKS_LEN(n) ((size_t)(n))
+#define TURNIPLOOM_PHI_SOURCES_LEN(n, words) (2 * (size_t)(n) > (size_t)(words) ? 2 * (size_t)(n) : (size_t)(words))
+
 #ifdef __cplusplus
 extern "C" {
 #endif
@@ -117,7 +140,7 @@ turniploom_answer turniploom_pushed_back(const uint16_t *code, size_t code_len, 
 turniploom_answer turniploom_stack_callee(const uint16_t *code, size_t code_len, size_t at, uint16_t count);
 
 /* The registers kept at each level. rows is (n + 1) times the words of a row long, offsets n + 1. A list too short is refused with the
- * length it needs, and the rows are then found. The list of position k is list[offsets[k]] up to list[offsets[k + 1]].
+ * length it needs, and the rows are then found. The list of position k begins at entry k of offsets and ends at the next.
  * first: the length of the list; second: full sweeps; third: abandoned sweeps. */
 turniploom_answer turniploom_kept(const uint16_t *code, size_t code_len, size_t regs, const uint32_t *tries, size_t tries_len, bool wide,
                                   uint64_t *rows, size_t rows_len, uint32_t *offsets, size_t offsets_len, uint16_t *list, size_t list_len);
@@ -185,6 +208,21 @@ enum turniploom_opcode {
     TURNIPLOOM_SuperR = 181, TURNIPLOOM_WrapCellR = 183, TURNIPLOOM_CallValueR = 185, TURNIPLOOM_CallSpreadR = 187,
     TURNIPLOOM_ListPushR = 189
 };
+
+/* What a refusal says, whatever was lent. */
+static inline const char *turniploom_refusal_text(uint8_t refusal) {
+    switch (refusal) {
+    case 0: return "no refusal";
+    case TURNIPLOOM_CODE: return "the code is no whole number of instructions, or has more than 65,535";
+    case TURNIPLOOM_RECORD: return "an instruction breaks a record rule";
+    case TURNIPLOOM_REGISTERS: return "there are more than 1,024 registers";
+    case TURNIPLOOM_TRY: return "a try breaks its rule";
+    case TURNIPLOOM_BUFFER: return "a lent buffer is too short";
+    case TURNIPLOOM_POSITION: return "the position is not one to ask about";
+    case TURNIPLOOM_TABLE: return "a table of the chunk breaks its rule";
+    default: return "a refusal that this header does not know";
+    }
+}
 
 /* Whether an opcode is a register form, and whether it is a jump: the Rust's `is_register` and `is_jump`. */
 static inline bool turniploom_is_register(uint16_t op) {

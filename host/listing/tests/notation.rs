@@ -87,5 +87,5 @@ fn refusals_in_words() {
     for bad in ["Jump 0", "Phi 0", "Add"] {
         assert_eq!(refused(&format!("chunk\n{bad} names")), "line 2: refused (2): the instruction at 0 breaks a record rule: a jump, a Phi and a folding operator name no constant");
     }
-    assert_eq!(refused("chunk\nstmt_pos 1"), "refused (7): table 4 of the chunk breaks its rule: stmt_pos: its numbers come in pairs");
+    assert_eq!(refused("chunk\nstmt_pos 1"), "refused (7): table 4 of the chunk breaks its rule: the numbers of stmt_pos come in pairs");
 }

@@ -20,7 +20,7 @@ pub fn wide(i: &Ins) -> bool { i.marks & WIDE != 0 }
 
 /// Refusals 1 and 2.
 pub fn code(words: &[u16]) -> Checked<Vec<Ins>> {
-    holds(words.len() % 6 == 0 && words.len() / 6 <= 65_535, No(1, words.len() as u64, 0))?;
+    holds(words.len().is_multiple_of(6) && words.len() / 6 <= 65_535, No(1, words.len() as u64, 0))?;
     let code: Vec<Ins> = words.chunks(6).map(|w| Ins { op: Op(w[0]), marks: w[1], a: w[2], b: w[3], c: w[4], x: w[5] }).collect();
     let bad = (0..code.len()).find(|&k| !record(&code, k));
     holds(bad.is_none(), No(2, bad.unwrap_or(0) as u64, 0))?;
@@ -81,7 +81,7 @@ impl Instruction {
 
 /// Refusals 1 and 2 of a chunk.
 pub fn chunk(words: &[u16]) -> Checked<Vec<Instruction>> {
-    holds(words.len() % 3 == 0 && words.len() / 3 <= 65_535, No(1, words.len() as u64, 0))?;
+    holds(words.len().is_multiple_of(3) && words.len() / 3 <= 65_535, No(1, words.len() as u64, 0))?;
     let bad = words.chunks(3).position(|w| Op(w[0]) > LAST || w[1] & !(JUMP | NAMES) != 0 || !marked(&instruction(w)));
     holds(bad.is_none(), No(2, bad.unwrap_or(0) as u64, 0))?;
     Ok(words.chunks(3).map(instruction).collect())

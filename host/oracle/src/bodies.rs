@@ -270,7 +270,7 @@ impl Body<'_> {
 
     /// Sets the marks: mostly as the Rust's own tests would have them.
     fn mark(&mut self) {
-        let dunder = [self.rng.next() & self.rng.next(), self.rng.next() & self.rng.next(), self.rng.next() & self.rng.next()];
+        let dunder = [self.rng.word() & self.rng.word(), self.rng.word() & self.rng.word(), self.rng.word() & self.rng.word()];
         let (some, honest) = (self.rng.once_in(2), !self.rng.once_in(10));
         for i in &mut self.code {
             if i.op.0 > 190 { continue }

@@ -14,11 +14,11 @@ const FLOATS: [f64; 18] = [
 
 fn constant(rng: &mut Rng) -> (u8, u64) {
     match rng.below(20) {
-        0 => (0, rng.next()),
+        0 => (0, rng.word()),
         1 => (3, rng.below(2) as u64),
         2..12 => (1, rng.pick(&INTS) as u64),
-        12 => (1, (rng.next() as i64 >> 17) as u64),
-        13 => (2, rng.next()),
+        12 => (1, (rng.word() as i64 >> 17) as u64),
+        13 => (2, rng.word()),
         14 => (2, rng.pick(&[0xFFF8_0000_0000_0000, 0x7FF8_0000_0000_0001, 0xFFF0_0000_0000_0001, 0x7FF0_0000_0000_0001])),
         _ => (2, rng.pick(&FLOATS).to_bits()),
     }
@@ -41,7 +41,7 @@ pub fn random(rng: &mut Rng) -> Question {
     let full = rng.once_in(4_000);
     let count = if full { 65_534 + rng.below(3) } else { rng.pick(&[0, 1, 2, 3, 4, 6, 9]) };
     for _ in 0..count {
-        let (k, w) = if full { (1, rng.next() % 97 + 1_000) } else { constant(rng) };
+        let (k, w) = if full { (1, rng.word() % 97 + 1_000) } else { constant(rng) };
         c.kinds.push(k);
         c.words.push(w);
     }
@@ -106,7 +106,7 @@ fn tables(rng: &mut Rng, c: &mut Chunk) {
         c.phi_sources.extend([a, if rng.once_in(2) { a } else { rng.below(3) as u16 }]);
     }
     if !rng.once_in(4) { c.phi_map = (0..n).map(|_| if rng.once_in(12) { rng.pick(&[4, 5, u32::MAX]) } else { rng.below(pairs + 1) as u32 }).collect() }
-    for _ in 0..rng.below(4) { c.stmt_pos.extend([rng.below(n + 3) as u32, rng.next() as u32]) }
+    for _ in 0..rng.below(4) { c.stmt_pos.extend([rng.below(n + 3) as u32, rng.word() as u32]) }
     for _ in 0..rng.below(3) { c.call_byte_pos.extend([if rng.once_in(8) { u32::MAX } else { rng.below(n + 2) as u32 }, 7]) }
 }
 

@@ -11,7 +11,7 @@ fn question(rng: &mut Rng, call: Call) -> Question {
     for _ in 0..rng.below(4) {
         let k = rng.below(q.args.len());
         let extreme = rng.pick(&[0, 1, 255, 256, 1_024, 1_025, 65_535, 65_536, u64::from(u32::MAX), u64::MAX, u64::MAX / 2 + 1]);
-        let number = rng.next();
+        let number = rng.word();
         match &mut q.args[k] {
             Arg::N(v) if call.params()[k].kind == Kind::Bool => *v ^= 1,
             Arg::N(v) => *v = extreme,

@@ -101,7 +101,7 @@ pub fn lend<T: Copy + TryFrom<u64>>(rng: &mut Rng, needed: usize) -> Vec<T> {
 fn junk<T: Copy + TryFrom<u64>>(rng: &mut Rng, length: usize) -> Vec<T> {
     let full = rng.once_in(8);
     let bits = if full { 8 * size_of::<T>() } else { 8 };
-    (0..length).map(|_| T::try_from(rng.next() >> (64 - bits)).ok().expect("a word of its width")).collect()
+    (0..length).map(|_| T::try_from(rng.word() >> (64 - bits)).ok().expect("a word of its width")).collect()
 }
 
 /// Tries, mostly good.

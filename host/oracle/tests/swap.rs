@@ -36,7 +36,7 @@ fn the_same_plans() {
     for _ in 0..5_000 {
         let regs = rng.pick(&[3, 8, 64]);
         let body = lowered(&bodies::body(&mut rng, Kept, regs));
-        let set = [0; 4].map(|_: u64| rng.next() & rng.next());
+        let set = [0; 4].map(|_: u64| rng.word() & rng.word());
         let dunder_op = |o: OpCode| set[o as usize / 64] >> (o as usize % 64) & 1 != 0;
         set_dunder_ops(set);
         let own: Vec<Own> = body.iter().map(|&i| Own(i)).collect();

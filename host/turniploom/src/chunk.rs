@@ -1,10 +1,11 @@
 //! The call of optimizer.rs over a plain chunk, as near the Rust's as a refusal allows, and the clearing of its constants.
 
-use crate::{Op, op::LoadConst};
+use crate::{Op, Refusal, op::LoadConst};
 use alloc::{vec, vec::Vec};
 
 /// An instruction of a chunk with its marks: three words.
 #[derive(Clone, Copy, Debug, Default, PartialEq, Eq, Hash)]
+#[non_exhaustive]
 pub struct Instruction {
     /// The opcode.
     pub opcode: Op,
@@ -26,6 +27,9 @@ impl Instruction {
 
     /// An instruction that has no mark. A jump without its mark keeps its old target when the code shrinks.
     pub const fn unmarked(opcode: Op, operand: u16) -> Instruction { Instruction { opcode, marks: 0, operand } }
+
+    /// The same instruction with more marks.
+    pub const fn with(self, marks: u16) -> Instruction { Instruction { marks: self.marks | marks, ..self } }
 }
 
 /// The mark of a chunk's instruction whose operand is a position.
@@ -49,6 +53,7 @@ pub enum Constant {
 
 /// A chunk with its tables.
 #[derive(Clone, Debug, Default, PartialEq)]
+#[non_exhaustive]
 pub struct Chunk {
     /// The instructions.
     pub instructions: Vec<Instruction>,
@@ -64,6 +69,11 @@ pub struct Chunk {
     pub call_byte_pos: Vec<(u32, u32)>,
 }
 
+impl Chunk {
+    /// A chunk of instructions and constants, with no other table.
+    pub fn new(instructions: Vec<Instruction>, constants: Vec<Constant>) -> Chunk { Chunk { instructions, constants, ..Chunk::default() } }
+}
+
 /// Folds the constants of a chunk, drops the Phis that do nothing, and moves all that names a position. In strict mode
 /// nothing folds that some jump lands in. A refused chunk is as it was.
 ///
@@ -71,11 +81,8 @@ pub struct Chunk {
 ///
 /// ```
 /// use turniploom::{Chunk, Constant::Int, Instruction, constant_fold, op::*};
-/// let p13 = Chunk {
-///     instructions: vec![Instruction::new(LoadConst, 0), Instruction::new(LoadConst, 1), Instruction::new(Add, 0), Instruction::new(Jump, 2)],
-///     constants: vec![Int(2), Int(3)],
-///     ..Chunk::default()
-/// };
+/// let code = [(LoadConst, 0), (LoadConst, 1), (Add, 0), (Jump, 2)];
+/// let p13 = Chunk::new(code.map(|(op, operand)| Instruction::new(op, operand)).into(), vec![Int(2), Int(3)]);
 /// let mut strict = p13.clone();
 /// constant_fold(&mut strict, true)?;
 /// assert_eq!(strict, p13);
@@ -86,7 +93,11 @@ pub struct Chunk {
 /// assert_eq!(plain.instructions, [Instruction::new(LoadConst, 2), Instruction::new(Jump, 1)]);
 /// # Ok::<(), turniploom::Refusal>(())
 /// ```
-pub fn constant_fold(chunk: &mut Chunk, strict: bool) -> Result<(), crate::Refusal> {
+///
+/// # Errors
+///
+/// [`Refusal::Code`] or [`Refusal::Record`] for a bad instruction, [`Refusal::Table`] for a bad table.
+pub fn constant_fold(chunk: &mut Chunk, strict: bool) -> Result<(), Refusal> {
     let n = chunk.instructions.len();
     let count = chunk.constants.len();
     let mut code = words_of(chunk);
@@ -124,17 +135,17 @@ pub fn constant_fold(chunk: &mut Chunk, strict: bool) -> Result<(), crate::Refus
 ///
 /// ```
 /// use turniploom::{Chunk, Constant::Int, Instruction, op::*};
-/// let mut folded = Chunk {
-///     instructions: vec![Instruction::new(LoadConst, 2), Instruction::new(Jump, 1)],
-///     constants: vec![Int(2), Int(3), Int(5)],
-///     ..Chunk::default()
-/// };
+/// let mut folded = Chunk::new(vec![Instruction::new(LoadConst, 2), Instruction::new(Jump, 1)], vec![Int(2), Int(3), Int(5)]);
 /// turniploom::clear(&mut folded)?;
 /// assert_eq!(folded.constants, [Int(5)]);
 /// assert_eq!(folded.instructions[0].operand, 0);
 /// # Ok::<(), turniploom::Refusal>(())
 /// ```
-pub fn clear(chunk: &mut Chunk) -> Result<(), crate::Refusal> {
+///
+/// # Errors
+///
+/// [`Refusal::Code`] or [`Refusal::Record`] for a bad instruction, [`Refusal::Table`] for too many constants.
+pub fn clear(chunk: &mut Chunk) -> Result<(), Refusal> {
     let count = chunk.constants.len();
     let mut code = words_of(chunk);
     let (mut kinds, mut words): (Vec<u8>, Vec<u64>) = chunk.constants.iter().map(|&c| stored(c)).unzip();

@@ -87,7 +87,7 @@ pub fn marked<I: Clone + Into<Lowered>>(code: &[I], dunder_op: impl Fn(&I) -> bo
     let marks = |k: usize| {
         let Lowered { op, .. } = plain[k];
         let wide = op.is_call() && args_follow(k);
-        u16::from(wide) * WIDE | u16::from(dunder_op(&code[k])) * DUNDER | u16::from(op.is_register()) * REGISTER
+        u16::from(wide) * WIDE + u16::from(dunder_op(&code[k])) * DUNDER + u16::from(op.is_register()) * REGISTER
     };
     plain.iter().enumerate().map(|(k, &Lowered { op, a, b, c, x })| Ins { op, marks: marks(k), a, b, c, x: x.into() }).collect()
 }

@@ -11,7 +11,7 @@
 //! Answers hang on the marks of the code that is lent: [`marked`] sets them as the Rust's own tests do, from the code and the host's
 //! `dunder_op`. Code that has none takes [`Ins::unmarked`].
 #![no_std]
-#![deny(missing_docs)]
+#![deny(missing_docs, clippy::missing_errors_doc, clippy::missing_panics_doc)]
 
 extern crate alloc;
 

@@ -125,21 +125,14 @@ fn printed(folder: &Folder, lib: Option<&str>) -> String {
     String::from_utf8(out.stdout).unwrap()
 }
 
-const KEEP: &str = "
-use turniploom::{Lowered, marked, op::*};
-fn main() {
-    let code = [Lowered::new(CallGlobalR, 3, 0, 0, 0), Lowered::new(StoreTopR, 1, 0, 0, 0), Lowered::new(AddR, 2, 0, 1, 0), Lowered::new(ReturnR, 0, 2, 0, 0)];
-    println!(\"{:?}\", turniploom::live_across(&marked(&code, |_| false), 3, &[]).unwrap()[0]);
-}";
-
 /// By its path in the repository, with an archive that is reached through a link of another name.
 #[test]
 fn a_host_outside_the_workspace_by_path() {
     let folder = folder("by-path");
     let link = folder.join("calls-of-today.a");
     std::os::unix::fs::symlink(ARCHIVE, &link).unwrap();
-    host(&folder, "by-path", here(), KEEP);
-    assert_eq!(printed(&folder, link.to_str()), "[0]\n");
+    host(&folder, "by-path", here(), include_str!("../examples/keep.rs"));
+    assert_eq!(printed(&folder, link.to_str()), include_str!("examples/keep.txt"));
 }
 
 /// By a copy that holds its own archive, with nothing of this repository at hand.
@@ -148,6 +141,6 @@ fn a_host_with_a_copy_of_the_crate() {
     let folder = folder("by-copy");
     copied(&folder.join("vendor/turniploom"));
     fs::copy(ARCHIVE, folder.join("vendor/turniploom/libturniploom.a")).unwrap();
-    host(&folder, "by-copy", Path::new("vendor/turniploom"), KEEP);
-    assert_eq!(printed(&folder, None), "[0]\n");
+    host(&folder, "by-copy", Path::new("vendor/turniploom"), include_str!("../examples/fold.rs"));
+    assert_eq!(printed(&folder, None), include_str!("examples/fold.txt"));
 }

@@ -66,11 +66,10 @@ fn lent(code: Vec<[u16; 3]>, pool: &[i64]) -> Question {
     kinds.resize(pool.len() + n, 0);
     words.resize(pool.len() + n, 0);
     let stmts: Vec<u32> = (0..n as u32).step_by(8).flat_map(|k| [k, k]).collect();
-    let (none, count) = (Arg::N(0), stmts.len() as u64);
-    let args = vec![
-        Arg::U16(code.as_flattened().to_vec()), Arg::U8(kinds), Arg::U64(words), Arg::N(pool.len() as u64), Arg::U32(vec![0; n]), none.clone(),
-        Arg::U16(vec![0; 2 * n]), none.clone(), Arg::U32(stmts), Arg::N(count), Arg::U32(vec![]), none.clone(), Arg::U8(vec![0; n]),
-        Arg::U32(vec![0; n + 1]), none,
-    ];
-    Question { call: Fold, args }
+    let count = stmts.len() as u64;
+    Question::of(Fold, [
+        ("code", Arg::U16(code.as_flattened().to_vec())), ("kinds", Arg::U8(kinds)), ("words", Arg::U64(words)), ("constants", Arg::N(pool.len() as u64)),
+        ("phi_map", Arg::U32(vec![0; n])), ("phi_sources", Arg::U16(vec![0; 2 * n])), ("stmt_pos", Arg::U32(stmts)), ("stmt_pos_count", Arg::N(count)),
+        ("dead", Arg::U8(vec![0; n])), ("remap", Arg::U32(vec![0; n + 1])),
+    ])
 }

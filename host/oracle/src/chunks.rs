@@ -136,13 +136,14 @@ fn lent(rng: &mut Rng, c: Chunk) -> Question {
         4 => { code.push(0) }
         _ => {}
     }
-    let args = vec![
-        Arg::U16(code), Arg::U8(kinds), Arg::U64(words), Arg::N(counts[0]),
-        Arg::U32(buffer(rng, &c.phi_map, n)), Arg::N(counts[1]), Arg::U16(buffer(rng, &c.phi_sources, sources)), Arg::N(counts[2]),
-        Arg::U32(buffer(rng, &c.stmt_pos, 0)), Arg::N(counts[3]), Arg::U32(buffer(rng, &c.call_byte_pos, 0)), Arg::N(counts[4]),
-        Arg::U8(lend(rng, n)), Arg::U32(lend(rng, n + 1)), Arg::N(rng.once_in(3).into()),
-    ];
-    Question { call: Fold, args }
+    Question::of(Fold, [
+        ("code", Arg::U16(code)), ("kinds", Arg::U8(kinds)), ("words", Arg::U64(words)), ("constants", Arg::N(counts[0])),
+        ("phi_map", Arg::U32(buffer(rng, &c.phi_map, n))), ("phi_map_count", Arg::N(counts[1])),
+        ("phi_sources", Arg::U16(buffer(rng, &c.phi_sources, sources))), ("phi_sources_count", Arg::N(counts[2])),
+        ("stmt_pos", Arg::U32(buffer(rng, &c.stmt_pos, 0))), ("stmt_pos_count", Arg::N(counts[3])),
+        ("call_byte_pos", Arg::U32(buffer(rng, &c.call_byte_pos, 0))), ("call_byte_pos_count", Arg::N(counts[4])),
+        ("dead", Arg::U8(lend(rng, n))), ("remap", Arg::U32(lend(rng, n + 1))), ("strict", Arg::N(rng.once_in(3).into())),
+    ])
 }
 
 /// An instruction whose opcode or marks may break a record rule: often bit 1, missing or set.
@@ -181,7 +182,9 @@ fn clearing(rng: &mut Rng, c: Chunk) -> Question {
         _ => {}
     }
     let scratch = lend(rng, c.kinds.len());
-    Question { call: Clear, args: vec![Arg::U16(code), Arg::U8(kinds), Arg::U64(words), Arg::N(count), Arg::U32(scratch)] }
+    Question::of(Clear, [
+        ("code", Arg::U16(code)), ("kinds", Arg::U8(kinds)), ("words", Arg::U64(words)), ("constants", Arg::N(count)), ("scratch", Arg::U32(scratch)),
+    ])
 }
 
 /// Some 300 telling constants: powers of two and their neighbours up to and past the limits, zeros of both signs, NaNs with
@@ -222,12 +225,10 @@ pub fn plain_pairs(a: (u8, u64), constants: &[(u8, u64)], take: &mut dyn FnMut(Q
         let (n, count) = (c.code.len(), c.kinds.len() as u64);
         c.kinds.push(0);
         c.words.push(0);
-        let none = || Arg::U32(vec![]);
-        let args = vec![
-            Arg::U16(c.code.into_flattened()), Arg::U8(c.kinds), Arg::U64(c.words), Arg::N(count), Arg::U32(vec![0; n]), Arg::N(0), Arg::U16(vec![]), Arg::N(0),
-            none(), Arg::N(0), none(), Arg::N(0), Arg::U8(vec![9; n]), Arg::U32(vec![9; n + 1]), Arg::N(0),
-        ];
-        take(Question { call: Fold, args })
+        take(Question::of(Fold, [
+            ("code", Arg::U16(c.code.into_flattened())), ("kinds", Arg::U8(c.kinds)), ("words", Arg::U64(c.words)), ("constants", Arg::N(count)),
+            ("phi_map", Arg::U32(vec![0; n])), ("dead", Arg::U8(vec![9; n])), ("remap", Arg::U32(vec![9; n + 1])),
+        ]))
     });
 }
 

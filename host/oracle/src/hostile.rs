@@ -108,7 +108,8 @@ pub fn watch(calls: &[Call], seed: u64, rounds: u64) -> Result<bool, String> {
             }
             return Ok(false);
         }
-        println!("no bad access{} in {} hostile questions to {} calls, {what}", if valgrind { "" } else { " and no wrong reply" }, rounds * questions * calls.len() as u64, calls.len());
+        let (found, asked) = (if valgrind { "no bad access" } else { "no bad access and no wrong reply" }, rounds * questions * calls.len() as u64);
+        println!("{found} in {asked} hostile questions to {}, {what}", listing::count(calls.len(), "call"));
     }
     Ok(true)
 }

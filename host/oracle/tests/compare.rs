@@ -1,6 +1,6 @@
 //! The comparison cannot pass by accident: a wrong model or port is told with its question, and so is what was left out.
 
-use oracle::{compare::{Comparison, Until}, model, port, question::*};
+use oracle::{chunks, compare::{Comparison, Until}, model, original, port, question::*};
 
 /// What a short run over these calls says.
 fn compared(port: Option<fn(&Question) -> Reply>, model: fn(&Question) -> Reply, calls: &[Call], rounds: u64) -> (bool, String) {
@@ -16,7 +16,8 @@ fn last(text: &str) -> &str { text.lines().last().unwrap() }
 #[test]
 fn all_is_well() {
     let (well, text) = compared(Some(port::ask), model::ask, &[GlobalOf, Clear], 1);
-    assert!(well && last(&text).starts_with("All is well: the port, the model and the Rust agree on ") && last(&text).contains(" questions to 2 calls; "), "{text}");
+    let last = last(&text);
+    assert!(well && last.starts_with("All is well: the port, the model and the Rust agree on ") && last.contains(" questions to 2 calls; "), "{text}");
     assert!(text.contains("calls: questions asked; refused: with a refusal; telling: "), "{text}");
 }
 
@@ -66,4 +67,19 @@ fn what_is_left_out_is_told() {
     let refuses: fn(&Question) -> Reply = |q| Reply { answer: turniploom::abi::Answer { refusal: 1, ..Default::default() }, lent: q.lent() };
     let (well, text) = compared(Some(refuses), refuses, &[Clear], 0);
     assert!(!well && last(&text) == "NOT ENOUGH WAS COMPARED: clear never had a telling answer.", "{text}");
+}
+
+/// Each question of `constants` is one that the Rust answers: no refusal, no strict mode.
+#[test]
+fn every_pair_is_answered_by_the_rust() {
+    let constants = chunks::telling();
+    let mut asked = 0;
+    for &a in constants.iter().step_by(20) {
+        chunks::plain_pairs(a, &constants, &mut |q| {
+            let model = model::ask(&q);
+            assert!(model.answer.refusal == 0 && original::ask(&q, &model).is_some(), "{q:?}");
+            asked += 1;
+        });
+    }
+    assert_eq!(asked, 16 * (17 * constants.len() + 2));
 }

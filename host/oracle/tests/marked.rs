@@ -77,12 +77,12 @@ fn p6() {
 fn fold(code: &[[u16; 3]], pool: &[(u8, u64)], strict: bool) -> (Vec<[u16; 3]>, Vec<(u8, u64)>) {
     let n = code.len();
     let room = |mut v: Vec<u64>| { v.resize(pool.len() + n, 0); v };
-    let args = vec![
-        Arg::U16(code.as_flattened().to_vec()), Arg::U8(room(pool.iter().map(|c| c.0.into()).collect()).iter().map(|&k| k as u8).collect()),
-        Arg::U64(room(pool.iter().map(|c| c.1).collect())), Arg::N(pool.len() as u64), Arg::U32(vec![0; n]), Arg::N(0), Arg::U16(vec![0; 2 * n]), Arg::N(0),
-        Arg::U32(vec![]), Arg::N(0), Arg::U32(vec![]), Arg::N(0), Arg::U8(vec![9; n]), Arg::U32(vec![9; n + 1]), Arg::N(strict.into()),
-    ];
-    let mut r = agreed(&Question { call: Fold, args });
+    let kinds = room(pool.iter().map(|c| c.0.into()).collect()).iter().map(|&k| k as u8).collect();
+    let mut r = agreed(&Question::of(Fold, [
+        ("code", Arg::U16(code.as_flattened().to_vec())), ("kinds", Arg::U8(kinds)), ("words", Arg::U64(room(pool.iter().map(|c| c.1).collect()))),
+        ("constants", Arg::N(pool.len() as u64)), ("phi_map", Arg::U32(vec![0; n])), ("phi_sources", Arg::U16(vec![0; 2 * n])),
+        ("dead", Arg::U8(vec![9; n])), ("remap", Arg::U32(vec![9; n + 1])), ("strict", Arg::N(strict.into())),
+    ]));
     assert_eq!(r.answer.refusal, 0);
     let code = r.lent.u16("code")[..3 * r.answer.first as usize].chunks(3).map(|w| [w[0], w[1], w[2]]).collect();
     let pool = (0..r.answer.second as usize).map(|k| (r.lent.u8("kinds")[k], r.lent.u64("words")[k])).collect();

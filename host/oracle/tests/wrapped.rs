@@ -26,20 +26,23 @@ fn archive(name: &str, fault: Option<&Path>) -> PathBuf {
 
 /// Builds the comparison over an archive, by itself.
 fn built(archive: &Path) -> Output {
-    Command::new(env!("CARGO")).args(["build", "--offline", "--quiet", "-p", "oracle", "--bin", "oracle", "--manifest-path"]).arg(here().join("../Cargo.toml"))
-        .env("TURNIPLOOM_LIB", archive).env("CARGO_PROFILE_DEV_OPT_LEVEL", "0").env("CARGO_PROFILE_DEV_DEBUG", "0").env("CARGO_TARGET_DIR", archive.with_extension("built")).output().unwrap()
+    Command::new(env!("CARGO")).args(["build", "--offline", "--quiet", "--bin", "oracle", "--manifest-path"]).arg(here().join("Cargo.toml"))
+        .env("CARGO_PROFILE_DEV_OPT_LEVEL", "0").env("CARGO_PROFILE_DEV_DEBUG", "0")
+        .env("TURNIPLOOM_LIB", archive).env("CARGO_TARGET_DIR", archive.with_extension("built")).output().unwrap()
 }
 
 /// Compares the kept-register call with that fault, and gives what is said.
 fn compared(fault: &str) -> (bool, String) {
-    let out = Command::new(folder().join("faulty.built/debug/oracle")).args(["--calls", "kept", "--rounds", "4"]).env("TURNIPLOOM_FAULT", fault).output().unwrap();
+    let mut oracle = Command::new(folder().join("faulty.built/debug/oracle"));
+    let out = oracle.args(["--calls", "kept", "--rounds", "4"]).env("TURNIPLOOM_FAULT", fault).output().unwrap();
     (out.status.success(), String::from_utf8(out.stdout).unwrap())
 }
 
 #[test]
 fn a_wrong_archive_is_caught() {
     let object = folder().join("fault.o");
-    done(Command::new("gcc").args(["-c", "-O1", "-Wall", "-I"]).arg(here().join("../../include")).arg(here().join("tests/wrapped/fault.c")).arg("-o").arg(&object));
+    let source = here().join("tests/wrapped/fault.c");
+    done(Command::new("gcc").args(["-c", "-O1", "-Wall", "-I"]).arg(here().join("../../include")).arg(source).arg("-o").arg(&object));
     let built = built(&archive("faulty.a", Some(&object)));
     assert!(built.status.success(), "{}", String::from_utf8_lossy(&built.stderr));
     let (well, says) = compared("none");

@@ -120,7 +120,8 @@ pub fn constant_fold(chunk: &mut Chunk, strict: bool) -> Result<(), Refusal> {
         &mut calls, call_count, &mut dead, &mut remap, strict,
     ).granted()?;
     chunk.instructions = instructions(&code, folded.first as usize);
-    chunk.constants.extend((count..folded.second as usize).map(|k| if kinds[k] == 1 { Constant::Int(words[k] as i64) } else { Constant::Float(f64::from_bits(words[k])) }));
+    let pushed = |k: usize| if kinds[k] == 1 { Constant::Int(words[k] as i64) } else { Constant::Float(f64::from_bits(words[k])) };
+    chunk.constants.extend((count..folded.second as usize).map(pushed));
     chunk.phi_map = phi_map[..folded.third as usize].iter().map(|&p| p as usize).collect();
     chunk.phi_sources = sources[..folded.fourth as usize].chunks(2).map(|p| (p[0], p[1])).collect();
     chunk.stmt_pos = stmts.chunks(2).map(|p| (p[0], p[1])).collect();

@@ -22,15 +22,16 @@ fn rows_levels_and_what_is_needed() {
 
 #[test]
 fn rows_of_more_than_one_word() {
-    let code = marked(&[Lowered::new(CallR, 70, 0, 0, 0), Lowered::new(StoreTopR, 2, 0, 0, 0), Lowered::new(AddR, 3, 2, 129, 0), Lowered::new(ReturnR, 0, 3, 0, 0)], |_| false);
-    let found = kept(&code, 130, &[], false).unwrap();
+    let body = [Lowered::new(CallR, 70, 0, 0, 0), Lowered::new(StoreTopR, 2, 0, 0, 0), Lowered::new(AddR, 3, 2, 129, 0), Lowered::new(ReturnR, 0, 3, 0, 0)];
+    let found = kept(&marked(&body, |_| false), 130, &[], false).unwrap();
     assert_eq!((found.words, found.row(2), found.at(0)), (3, &[4, 0, 2][..], &[129][..]));
     assert!(found.needed(0, 70) && found.needed(0, 129) && !found.needed(0, 2) && found.needed(2, 2) && !found.needed(4, 129));
 }
 
 #[test]
 fn a_level_that_keeps_nothing_is_not_among_the_levels() {
-    let found = kept(&marked(&[Lowered::new(CallGlobalR, 3, 0, 0, 0), Lowered::new(StoreTopR, 0, 0, 0, 0), Lowered::new(ReturnR, 0, 0, 0, 0)], |_| false), 1, &[], false).unwrap();
+    let body = [Lowered::new(CallGlobalR, 3, 0, 0, 0), Lowered::new(StoreTopR, 0, 0, 0, 0), Lowered::new(ReturnR, 0, 0, 0, 0)];
+    let found = kept(&marked(&body, |_| false), 1, &[], false).unwrap();
     assert_eq!((found.levels().count(), found.at(0)), (0, &[][..]));
 }
 

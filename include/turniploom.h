@@ -11,6 +11,29 @@
 #include <stddef.h>
 #include <stdint.h>
 
+/* The version of the calls that this header declares. */
+#define TURNIPLOOM_VERSION_MAJOR 0
+#define TURNIPLOOM_VERSION_MINOR 1
+#define TURNIPLOOM_VERSION_PATCH 0
+#define TURNIPLOOM_VERSION "0.1.0"
+
+/* The words of an instruction, of code and of a chunk, and the limits of what is lent. */
+#define TURNIPLOOM_CODE_WORDS 6
+#define TURNIPLOOM_CHUNK_WORDS 3
+#define TURNIPLOOM_MOST_INSTRUCTIONS 65535
+#define TURNIPLOOM_MOST_REGISTERS 1024
+#define TURNIPLOOM_MOST_CONSTANTS 65536
+
+/* Lengths that are always enough, for n instructions: seen, todo, out, offsets and remap; rows; a list, whose needed length a refusal
+ * also tells; kinds and words of a fold; its phi_map and dead marks; its phi_sources, of which `words` are in use. */
+#define TURNIPLOOM_ENDS_LEN(n) ((size_t)(n) + 1)
+#define TURNIPLOOM_ROW_WORDS(regs) ((size_t)(regs) <= 64 ? (size_t)1 : ((size_t)(regs) + 63) / 64)
+#define TURNIPLOOM_ROWS_LEN(n, regs) (((size_t)(n) + 1) * TURNIPLOOM_ROW_WORDS(regs))
+#define TURNIPLOOM_LIST_LEN(n, regs) ((size_t)(n) * (size_t)(regs))
+#define TURNIPLOOM_CONSTANTS_LEN(n, count) ((size_t)(n) + (size_t)(count))
+#define TURNIPLOOM_MARKS_LEN(n) ((size_t)(n))
+#define TURNIPLOOM_PHI_SOURCES_LEN(n, words) (2 * (size_t)(n) > (size_t)(words) ? 2 * (size_t)(n) : (size_t)(words))
+
 #ifdef __cplusplus
 extern "C" {
 #endif
@@ -32,11 +55,13 @@ enum turniploom_refusal {
     TURNIPLOOM_TABLE = 7      /* a table of the chunk breaks its rule: table number */
 };
 
-/* Marks of an instruction: six words, opcode, marks, a, b, c, x. */
+/* Marks of an instruction: six words, opcode, marks, a, b, c, x. They stand for the Rust's `lower::wide`, `lower::dunder_op` and
+ * `is_register`, and answers hang on them: a wide call without its mark seems to resume at its ArgsR, and an opcode that a dunder may run
+ * is no level without its mark, so a register that must be kept is lost. turniploom_mark, below, sets them. */
 enum turniploom_mark { TURNIPLOOM_WIDE = 1, TURNIPLOOM_DUNDER = 2, TURNIPLOOM_IS_REGISTER = 4 };
 
 /* The marks of a chunk's instruction: three words, opcode, marks, operand. Every LoadConst names a constant; a jump, a Phi and a
- * folding operator never do. */
+ * folding operator never do. A jump without its mark keeps its old target when the code shrinks; turniploom_mark_chunk sets both. */
 enum turniploom_chunk_mark { TURNIPLOOM_IS_JUMP = 1, TURNIPLOOM_NAMES_CONSTANT = 2 };
 
 /* The kind of a constant. */
@@ -115,7 +140,7 @@ turniploom_answer turniploom_pushed_back(const uint16_t *code, size_t code_len, 
 turniploom_answer turniploom_stack_callee(const uint16_t *code, size_t code_len, size_t at, uint16_t count);
 
 /* The registers kept at each level. rows is (n + 1) times the words of a row long, offsets n + 1. A list too short is refused with the
- * length it needs, and the rows are then found. The list of position k is list[offsets[k]] up to list[offsets[k + 1]].
+ * length it needs, and the rows are then found. The list of position k begins at entry k of offsets and ends at the next.
  * first: the length of the list; second: full sweeps; third: abandoned sweeps. */
 turniploom_answer turniploom_kept(const uint16_t *code, size_t code_len, size_t regs, const uint32_t *tries, size_t tries_len, bool wide,
                                   uint64_t *rows, size_t rows_len, uint32_t *offsets, size_t offsets_len, uint16_t *list, size_t list_len);
@@ -183,6 +208,51 @@ enum turniploom_opcode {
     TURNIPLOOM_SuperR = 181, TURNIPLOOM_WrapCellR = 183, TURNIPLOOM_CallValueR = 185, TURNIPLOOM_CallSpreadR = 187,
     TURNIPLOOM_ListPushR = 189
 };
+
+/* What a refusal says, whatever was lent. */
+static inline const char *turniploom_refusal_text(uint8_t refusal) {
+    switch (refusal) {
+    case 0: return "no refusal";
+    case TURNIPLOOM_CODE: return "the code is no whole number of instructions, or has more than 65,535";
+    case TURNIPLOOM_RECORD: return "an instruction breaks a record rule";
+    case TURNIPLOOM_REGISTERS: return "there are more than 1,024 registers";
+    case TURNIPLOOM_TRY: return "a try breaks its rule";
+    case TURNIPLOOM_BUFFER: return "a lent buffer is too short";
+    case TURNIPLOOM_POSITION: return "the position is not one to ask about";
+    case TURNIPLOOM_TABLE: return "a table of the chunk breaks its rule";
+    default: return "a refusal that this header does not know";
+    }
+}
+
+/* Whether an opcode is a register form, and whether it is a jump: the Rust's `is_register` and `is_jump`. */
+static inline bool turniploom_is_register(uint16_t op) {
+    static const uint64_t forms[3] = {0xAA00000000000000ULL, 0xAAAAAAAAAAAAAAAAULL, 0x2AAAAAAAAAAAAAAAULL};
+    return op <= 190 && (forms[op / 64] >> (op % 64) & 1) != 0;
+}
+static inline bool turniploom_is_jump(uint16_t op) {
+    static const uint64_t jumps[3] = {0x0000000000000000ULL, 0x1000004500000000ULL, 0x5000000100000000ULL};
+    return op <= 190 && (jumps[op / 64] >> (op % 64) & 1) != 0;
+}
+
+/* Sets the marks of code as the Rust's tests have them: register by the opcode, wide on one of the four calls right before an ArgsR, and
+ * dunder where dunder_op, the host's own test, says so. */
+static inline void turniploom_mark(uint16_t *code, size_t code_len, bool (*dunder_op)(uint16_t op)) {
+    size_t k;
+    for (k = 0; k + 6 <= code_len; k += 6) {
+        uint16_t op = code[k];
+        bool call = op == TURNIPLOOM_CallGlobalR || op == TURNIPLOOM_CallR || op == TURNIPLOOM_CallMethodR || op == TURNIPLOOM_CallSpreadR;
+        bool wide = call && k + 12 <= code_len && code[k + 6] == TURNIPLOOM_ArgsR;
+        code[k + 1] = (uint16_t)((wide ? TURNIPLOOM_WIDE : 0) | (dunder_op(op) ? TURNIPLOOM_DUNDER : 0) |
+                                 (turniploom_is_register(op) ? TURNIPLOOM_IS_REGISTER : 0));
+    }
+}
+
+/* Sets the marks of a chunk: jump by the opcode, and that a LoadConst names a constant. What other opcodes name is for the host to add. */
+static inline void turniploom_mark_chunk(uint16_t *code, size_t code_len) {
+    size_t k;
+    for (k = 0; k + 3 <= code_len; k += 3)
+        code[k + 1] = turniploom_is_jump(code[k]) ? TURNIPLOOM_IS_JUMP : code[k] == TURNIPLOOM_LoadConst ? TURNIPLOOM_NAMES_CONSTANT : 0;
+}
 
 #ifdef __cplusplus
 }

@@ -63,7 +63,7 @@ impl View {
 /// The kept-register call.
 fn found(body: &Body) -> Result<Kept, Refusal> {
     // An odd last word is a try without a handler, which is refused before any buffer is looked at.
-    if body.tries.len() % 2 != 0 { abi::kept(&body.words(), body.registers, &body.tries, body.wide, &mut [], &mut [], &mut []).granted()?; }
+    if !body.tries.len().is_multiple_of(2) { abi::kept(&body.words(), body.registers, &body.tries, body.wide, &mut [], &mut [], &mut []).granted()?; }
     let tries: Vec<(usize, usize)> = body.tries.chunks_exact(2).map(|t| (t[0] as usize, t[1] as usize)).collect();
     turniploom::kept(&body.words(), body.registers, &tries, body.wide)
 }

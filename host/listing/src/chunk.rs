@@ -1,8 +1,8 @@
 //! What the listing of a chunk shows: what folded into what.
 
-use crate::{count, notation::{Chunk, constant_text, instruction_text}, refused::folds};
+use crate::{count, notation::{Chunk, constant_text, instruction_text}};
 use model::facts::fact;
-use turniploom::{JUMP, NAMES, Refusal, op};
+use turniploom::{JUMP, NAMES, Op, Refusal, op};
 
 /// A chunk before and after.
 pub struct View {
@@ -93,18 +93,21 @@ fn shipped(code: &[[u16; 3]], constants: &[(u8, u64)]) -> Result<Vec<(u8, u64)>,
     Ok((0..a.first as usize).map(|k| (kinds[k], values[k])).collect())
 }
 
+fn opcode(chunk: &Chunk, k: usize) -> Op { Op(chunk.code[k][0]) }
+
 /// Says what became of the instruction at `k`.
 fn note(chunk: &Chunk, f: &Folded, k: usize, lines: &mut [Line]) {
     let [o, marks, operand] = chunk.code[k];
+    let o = Op(o);
     if f.dead[k] {
         if o == op::Phi { return lines[k].notes.push(format!("both sources are {operand}: it does nothing")) }
         let first = (0..k).rev().find(|&p| !f.dead[p]).expect("a first operand");
         lines[k].into = Some(first);
         lines[first].result = true;
-        let last = f.dead.get(k + 1).is_none_or(|&d| !d) || chunk.code[k + 1][0] == op::Phi;
+        let last = f.dead.get(k + 1).is_none_or(|&d| !d) || opcode(chunk, k + 1) == op::Phi;
         if let (true, Some(expression)) = (last, expression(chunk, first, k)) {
             let [new, _, at] = f.code[lines[first].after.as_ref().expect("a live position").0];
-            let (value, place) = match new {
+            let (value, place) = match Op(new) {
                 op::LoadTrue => ("true".into(), String::new()),
                 op::LoadFalse => ("false".into(), String::new()),
                 _ => {
@@ -115,7 +118,7 @@ fn note(chunk: &Chunk, f: &Folded, k: usize, lines: &mut [Line]) {
             };
             lines[first].notes.push(format!("{expression} = {value}{place}"));
         }
-    } else if folds(o) && let Some(why) = unfolded(chunk, f, k) {
+    } else if o.folds() && let Some(why) = unfolded(chunk, f, k) {
         lines[k].notes.push(why);
     } else if marks & JUMP != 0 && f.code.len() < f.dead.len() {
         let now = f.code[lines[k].after.as_ref().expect("a live position").0][2];
@@ -123,7 +126,7 @@ fn note(chunk: &Chunk, f: &Folded, k: usize, lines: &mut [Line]) {
     }
 }
 
-fn sign(o: u16) -> &'static str {
+fn sign(o: Op) -> &'static str {
     let signs = [
         (op::Add, "+"), (op::Sub, "-"), (op::Mul, "*"), (op::Div, "/"), (op::Mod, "%"), (op::FloorDiv, "//"), (op::Eq, "=="), (op::NotEq, "!="), (op::Lt, "<"),
         (op::Gt, ">"), (op::LtEq, "<="), (op::GtEq, ">="), (op::BitAnd, "&"), (op::BitOr, "|"), (op::BitXor, "^"), (op::Shl, "<<"), (op::Shr, ">>"), (op::Not, "not "), (op::Minus, "-"),
@@ -136,6 +139,7 @@ fn expression(chunk: &Chunk, first: usize, last: usize) -> Option<String> {
     let mut stack: Vec<(String, bool)> = vec![];
     let bound = |(text, whole): (String, bool)| if whole { text } else { format!("({text})") };
     for &[o, _, operand] in &chunk.code[first..=last] {
+        let o = Op(o);
         let made = match if o == op::LoadConst { 0 } else { fact(o).folding } {
             1 => (format!("{}{}", sign(o), bound(stack.pop()?)), false),
             2 => { let (right, left) = (bound(stack.pop()?), bound(stack.pop()?)); (format!("{left} {} {right}", sign(o)), false) }
@@ -150,9 +154,9 @@ fn expression(chunk: &Chunk, first: usize, last: usize) -> Option<String> {
 /// Why the operator at `k`, whose operands are constants, was not folded.
 fn unfolded(chunk: &Chunk, f: &Folded, k: usize) -> Option<String> {
     let arity = fact(chunk.code[k][0]).folding as usize;
-    let operands: Vec<usize> = (0..k).rev().filter(|&p| !f.dead[p] || chunk.code[p][0] == op::Phi).take(arity).collect();
+    let operands: Vec<usize> = (0..k).rev().filter(|&p| !f.dead[p] || opcode(chunk, p) == op::Phi).take(arity).collect();
     let first = *operands.last().filter(|_| operands.len() == arity)?;
-    if !operands.iter().all(|&p| chunk.code[p][0] == op::LoadConst) { return None }
+    if !operands.iter().all(|&p| opcode(chunk, p) == op::LoadConst) { return None }
     let lands = |j: &usize| chunk.code[*j][1] & JUMP != 0 && (first + 1..=k).contains(&(chunk.code[*j][2] as usize));
     let jump = if chunk.strict { (0..chunk.code.len()).find(lands) } else { first.checked_sub(1).filter(lands) };
     Some(jump.map_or("not folded: it has no result that is a constant".into(), |j| format!("not folded: the jump at {j} lands on {}", chunk.code[j][2])))

@@ -1,8 +1,8 @@
 //! The notation of document 01's examples: read with errors by line, and written.
 
-use model::{code::is_call, facts::fact, question::{Kept, Question}, roles};
+use model::{code::is_call, question::{Kept, Question}, roles};
 use std::fmt;
-use turniploom::{DUNDER, Ins, JUMP, NAMES, REGISTER, WIDE, abi, op};
+use turniploom::{DUNDER, Ins, Instruction, JUMP, NAMES, Op, REGISTER, WIDE, abi, op};
 
 /// A body as it is lent to the kept-register call.
 #[derive(Clone, Debug, Default, PartialEq, Eq)]
@@ -78,7 +78,7 @@ type Read<T> = Result<T, String>;
 
 /// An instruction of either kind as it was read.
 struct Entry {
-    op: u16,
+    op: Op,
     /// a, b, c, x; a chunk's operand stands in a.
     fields: [Option<u16>; 4],
     /// Marks by word, and marks by number, which leave no default.
@@ -194,7 +194,7 @@ impl Reader {
     fn end(self) -> Read<Text> {
         let lines = self.entries.iter().map(|e| e.line).collect();
         if self.chunk {
-            let of = |e: &Entry| [e.op, e.exact.unwrap_or(usual_marks(e.op)) | e.marks, e.fields[0].unwrap_or(0)];
+            let of = |e: &Entry| [e.op.0, e.exact.unwrap_or(usual_marks(e.op)) | e.marks, e.fields[0].unwrap_or(0)];
             return Ok(Text::Chunk(Chunk {
                 code: self.entries.iter().map(of).collect(), tail: self.tail, constants: self.constants, phi_map: self.phi_map,
                 phi_sources: self.phi_sources, stmt_pos: self.stmt_pos, call_byte_pos: self.call_byte_pos, strict: self.strict, lines,
@@ -214,34 +214,27 @@ fn is_number(word: &str) -> bool { word.starts_with(|c: char| c.is_ascii_digit()
 
 /// The marks of an instruction that names none: register as the Rust's own test has it, wide before an ArgsR, no dunder.
 pub fn usual(code: &[Ins], k: usize) -> u16 {
-    let register = code[k].op <= 190 && fact(code[k].op).register;
-    let wide = is_call(&code[k]) && code.get(k + 1).is_some_and(|n| n.op == op::ArgsR);
-    u16::from(register) * REGISTER + u16::from(wide) * WIDE
+    let wide = code[k].op.is_call() && code.get(k + 1).is_some_and(|n| n.op == op::ArgsR);
+    u16::from(code[k].op.is_register()) * REGISTER + u16::from(wide) * WIDE
 }
 
 /// The mark of a chunk's instruction that is given none: jump as the Rust's own test has it, and a LoadConst names a constant.
-pub fn usual_marks(o: u16) -> u16 {
-    match o {
-        op::LoadConst => NAMES,
-        _ if o <= 190 && fact(o).jump => JUMP,
-        _ => 0,
-    }
-}
+pub fn usual_marks(o: Op) -> u16 { Instruction::new(o, 0).marks }
 
 /// An opcode by name: `Other` is 0, `Op191` a number, `jump` the Jump of P13.
-fn opcode(name: &str) -> Read<u16> {
+fn opcode(name: &str) -> Read<Op> {
     match name {
-        "Other" => return Ok(0),
+        "Other" => return Ok(Op::OTHER),
         "jump" => return Ok(op::Jump),
         _ => {}
     }
-    if let Some(digits) = name.strip_prefix("Op").filter(|d| is_number(d)) { return number(digits, "an opcode") }
-    op::number(name).ok_or_else(|| unknown(name))
+    if let Some(digits) = name.strip_prefix("Op").filter(|d| is_number(d)) { return number(digits, "an opcode").map(Op) }
+    Op::named(name).ok_or_else(|| unknown(name))
 }
 
 fn unknown(word: &str) -> String {
     let settings = ["registers", "try", "route", "chunk", "strict", "constants", "phi_map", "phi_sources", "stmt_pos", "call_byte_pos", "words"];
-    let names = op::ALL.iter().map(|o| o.1).chain(settings);
+    let names = op::ALL.iter().filter_map(|o| o.name()).chain(settings);
     let near = names.map(|n| (distance(&word.to_lowercase(), &n.to_lowercase()), n)).min().filter(|&(d, _)| d <= 2);
     format!("no opcode and no setting is called `{word}`{}", near.map_or(String::new(), |(_, n)| format!("; is `{n}` meant?")))
 }
@@ -292,19 +285,12 @@ pub fn constant_text(kind: u8, word: u64) -> String {
     }
 }
 
-fn name(o: u16) -> String {
-    match o {
-        0 => "Other".into(),
-        _ => op::name(o).map_or(format!("Op{o}"), str::to_string),
-    }
-}
-
 /// An instruction as document 01 writes it: the fields that its role names, those that are not 0, and unusual marks.
 pub fn ins_text(code: &[Ins], k: usize) -> String {
     let i = code[k];
-    let kinds = if i.op <= 190 { roles::kinds(&i) } else { roles::NONE };
+    let kinds = if i.op.0 <= 190 { roles::kinds(&i) } else { roles::NONE };
     let counted = is_call(&i) && i.op != op::CallSpreadR || matches!(i.op, op::PushRegs | op::UnpackR);
-    let mut text = name(i.op);
+    let mut text = i.op.to_string();
     if i.op == op::Jump { text += &format!(" {}", i.a) } else if i.a != 0 || kinds & (1 | 2 | 16) != 0 && kinds != roles::NONE { text += &format!(" a{}", i.a) }
     for (letter, value, named) in [('b', i.b, kinds & 4 != 0), ('c', i.c, kinds & 8 != 0), ('x', i.x, counted)] {
         if value != 0 || named { text += &format!(" {letter}{value}") }
@@ -319,6 +305,7 @@ pub fn ins_text(code: &[Ins], k: usize) -> String {
 
 /// An instruction of a chunk as document 01 writes it.
 pub fn instruction_text([o, marks, operand]: [u16; 3]) -> String {
+    let o = Op(o);
     let bare = operand == 0 && o != op::LoadConst && o != op::Phi && marks & (JUMP | NAMES) == 0;
     let operand = if bare { String::new() } else { format!(" {operand}") };
     let mark = match marks {
@@ -327,7 +314,7 @@ pub fn instruction_text([o, marks, operand]: [u16; 3]) -> String {
         m if m == usual_marks(o) | NAMES => " names".into(),
         m => format!(" m{m}"),
     };
-    format!("{}{operand}{mark}", name(o))
+    format!("{o}{operand}{mark}")
 }
 
 fn listed<T: ToString>(word: &str, table: &[T]) -> String {
@@ -362,7 +349,7 @@ pub fn asked(q: &Question) -> String {
     let words = q.u16("code");
     if !q.call.of_a_chunk() {
         let whole = words.len() / 6 * 6;
-        let code = words[..whole].chunks(6).map(|w| Ins { op: w[0], marks: w[1], a: w[2], b: w[3], c: w[4], x: w[5] }).collect();
+        let code = words[..whole].chunks(6).map(|w| Ins { op: Op(w[0]), marks: w[1], a: w[2], b: w[3], c: w[4], x: w[5] }).collect();
         let takes = |name: &str| q.call.takes(name);
         let body = Body {
             code,

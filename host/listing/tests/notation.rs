@@ -30,7 +30,7 @@ fn the_examples_of_document_01() {
     assert_eq!(body("try (1, 5); registers 4").tries, [1, 5]);
     assert_eq!(body("Jump 0; registers 1").code[0].a, 0);
     let p13 = chunk("chunk; LoadConst 0; LoadConst 1; Add; jump 2; pool 2 and 3");
-    assert_eq!(p13.code, [[op::LoadConst, NAMES, 0], [op::LoadConst, NAMES, 1], [op::Add, 0, 0], [op::Jump, JUMP, 2]]);
+    assert_eq!(p13.code, [[op::LoadConst.0, NAMES, 0], [op::LoadConst.0, NAMES, 1], [op::Add.0, 0, 0], [op::Jump.0, JUMP, 2]]);
     assert_eq!(p13.constants, [(1, 2), (1, 3)]);
 }
 
@@ -39,9 +39,9 @@ fn marks_are_the_rusts_own_tests_unless_said() {
     let code = body("registers 4\nCallR a0 b1 c2 x3\nArgsR a3\nCallR a0\nAddR a0 b0 c0 dunder\nAdd\nAdd register\nCallR a0 m0\nArgsR\nOther m6").code;
     let marks: Vec<u16> = code.iter().map(|i| i.marks).collect();
     assert_eq!(marks, [WIDE | REGISTER, REGISTER, REGISTER, DUNDER | REGISTER, 0, REGISTER, 0, REGISTER, 6]);
-    assert_eq!(chunk("chunk; ForIter 2; Jump 1 m0; PopTop jump").code, [[op::ForIter, 1, 2], [op::Jump, 0, 1], [op::PopTop, 1, 0]]);
+    assert_eq!(chunk("chunk; ForIter 2; Jump 1 m0; PopTop jump").code, [[op::ForIter.0, 1, 2], [op::Jump.0, 0, 1], [op::PopTop.0, 1, 0]]);
     let named = "chunk\n0 LoadConst 1\n1 LoadName 2 names\n2 LoadConst 0 m0\n3 Jump 1 names\n4 LoadConst 0 jump\n";
-    assert_eq!(chunk(named).code, [[op::LoadConst, 2, 1], [op::LoadName, 2, 2], [op::LoadConst, 0, 0], [op::Jump, 3, 1], [op::LoadConst, 3, 0]]);
+    assert_eq!(chunk(named).code, [[op::LoadConst.0, 2, 1], [op::LoadName.0, 2, 2], [op::LoadConst.0, 0, 0], [op::Jump.0, 3, 1], [op::LoadConst.0, 3, 0]]);
     assert_eq!(chunk(named).to_string(), named);
 }
 
@@ -87,5 +87,5 @@ fn refusals_in_words() {
     for bad in ["Jump 0", "Phi 0", "Add"] {
         assert_eq!(refused(&format!("chunk\n{bad} names")), "line 2: refused (2): the instruction at 0 breaks a record rule: a jump, a Phi and a folding operator name no constant");
     }
-    assert_eq!(refused("chunk\nstmt_pos 1"), "refused (7): table 4 of the chunk breaks its rule: stmt_pos: its numbers come in pairs");
+    assert_eq!(refused("chunk\nstmt_pos 1"), "refused (7): table 4 of the chunk breaks its rule: the numbers of stmt_pos come in pairs");
 }

@@ -1,7 +1,7 @@
 //! What is lent, and the refusals in the order of test.
 
 use super::facts::fact;
-use turniploom::{DUNDER, Ins, JUMP, NAMES, REGISTER, WIDE, op};
+use turniploom::{DUNDER, Ins, JUMP, NAMES, Op, REGISTER, WIDE, op};
 
 /// A refusal: its number and what it also returns.
 #[derive(Clone, Copy, Debug, PartialEq, Eq)]
@@ -10,7 +10,7 @@ pub struct No(pub u8, pub u64, pub u64);
 pub type Checked<T> = Result<T, No>;
 
 /// The last opcode number.
-pub const LAST: u16 = 190;
+pub const LAST: Op = Op(190);
 
 fn holds(rule: bool, no: No) -> Checked<()> { if rule { Ok(()) } else { Err(no) } }
 
@@ -20,8 +20,8 @@ pub fn wide(i: &Ins) -> bool { i.marks & WIDE != 0 }
 
 /// Refusals 1 and 2.
 pub fn code(words: &[u16]) -> Checked<Vec<Ins>> {
-    holds(words.len() % 6 == 0 && words.len() / 6 <= 65_535, No(1, words.len() as u64, 0))?;
-    let code: Vec<Ins> = words.chunks(6).map(|w| Ins { op: w[0], marks: w[1], a: w[2], b: w[3], c: w[4], x: w[5] }).collect();
+    holds(words.len().is_multiple_of(6) && words.len() / 6 <= 65_535, No(1, words.len() as u64, 0))?;
+    let code: Vec<Ins> = words.chunks(6).map(|w| Ins { op: Op(w[0]), marks: w[1], a: w[2], b: w[3], c: w[4], x: w[5] }).collect();
     let bad = (0..code.len()).find(|&k| !record(&code, k));
     holds(bad.is_none(), No(2, bad.unwrap_or(0) as u64, 0))?;
     Ok(code)
@@ -68,7 +68,7 @@ pub fn room(buffer: u64, have: usize, needed: usize) -> Checked<()> { holds(have
 /// An instruction of a chunk.
 #[derive(Clone, Copy, Debug, PartialEq, Eq)]
 pub struct Instruction {
-    pub op: u16,
+    pub op: Op,
     pub jump: bool,
     /// Whether it names a constant.
     pub names: bool,
@@ -76,18 +76,18 @@ pub struct Instruction {
 }
 
 impl Instruction {
-    pub fn words(&self) -> [u16; 3] { [self.op, u16::from(self.jump) * JUMP + u16::from(self.names) * NAMES, self.operand] }
+    pub fn words(&self) -> [u16; 3] { [self.op.0, u16::from(self.jump) * JUMP + u16::from(self.names) * NAMES, self.operand] }
 }
 
 /// Refusals 1 and 2 of a chunk.
 pub fn chunk(words: &[u16]) -> Checked<Vec<Instruction>> {
-    holds(words.len() % 3 == 0 && words.len() / 3 <= 65_535, No(1, words.len() as u64, 0))?;
-    let bad = words.chunks(3).position(|w| w[0] > LAST || w[1] & !(JUMP | NAMES) != 0 || !marked(&instruction(w)));
+    holds(words.len().is_multiple_of(3) && words.len() / 3 <= 65_535, No(1, words.len() as u64, 0))?;
+    let bad = words.chunks(3).position(|w| Op(w[0]) > LAST || w[1] & !(JUMP | NAMES) != 0 || !marked(&instruction(w)));
     holds(bad.is_none(), No(2, bad.unwrap_or(0) as u64, 0))?;
     Ok(words.chunks(3).map(instruction).collect())
 }
 
-fn instruction(w: &[u16]) -> Instruction { Instruction { op: w[0], jump: w[1] & JUMP != 0, names: w[1] & NAMES != 0, operand: w[2] } }
+fn instruction(w: &[u16]) -> Instruction { Instruction { op: Op(w[0]), jump: w[1] & JUMP != 0, names: w[1] & NAMES != 0, operand: w[2] } }
 
 /// The rules of the two marks: LoadConst always names a constant; a jump, a Phi and a folding operator never do; the jump mark
 /// is on none of LoadConst, Phi and the folding operators.

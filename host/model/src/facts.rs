@@ -1,6 +1,7 @@
 //! What document 01 takes as known of each opcode: a page of facts, tested against the Rust.
 
 use std::sync::LazyLock;
+use turniploom::Op;
 
 /// The facts of one opcode. Role bits are those of `kinds`.
 #[derive(Clone, Copy, Debug)]
@@ -27,7 +28,7 @@ static PAGE: LazyLock<Vec<Fact>> = LazyLock::new(|| {
     for line in include_str!("opcodes.tsv").lines().skip(1) {
         let f: Vec<&str> = line.split('\t').collect();
         let n = |k: usize| f[k].parse::<u8>().unwrap();
-        assert_eq!(turniploom::op::number(f[1]), Some(n(0).into()), "{line}");
+        assert_eq!(Op::named(f[1]), Some(Op(n(0).into())), "{line}");
         page[n(0) as usize] = Fact {
             jump: n(2) != 0,
             register: n(3) != 0,
@@ -42,4 +43,4 @@ static PAGE: LazyLock<Vec<Fact>> = LazyLock::new(|| {
 });
 
 /// The facts of a known opcode.
-pub fn fact(op: u16) -> &'static Fact { &PAGE[op as usize] }
+pub fn fact(op: impl Into<Op>) -> &'static Fact { &PAGE[op.into().0 as usize] }

@@ -1,7 +1,7 @@
 //! Folding and compaction of a chunk, and the clearing of its constants.
 
 use super::{code::Instruction, facts::fact};
-use turniploom::op;
+use turniploom::{Op, op};
 
 /// The single NaN that every NaN result becomes.
 pub const NAN: u64 = 0x7FF8_0000_0000_0000;
@@ -40,7 +40,7 @@ impl Constant {
 const INTS: std::ops::RangeInclusive<i128> = -140_737_488_355_328..=140_737_488_355_327;
 
 /// The fold of one operator over its operands. `nan` gives the bits that a NaN result becomes.
-fn folded(o: u16, operands: &[Constant], nan: &mut dyn FnMut(f64) -> u64) -> Option<Constant> {
+fn folded(o: Op, operands: &[Constant], nan: &mut dyn FnMut(f64) -> u64) -> Option<Constant> {
     let float = |c: Constant| match c {
         Int(i) => Some(i as f64),
         Float(f) => Some(f64::from_bits(f)),
@@ -80,7 +80,7 @@ fn folded(o: u16, operands: &[Constant], nan: &mut dyn FnMut(f64) -> u64) -> Opt
 fn whole(i: i128) -> Option<Constant> { INTS.contains(&i).then_some(Int(i as i64)) }
 
 /// Python's integers.
-fn ints(o: u16, i: i128, j: i128) -> Option<Constant> {
+fn ints(o: Op, i: i128, j: i128) -> Option<Constant> {
     let quotient = || (j != 0).then(|| (i - i.rem_euclid(j)) / j - i128::from(j < 0 && i.rem_euclid(j) != 0));
     let shift = (0..=62).contains(&j);
     match o {

@@ -1,6 +1,6 @@
 //! A question to one of the exported calls, and the reply: the same for the port, the Rust and the model.
 
-use turniploom::abi::{self, Answer, Kind, Param};
+use turniploom::abi::{self, Answer, Kind, Param, Width};
 
 macro_rules! calls {
     ($first:ident, $($name:ident),*) => {
@@ -55,6 +55,17 @@ impl Arg {
     pub fn u32(&mut self) -> &mut Vec<u32> { if let Arg::U32(v) = self { v } else { panic!("no u32 words") } }
     pub fn u64(&mut self) -> &mut Vec<u64> { if let Arg::U64(v) = self { v } else { panic!("no u64 words") } }
 
+    /// No number or an empty slice.
+    fn none(kind: Kind) -> Arg {
+        match kind {
+            Kind::Slice(Width::U8) | Kind::Buffer(Width::U8) => Arg::U8(vec![]),
+            Kind::Slice(Width::U16) | Kind::Buffer(Width::U16) => Arg::U16(vec![]),
+            Kind::Slice(Width::U32) | Kind::Buffer(Width::U32) => Arg::U32(vec![]),
+            Kind::Slice(Width::U64) | Kind::Buffer(Width::U64) => Arg::U64(vec![]),
+            _ => Arg::N(0),
+        }
+    }
+
     /// The numbers of the argument, a slice's length first.
     pub fn numbers(&self) -> Vec<u64> {
         fn all<T: Copy + Into<u64>>(v: &[T]) -> Vec<u64> { std::iter::once(v.len() as u64).chain(v.iter().map(|&w| w.into())).collect() }
@@ -76,6 +87,16 @@ pub struct Question {
 }
 
 impl Question {
+    /// A call with these arguments, by name and in any order; one that is not given is 0 or empty.
+    pub fn of<const N: usize>(call: Call, mut given: [(&str, Arg); N]) -> Question {
+        for (name, _) in &given { assert!(call.takes(name), "{} has no {name}", call.name()) }
+        let args = call.params().iter().map(|p| match given.iter_mut().find(|(name, _)| *name == p.name) {
+            Some((_, arg)) => std::mem::replace(arg, Arg::N(0)),
+            None => Arg::none(p.kind),
+        });
+        Question { call, args: args.collect() }
+    }
+
     /// The argument of that name.
     pub fn arg(&self, name: &str) -> &Arg { &self.args[self.place(name)] }
 

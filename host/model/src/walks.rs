@@ -1,9 +1,9 @@
 //! Walks over whole code, and the callee trace.
 
 use super::{code::{is_call, wide}, facts::fact, roles::*};
-use turniploom::{Ins, REGISTER, op};
+use turniploom::{Ins, Op, REGISTER, op};
 
-fn is(code: &[Ins], k: usize, op: u16) -> bool { code.get(k).is_some_and(|i| i.op == op) }
+fn is(code: &[Ins], k: usize, op: Op) -> bool { code.get(k).is_some_and(|i| i.op == op) }
 
 /// Where the result of the call at `k` is stored: past the ArgsR of a wide one.
 pub fn store(code: &[Ins], k: usize) -> usize { if wide(&code[k]) { k + 2 } else { k + 1 } }
@@ -36,7 +36,7 @@ fn stack_laid(code: &[Ins], k: usize, yields: bool) -> bool {
 }
 
 pub fn gen_pure(code: &[Ins]) -> bool {
-    let none = |ops: &[u16]| !code.iter().any(|i| ops.contains(&i.op));
+    let none = |ops: &[Op]| !code.iter().any(|i| ops.contains(&i.op));
     let phis = (0..code.len()).filter(|&k| code[k].op == op::Phi).all(|k| dead_phi(code, k, code[k].a));
     laid(code, true) && phis && none(&[op::MakeFunction, op::MakeCoroutine]) && returns_outside(code)
 }

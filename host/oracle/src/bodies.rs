@@ -1,7 +1,7 @@
 //! Random code, made of fragments that belong together, so that every call answers both ways often.
 
 use crate::{model::{code::is_call, facts::fact, roles}, question::*, rng::Rng};
-use turniploom::{DUNDER, Ins, REGISTER, WIDE, op};
+use turniploom::{DUNDER, Ins, Op, REGISTER, WIDE, op};
 
 /// A piece of code.
 #[derive(Clone, Copy)]
@@ -67,7 +67,7 @@ pub struct Body<'r> {
     clean: bool,
 }
 
-const FOUR: [u16; 4] = [op::CallGlobalR, op::CallR, op::CallMethodR, op::CallSpreadR];
+const FOUR: [Op; 4] = [op::CallGlobalR, op::CallR, op::CallMethodR, op::CallSpreadR];
 
 /// Valid code for `call`, its registers mostly below `registers`.
 pub fn body(rng: &mut Rng, call: Call, registers: usize) -> Vec<Ins> {
@@ -100,17 +100,17 @@ impl Body<'_> {
         }
     }
 
-    fn push(&mut self, o: u16, a: u16, b: u16, c: u16, x: u16) { self.code.push(Ins { op: o, marks: 0, a, b, c, x }) }
+    fn push(&mut self, o: Op, a: u16, b: u16, c: u16, x: u16) { self.code.push(Ins { op: o, marks: 0, a, b, c, x }) }
 
     /// An instruction with registers in all its fields.
-    fn on_registers(&mut self, o: u16, x: u16) {
+    fn on_registers(&mut self, o: Op, x: u16) {
         let (a, b, c) = (self.reg(), self.reg(), self.reg());
         self.push(o, a, b, c, x);
     }
 
-    fn any_of(&mut self, fits: fn(u16) -> bool) -> u16 {
+    fn any_of(&mut self, fits: fn(Op) -> bool) -> Op {
         loop {
-            let o = self.rng.pick(&op::ALL).0;
+            let o = self.rng.pick(&op::ALL);
             if fits(o) { return o }
         }
     }
@@ -118,7 +118,7 @@ impl Body<'_> {
     fn add(&mut self, piece: Piece) {
         match piece {
             Plain => {
-                let plain = |o: u16| fact(o).register && !FOUR.contains(&o) && !fact(o).role.iter().any(|&r| r & (roles::JUMPS | roles::NONE) != 0) && ![op::ArgsR, op::PushRegs, op::ReturnR].contains(&o);
+                let plain = |o: Op| fact(o).register && !FOUR.contains(&o) && !fact(o).role.iter().any(|&r| r & (roles::JUMPS | roles::NONE) != 0) && ![op::ArgsR, op::PushRegs, op::ReturnR].contains(&o);
                 let o = self.any_of(plain);
                 let x = self.rng.below(4) as u16;
                 self.on_registers(o, x);
@@ -196,7 +196,7 @@ impl Body<'_> {
                 self.push(o, a, 0, 0, 0);
             }
             Any => {
-                let o = self.rng.below(191) as u16;
+                let o = Op(self.rng.below(191) as u16);
                 let x = self.rng.pick(&[0, 0, 1, 2, 3, 4, 5, 255]);
                 self.on_registers(o, x);
             }
@@ -258,7 +258,7 @@ impl Body<'_> {
             if self.code.is_empty() { return }
             let k = self.rng.below(self.code.len());
             match self.rng.below(6) {
-                0 => self.code[k].op = self.rng.below(191) as u16,
+                0 => self.code[k].op = Op(self.rng.below(191) as u16),
                 1 => self.code[k].a = self.reg(),
                 2 => self.code[k].b = self.reg(),
                 3 => self.code[k].c = self.reg(),
@@ -270,13 +270,13 @@ impl Body<'_> {
 
     /// Sets the marks: mostly as the Rust's own tests would have them.
     fn mark(&mut self) {
-        let dunder = [self.rng.next() & self.rng.next(), self.rng.next() & self.rng.next(), self.rng.next() & self.rng.next()];
+        let dunder = [self.rng.word() & self.rng.word(), self.rng.word() & self.rng.word(), self.rng.word() & self.rng.word()];
         let (some, honest) = (self.rng.once_in(2), !self.rng.once_in(10));
         for i in &mut self.code {
-            if i.op > 190 { continue }
-            let is = some && dunder[i.op as usize / 64] >> (i.op % 64) & 1 != 0;
+            if i.op.0 > 190 { continue }
+            let is = some && dunder[i.op.0 as usize / 64] >> (i.op.0 % 64) & 1 != 0;
             i.marks = if is { DUNDER } else { 0 } | if fact(i.op).register { REGISTER } else { 0 };
-            if !honest || i.op == 0 { i.marks = self.rng.below(8) as u16 & !WIDE }
+            if !honest || i.op == Op::OTHER { i.marks = self.rng.below(8) as u16 & !WIDE }
         }
         for k in 1..self.code.len() {
             if self.code[k].op == op::ArgsR && is_call(&self.code[k - 1]) && !self.rng.once_in(8) { self.code[k - 1].marks |= WIDE }
@@ -289,7 +289,7 @@ pub fn mend(code: &mut [Ins]) {
     for k in 0..code.len() {
         let next_args = code.get(k + 1).is_some_and(|n| n.op == op::ArgsR);
         let i = &mut code[k];
-        if i.op > 190 || i.op == op::ArgsR && k == 0 { i.op = 0 }
+        if i.op.0 > 190 || i.op == op::ArgsR && k == 0 { i.op = Op::OTHER }
         i.marks &= WIDE | DUNDER | REGISTER;
         if !is_call(i) || !next_args { i.marks &= !WIDE }
         i.x = match i.op {
@@ -312,7 +312,7 @@ pub fn damage(rng: &mut Rng, code: &[Ins]) -> Vec<u16> {
         let k = rng.below(code.len());
         let i = &mut code[k];
         match rng.below(12) {
-            0 => i.op = rng.pick(&[191, 192, 255, 256, 65_535]),
+            0 => i.op = Op(rng.pick(&[191, 192, 255, 256, 65_535])),
             1 => i.marks |= rng.pick(&[8, 16, 0x8000]),
             2 => i.marks |= WIDE,
             3 => i.x = rng.pick(&[256, 257, 65_535]),
@@ -323,7 +323,7 @@ pub fn damage(rng: &mut Rng, code: &[Ins]) -> Vec<u16> {
             8 => (i.op, i.x, i.b) = (op::WithEnter, rng.pick(&[0, 1, 2]), rng.pick(&[65_533, 65_534, 65_535])),
             9 => (i.op, i.x, i.b) = (op::WithExit, rng.pick(&[0, 1, 2]), rng.pick(&[65_530, 65_531, 65_535])),
             10 => (i.op, i.marks) = (op::ArgsR, WIDE),
-            _ => i.op = rng.below(256) as u16,
+            _ => i.op = Op(rng.below(256) as u16),
         }
     }
     let mut words = turniploom::abi::words(&code).to_vec();

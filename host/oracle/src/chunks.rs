@@ -1,9 +1,9 @@
 //! Random chunks: constants, operators over them, jumps among them, Phis, and tables that follow.
 
 use crate::{model::facts::fact, question::*, questions::lend, rng::Rng};
-use turniploom::{JUMP, NAMES, op::{self, *}};
+use turniploom::{JUMP, NAMES, Op, op::{self, *}};
 
-const BINARY: [u16; 17] = [Add, Sub, Mul, Div, Mod, FloorDiv, Eq, NotEq, Lt, Gt, LtEq, GtEq, BitAnd, BitOr, BitXor, Shl, Shr];
+const BINARY: [Op; 17] = [Add, Sub, Mul, Div, Mod, FloorDiv, Eq, NotEq, Lt, Gt, LtEq, GtEq, BitAnd, BitOr, BitXor, Shl, Shr];
 const LEAST: i64 = -140_737_488_355_328;
 const INTS: [i64; 28] = [
     0, 1, -1, 2, -2, 3, 7, -7, 10, 46, 47, 48, 61, 62, 63, 64, LEAST, LEAST + 1, -LEAST, -LEAST - 1, LEAST - 1, 1 << 24, -(1 << 23), 1 << 46, 11_863_283, i64::MIN, i64::MAX, 255,
@@ -14,11 +14,11 @@ const FLOATS: [f64; 18] = [
 
 fn constant(rng: &mut Rng) -> (u8, u64) {
     match rng.below(20) {
-        0 => (0, rng.next()),
+        0 => (0, rng.word()),
         1 => (3, rng.below(2) as u64),
         2..12 => (1, rng.pick(&INTS) as u64),
-        12 => (1, (rng.next() as i64 >> 17) as u64),
-        13 => (2, rng.next()),
+        12 => (1, (rng.word() as i64 >> 17) as u64),
+        13 => (2, rng.word()),
         14 => (2, rng.pick(&[0xFFF8_0000_0000_0000, 0x7FF8_0000_0000_0001, 0xFFF0_0000_0000_0001, 0x7FF0_0000_0000_0001])),
         _ => (2, rng.pick(&FLOATS).to_bits()),
     }
@@ -41,7 +41,7 @@ pub fn random(rng: &mut Rng) -> Question {
     let full = rng.once_in(4_000);
     let count = if full { 65_534 + rng.below(3) } else { rng.pick(&[0, 1, 2, 3, 4, 6, 9]) };
     for _ in 0..count {
-        let (k, w) = if full { (1, rng.next() % 97 + 1_000) } else { constant(rng) };
+        let (k, w) = if full { (1, rng.word() % 97 + 1_000) } else { constant(rng) };
         c.kinds.push(k);
         c.words.push(w);
     }
@@ -54,26 +54,26 @@ pub fn random(rng: &mut Rng) -> Question {
 }
 
 fn piece(rng: &mut Rng, c: &mut Chunk, count: usize) {
-    let load = |rng: &mut Rng| [LoadConst, NAMES, if rng.once_in(30) { rng.pick(&[count, count + 1, 65_535]) } else { rng.below(count.clamp(1, 6)) } as u16];
+    let load = |rng: &mut Rng| [LoadConst.0, NAMES, if rng.once_in(30) { rng.pick(&[count, count + 1, 65_535]) } else { rng.below(count.clamp(1, 6)) } as u16];
     match rng.below(16) {
         0..7 => {
             let (a, b) = (load(rng), load(rng));
             let o = rng.pick(&BINARY);
-            c.code.extend([a, b, [o, 0, 0]]);
+            c.code.extend([a, b, [o.0, 0, 0]]);
         }
         7 | 8 => {
             let (a, o) = (load(rng), rng.pick(&[Not, Minus]));
-            c.code.extend([a, [o, 0, 0]]);
+            c.code.extend([a, [o.0, 0, 0]]);
         }
         9 => c.code.push(load(rng)),
-        10 => c.code.push([rng.pick(&BINARY), 0, 0]),
-        11 => c.code.push([rng.pick(&[Not, Minus]), 0, 0]),
+        10 => c.code.push([rng.pick(&BINARY).0, 0, 0]),
+        11 => c.code.push([rng.pick(&[Not, Minus]).0, 0, 0]),
         12 | 13 => {
             // Before an operand, where a jump may skip into what would fold.
-            c.code.push([rng.pick(&[Jump, JumpIfFalse, JumpIfFalseOrPop, JumpIfTrueOrPop, ForIter, SetupExcept, SetupFinally]), JUMP, 0]);
+            c.code.push([rng.pick(&[Jump, JumpIfFalse, JumpIfFalseOrPop, JumpIfTrueOrPop, ForIter, SetupExcept, SetupFinally]).0, JUMP, 0]);
         }
-        14 => c.code.push([op::Phi, 0, rng.below(3) as u16]),
-        _ => c.code.push([rng.pick(&[LoadTrue, LoadNone, LoadName, PopTop, Pow, JumpIfFalseR, 0]), 0, rng.below(4) as u16]),
+        14 => c.code.push([op::Phi.0, 0, rng.below(3) as u16]),
+        _ => c.code.push([rng.pick(&[LoadTrue, LoadNone, LoadName, PopTop, Pow, JumpIfFalseR, Op::OTHER]).0, 0, rng.below(4) as u16]),
     }
 }
 
@@ -82,7 +82,7 @@ fn aim(rng: &mut Rng, c: &mut Chunk) {
     let n = c.code.len();
     let strange = rng.once_in(12);
     for k in 0..n {
-        let o = c.code[k][0];
+        let o = Op(c.code[k][0]);
         let free = o != LoadConst && o != op::Phi && fact(o).folding == 0;
         if strange && free && rng.once_in(3) { c.code[k][1] ^= JUMP }
         // Other opcodes may name constants too.
@@ -106,7 +106,7 @@ fn tables(rng: &mut Rng, c: &mut Chunk) {
         c.phi_sources.extend([a, if rng.once_in(2) { a } else { rng.below(3) as u16 }]);
     }
     if !rng.once_in(4) { c.phi_map = (0..n).map(|_| if rng.once_in(12) { rng.pick(&[4, 5, u32::MAX]) } else { rng.below(pairs + 1) as u32 }).collect() }
-    for _ in 0..rng.below(4) { c.stmt_pos.extend([rng.below(n + 3) as u32, rng.next() as u32]) }
+    for _ in 0..rng.below(4) { c.stmt_pos.extend([rng.below(n + 3) as u32, rng.word() as u32]) }
     for _ in 0..rng.below(3) { c.call_byte_pos.extend([if rng.once_in(8) { u32::MAX } else { rng.below(n + 2) as u32 }, 7]) }
 }
 
@@ -122,8 +122,8 @@ fn buffer<T: Copy + TryFrom<u64>>(rng: &mut Rng, table: &[T], needed: usize) -> 
 fn lent(rng: &mut Rng, c: Chunk) -> Question {
     let n = c.code.len();
     let mut code = c.code.as_flattened().to_vec();
-    let counted = |pred: fn(u16) -> bool| c.code.iter().filter(|i| i[0] <= 190 && pred(i[0])).count();
-    let room = c.kinds.len().max((c.kinds.len() + counted(|o| fact(o).folding != 0)).min(65_535));
+    let counted = |pred: fn(Op) -> bool| c.code.iter().filter(|i| pred(Op(i[0]))).count();
+    let room = c.kinds.len().max((c.kinds.len() + counted(Op::folds)).min(65_535));
     let sources = c.phi_sources.len().max(2 * counted(|o| o == op::Phi));
     let mut counts = [c.kinds.len(), c.phi_map.len(), c.phi_sources.len(), c.stmt_pos.len(), c.call_byte_pos.len()].map(|v| v as u64);
     let (mut kinds, mut words) = (buffer(rng, &c.kinds, room), buffer(rng, &c.words, room));
@@ -136,20 +136,21 @@ fn lent(rng: &mut Rng, c: Chunk) -> Question {
         4 => { code.push(0) }
         _ => {}
     }
-    let args = vec![
-        Arg::U16(code), Arg::U8(kinds), Arg::U64(words), Arg::N(counts[0]),
-        Arg::U32(buffer(rng, &c.phi_map, n)), Arg::N(counts[1]), Arg::U16(buffer(rng, &c.phi_sources, sources)), Arg::N(counts[2]),
-        Arg::U32(buffer(rng, &c.stmt_pos, 0)), Arg::N(counts[3]), Arg::U32(buffer(rng, &c.call_byte_pos, 0)), Arg::N(counts[4]),
-        Arg::U8(lend(rng, n)), Arg::U32(lend(rng, n + 1)), Arg::N(rng.once_in(3).into()),
-    ];
-    Question { call: Fold, args }
+    Question::of(Fold, [
+        ("code", Arg::U16(code)), ("kinds", Arg::U8(kinds)), ("words", Arg::U64(words)), ("constants", Arg::N(counts[0])),
+        ("phi_map", Arg::U32(buffer(rng, &c.phi_map, n))), ("phi_map_count", Arg::N(counts[1])),
+        ("phi_sources", Arg::U16(buffer(rng, &c.phi_sources, sources))), ("phi_sources_count", Arg::N(counts[2])),
+        ("stmt_pos", Arg::U32(buffer(rng, &c.stmt_pos, 0))), ("stmt_pos_count", Arg::N(counts[3])),
+        ("call_byte_pos", Arg::U32(buffer(rng, &c.call_byte_pos, 0))), ("call_byte_pos_count", Arg::N(counts[4])),
+        ("dead", Arg::U8(lend(rng, n))), ("remap", Arg::U32(lend(rng, n + 1))), ("strict", Arg::N(rng.once_in(3).into())),
+    ])
 }
 
 /// An instruction whose opcode or marks may break a record rule: often bit 1, missing or set.
 fn damage(rng: &mut Rng, code: &mut [u16]) {
     let k = rng.below(code.len() / 3);
     if rng.once_in(2) { return code[3 * k + 1] ^= NAMES }
-    code[3 * k] = rng.pick(&[191, 256, 0, LoadConst, Phi, Add, Not, Jump]);
+    code[3 * k] = rng.pick(&[Op(191), Op(256), Op::OTHER, LoadConst, Phi, Add, Not, Jump]).0;
     code[3 * k + 1] = rng.pick(&[0, 1, 2, 3, 4, 0x8000]);
 }
 
@@ -181,7 +182,9 @@ fn clearing(rng: &mut Rng, c: Chunk) -> Question {
         _ => {}
     }
     let scratch = lend(rng, c.kinds.len());
-    Question { call: Clear, args: vec![Arg::U16(code), Arg::U8(kinds), Arg::U64(words), Arg::N(count), Arg::U32(scratch)] }
+    Question::of(Clear, [
+        ("code", Arg::U16(code)), ("kinds", Arg::U8(kinds)), ("words", Arg::U64(words)), ("constants", Arg::N(count)), ("scratch", Arg::U32(scratch)),
+    ])
 }
 
 /// Some 300 telling constants: powers of two and their neighbours up to and past the limits, zeros of both signs, NaNs with
@@ -208,20 +211,31 @@ fn pool(pair: &[(u8, u64)], code: Vec<[u16; 3]>) -> Chunk {
     Chunk { code, kinds: pair.iter().map(|p| p.0).collect(), words: pair.iter().map(|p| p.1).collect(), ..Chunk::default() }
 }
 
-/// Every operator over every pair of constants.
-pub fn pairs(rng: &mut Rng, constants: &[(u8, u64)], take: &mut dyn FnMut(Question)) {
-    for &a in constants {
-        for o in [Not, Minus] { take(lent(rng, pool(&[a], vec![[LoadConst, NAMES, 0], [o, 0, 0]]))) }
-        for &b in constants {
-            for o in BINARY { take(lent(rng, pool(&[a, b], vec![[LoadConst, NAMES, 0], [LoadConst, NAMES, 1], [o, 0, 0]]))) }
-        }
+/// Every operator over `a` and each of the constants after it.
+fn pairs(a: (u8, u64), constants: &[(u8, u64)], take: &mut dyn FnMut(Chunk)) {
+    for o in [Not, Minus] { take(pool(&[a], vec![[LoadConst.0, NAMES, 0], [o.0, 0, 0]])) }
+    for &b in constants {
+        for o in BINARY { take(pool(&[a, b], vec![[LoadConst.0, NAMES, 0], [LoadConst.0, NAMES, 1], [o.0, 0, 0]])) }
     }
+}
+
+/// The same as questions that the Rust answers, every one: plain mode, and each buffer as long as it needs to be.
+pub fn plain_pairs(a: (u8, u64), constants: &[(u8, u64)], take: &mut dyn FnMut(Question)) {
+    pairs(a, constants, &mut |mut c| {
+        let (n, count) = (c.code.len(), c.kinds.len() as u64);
+        c.kinds.push(0);
+        c.words.push(0);
+        take(Question::of(Fold, [
+            ("code", Arg::U16(c.code.into_flattened())), ("kinds", Arg::U8(c.kinds)), ("words", Arg::U64(c.words)), ("constants", Arg::N(count)),
+            ("phi_map", Arg::U32(vec![0; n])), ("dead", Arg::U8(vec![9; n])), ("remap", Arg::U32(vec![9; n + 1])),
+        ]))
+    });
 }
 
 /// Every opcode with every mark that it may or may not have.
 fn every_mark(rng: &mut Rng, lent: fn(&mut Rng, Chunk) -> Question, take: &mut dyn FnMut(Question)) {
     for o in (0..193).chain([256, 65_535]) {
-        for marks in [0, 1, 2, 3, 4, 5, 6, 0x8000] { take(lent(rng, pool(&[(1, 7), (2, 9)], vec![[LoadNone, 0, 0], [o, marks, 1]]))) }
+        for marks in [0, 1, 2, 3, 4, 5, 6, 0x8000] { take(lent(rng, pool(&[(1, 7), (2, 9)], vec![[LoadNone.0, 0, 0], [o, marks, 1]]))) }
     }
 }
 
@@ -231,12 +245,12 @@ pub fn systematic_clear(rng: &mut Rng, take: &mut dyn FnMut(Question)) {
     let constants = [(1, 5), (2, 6), (3, 1), (0, 8)];
     for count in 0..=4 {
         for (a, b, c) in (0..6).flat_map(|a| (0..6).flat_map(move |b| (0..6).map(move |c| (a, b, c)))) {
-            take(clearing(rng, pool(&constants[..count], vec![[LoadConst, NAMES, a], [LoadName, NAMES, b], [LoadName, 0, c]])));
+            take(clearing(rng, pool(&constants[..count], vec![[LoadConst.0, NAMES, a], [LoadName.0, NAMES, b], [LoadName.0, 0, c]])));
         }
     }
     for (n, count) in [(65_535, 65_536), (65_536, 3), (65_535, 1), (3, 65_536), (3, 65_537)] {
         let constants: Vec<(u8, u64)> = (0..count as u64).map(|k| (1, k)).collect();
-        let code = (0..n).map(|k| if k % 3 == 0 { [LoadConst, NAMES, (k * 7 % 65_536) as u16] } else { [PopTop, 0, 0] }).collect();
+        let code = (0..n).map(|k| if k % 3 == 0 { [LoadConst.0, NAMES, (k * 7 % 65_536) as u16] } else { [PopTop.0, 0, 0] }).collect();
         take(clearing(rng, pool(&constants, code)));
     }
 }
@@ -246,9 +260,9 @@ pub fn systematic(rng: &mut Rng, take: &mut dyn FnMut(Question)) {
     every_mark(rng, lent, take);
     let mut constants: Vec<(u8, u64)> = INTS.iter().map(|&i| (1, i as u64)).chain(FLOATS.iter().map(|f| (2, f.to_bits()))).collect();
     constants.extend([(3, 0), (3, 1), (0, 5), (2, 0xFFF8_0000_0000_0000), (2, 0x7FF0_0000_0000_0001)]);
-    pairs(rng, &constants, take);
+    for &a in &constants { pairs(a, &constants, &mut |c| take(lent(rng, c))) }
     for n in [65_535, 65_536] {
-        let code = (0..n).map(|k| match k % 8 { 0 | 1 => [LoadConst, NAMES, 0], 2 => [Add, 0, 0], 3 => [Jump, JUMP, (k % 65_536) as u16], _ => [PopTop, 0, 0] }).collect();
+        let code = (0..n).map(|k| match k % 8 { 0 | 1 => [LoadConst.0, NAMES, 0], 2 => [Add.0, 0, 0], 3 => [Jump.0, JUMP, (k % 65_536) as u16], _ => [PopTop.0, 0, 0] }).collect();
         take(lent(rng, pool(&[(1, 1)], code)));
     }
 }

@@ -11,7 +11,7 @@ fn question(rng: &mut Rng, call: Call) -> Question {
     for _ in 0..rng.below(4) {
         let k = rng.below(q.args.len());
         let extreme = rng.pick(&[0, 1, 255, 256, 1_024, 1_025, 65_535, 65_536, u64::from(u32::MAX), u64::MAX, u64::MAX / 2 + 1]);
-        let number = rng.next();
+        let number = rng.word();
         match &mut q.args[k] {
             Arg::N(v) if call.params()[k].kind == Kind::Bool => *v ^= 1,
             Arg::N(v) => *v = extreme,
@@ -47,31 +47,29 @@ fn narrowed(mut q: Question) -> Question {
     q
 }
 
-/// Asks the questions of one round of one call, telling of each before it is asked if `each`. Gives the wrong replies.
-fn round(call: Call, seed: u64, round: u64, questions: u64, house: &mut impl House, compared: bool, each: bool) -> usize {
+/// Asks the questions of one round of one call, telling of each before it is asked if `each`. Says whether it came to the end: it stops
+/// at the first wrong reply, which is then the last one told.
+fn round(call: Call, seed: u64, round: u64, questions: u64, house: &mut impl House, compared: bool, each: bool) -> bool {
     let mut rng = Rng::new(seed, round * 32 + call as u64);
-    (0..questions).filter(|k| {
+    (0..questions).all(|k| {
         let q = narrowed(question(&mut rng, call));
         if each { println!("# {} question {k}\n{}", call.name(), notation::asked(&q)) }
         let port = port::ask_in(house, &q);
-        compared && port != model::ask(&q)
-    }).count()
+        !compared || port == model::ask(&q)
+    })
 }
 
-/// What this program does when it is started by `watch`: all rounds, a line before each.
+/// What this program does when it is started by `watch`: all rounds, a line before each, up to the first wrong reply.
 pub fn inside(calls: &[Call], seed: u64, rounds: std::ops::Range<u64>, questions: u64, alone: bool, each: bool) -> bool {
-    let mut wrong = 0;
     let mut pages = (!alone).then(Pages::new);
-    for r in rounds {
-        for &call in calls {
-            println!("at {} {r}", call.name());
-            wrong += match &mut pages {
-                None => round(call, seed, r, questions, &mut Alone, false, each),
-                Some(p) => { p.starts = r % 4 == 3; round(call, seed, r, questions, p, true, each) }
-            };
+    let mut asked = rounds.flat_map(|r| calls.iter().map(move |&call| (r, call)));
+    asked.all(|(r, call)| {
+        println!("at {} {r}", call.name());
+        match &mut pages {
+            None => round(call, seed, r, questions, &mut Alone, false, each),
+            Some(p) => { p.starts = r % 4 == 3; round(call, seed, r, questions, p, true, each) }
         }
-    }
-    wrong == 0
+    })
 }
 
 /// Runs this program again as `inside`, under valgrind or not, and says how it ended and which round came last.
@@ -110,7 +108,8 @@ pub fn watch(calls: &[Call], seed: u64, rounds: u64) -> Result<bool, String> {
             }
             return Ok(false);
         }
-        println!("no bad access in {} hostile questions to {} calls, {what}", rounds * questions * calls.len() as u64, calls.len());
+        let (found, asked) = (if valgrind { "no bad access" } else { "no bad access and no wrong reply" }, rounds * questions * calls.len() as u64);
+        println!("{found} in {asked} hostile questions to {}, {what}", listing::count(calls.len(), "call"));
     }
     Ok(true)
 }

@@ -1,13 +1,14 @@
 //! The command of the comparison.
 
-use oracle::{compare::{Comparison, Until, Whom}, hostile, question::Call, record};
+use oracle::{compare::{Comparison, Until}, hostile, model, port, question::Call, record};
 use std::{env, process::ExitCode, thread};
 
-const USE: &str = "oracle [--seed S] [--rounds R | --minutes M] [--threads T]         compare the port with the Rust and the model, on every call
-oracle model [--seed S] [--rounds R | --minutes M] [--threads T]   compare the model with the Rust, on every call
-oracle constants                                                   every folding operator over every pair of some 300 constants
-oracle hostile [--seed S] [--rounds R] [--calls NAME,..]           hostile input, watched for bad access by guard pages and by valgrind
-oracle record FILE [--seed S] [--calls NAME,..]                    write recorded answers
+const USE: &str = "oracle [--seed S] [--rounds R | --minutes M] [--threads T]         compare the port with the Rust and the model
+oracle model [--seed S] [--rounds R | --minutes M] [--threads T]   compare the model with the Rust
+oracle constants [--threads T]                                     every folding operator over every pair of some 300 constants
+oracle hostile [--seed S] [--rounds R]                             hostile input, watched for bad access by guard pages and by valgrind
+oracle record FILE [--seed S]                                      write recorded answers
+--calls NAME,.. asks these calls alone; without it, every call is asked.
 A round asks 1,000 random questions of each call; the systematic questions come once, before them.";
 
 struct Options {
@@ -54,24 +55,26 @@ fn options() -> Result<Options, String> {
 
 fn run() -> Result<bool, String> {
     let o = options()?;
-    let compare = |whom| {
-        std::panic::set_hook(Box::new(|_| {}));
-        let comparison = Comparison::new(whom);
-        let until = o.minutes.map_or(Until::Rounds(o.rounds.unwrap_or(100)), Until::Minutes);
-        comparison.run(o.seed, until, o.threads);
-        Ok(comparison.report())
-    };
     let words: Vec<&str> = o.words.iter().map(String::as_str).collect();
     let calls: Vec<Call> = if o.calls.is_empty() { Call::ALL.to_vec() } else { o.calls.clone() };
+    let compared = |alone: bool, constants: bool| {
+        // A panic is told with its question.
+        std::panic::set_hook(Box::new(|_| {}));
+        let comparison = Comparison::of((!alone).then_some(port::ask), model::ask, &calls);
+        let report = if constants {
+            comparison.constants(o.threads);
+            comparison.report_of_constants()
+        } else {
+            comparison.run(o.seed, o.minutes.map_or(Until::Rounds(o.rounds.unwrap_or(100)), Until::Minutes), o.threads);
+            comparison.report()
+        };
+        print!("{}", report.text);
+        Ok(report.well)
+    };
     match words[..] {
-        [] => compare(Whom::Port),
-        ["model"] => compare(Whom::ModelAlone),
-        ["constants"] => {
-            std::panic::set_hook(Box::new(|_| {}));
-            let comparison = Comparison::new(Whom::Port);
-            comparison.constants();
-            Ok(comparison.report())
-        }
+        [] => compared(false, false),
+        ["model"] => compared(true, false),
+        ["constants"] => compared(false, true),
         ["hostile"] if o.inside => {
             let rounds = o.only.map_or(1..o.rounds.unwrap_or(1) + 1, |r| r..r + 1);
             Ok(hostile::inside(&calls, o.seed, rounds, o.questions, o.alone, o.each))

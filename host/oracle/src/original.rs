@@ -3,19 +3,20 @@
 use crate::{model::{self, code::Instruction, facts::fact, fold::{Chunk, Constant}, rows}, question::*};
 use original::{optimizer::constant_fold, parser::{self, EVERY, OpCode, SSAChunk, Value}, vm::{block::open as rust, lower}};
 use std::sync::LazyLock;
-use turniploom::{DUNDER, Ins, JUMP, NAMES, REGISTER, WIDE, op};
+use turniploom::{DUNDER, Ins, JUMP, NAMES, Op, REGISTER, WIDE, op};
 
 /// The Rust's opcode for each number but 0.
 static NAMED: LazyLock<Vec<OpCode>> = LazyLock::new(|| {
     let by_name = |name: &str| *EVERY.iter().find(|o| format!("{o:?}") == name).unwrap_or_else(|| panic!("the Rust has no {name}"));
     let mut named = vec![OpCode::And; op::ALL.len() + 1];
-    for (number, name) in op::ALL { named[number as usize] = by_name(name) }
+    for o in op::ALL { named[o.0 as usize] = by_name(&o.to_string()) }
     named
 });
 
 /// The Rust's opcode for a number and its marks. Opcode 0 stands for four that block.rs and optimizer.rs do not name: whether
 /// a dunder may run it, and whether it is a register form.
-pub fn opcode(number: u16, marks: u16) -> OpCode {
+pub fn opcode(number: impl Into<Op>, marks: u16) -> OpCode {
+    let Op(number) = number.into();
     match (number, marks & DUNDER != 0, marks & REGISTER != 0) {
         (0, false, false) => OpCode::And,
         (0, false, true) => OpCode::TurnR,
@@ -26,7 +27,7 @@ pub fn opcode(number: u16, marks: u16) -> OpCode {
 }
 
 /// The number of one of the Rust's opcodes.
-pub fn number(o: OpCode) -> u16 { (1..NAMED.len()).find(|&k| NAMED[k] == o).unwrap_or(0) as u16 }
+pub fn number(o: OpCode) -> Op { Op((1..NAMED.len()).find(|&k| NAMED[k] == o).unwrap_or(0) as u16) }
 
 /// The Rust's reply laid over the model's, or none where it can't say: to what it is never asked, in strict mode, and where
 /// marks differ from its own tests.
@@ -140,7 +141,7 @@ fn folding(q: &Question, reply: &mut Reply) -> Option<()> {
     let mut folded = plain(&chunk);
     // The Rust has no marks: a survivor has its own, and what folded to a bool dropped it.
     let live = (0..n).filter(|&k| remap[k] < remap[k + 1]).map(|k| &words[3 * k..3 * k + 3]);
-    for (i, old) in folded.code.iter_mut().zip(live) { i.names = i.op == op::LoadConst || old[0] == i.op && old[1] & NAMES != 0 }
+    for (i, old) in folded.code.iter_mut().zip(live) { i.names = i.op == op::LoadConst || Op(old[0]) == i.op && old[1] & NAMES != 0 }
     let a = &mut reply.answer;
     (a.first, a.second, a.third, a.fourth) =
         (folded.code.len() as u64, folded.constants.len() as u64, folded.phi_map.len() as u64, 2 * folded.phi_sources.len() as u64);
@@ -148,7 +149,7 @@ fn folding(q: &Question, reply: &mut Reply) -> Option<()> {
     reply.lent = q.lent();
     for k in 0..n { reply.lent.u8("dead")[k] = u8::from(remap[k] == remap[k + 1]) }
     if died || folded.constants.len() != lent_constants {
-        let phis = words.chunks(3).filter(|w| w[0] == op::Phi).count();
+        let phis = words.chunks(3).filter(|w| Op(w[0]) == op::Phi).count();
         model::lay_chunk(&folded, &mut reply.lent, n, 2 * pairs.max(phis));
         reply.lent.u32("remap")[..=n].copy_from_slice(&remap);
     }

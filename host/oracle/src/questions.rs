@@ -1,7 +1,7 @@
 //! The questions: systematic ones, the same at every seed, and random ones.
 
 use crate::{bodies::{body, damage}, chunks, model::code::is_call, question::*, rng::Rng};
-use turniploom::{Ins, WIDE, abi::{self, Kind, Width}, op};
+use turniploom::{Ins, Op, WIDE, abi::{self, Kind, Width}, op};
 
 /// A random question of a call.
 pub fn random(rng: &mut Rng, call: Call) -> Question {
@@ -101,7 +101,7 @@ pub fn lend<T: Copy + TryFrom<u64>>(rng: &mut Rng, needed: usize) -> Vec<T> {
 fn junk<T: Copy + TryFrom<u64>>(rng: &mut Rng, length: usize) -> Vec<T> {
     let full = rng.once_in(8);
     let bits = if full { 8 * size_of::<T>() } else { 8 };
-    (0..length).map(|_| T::try_from(rng.next() >> (64 - bits)).ok().expect("a word of its width")).collect()
+    (0..length).map(|_| T::try_from(rng.word() >> (64 - bits)).ok().expect("a word of its width")).collect()
 }
 
 /// Tries, mostly good.
@@ -130,7 +130,7 @@ fn every_opcode(rng: &mut Rng, call: Call, take: &mut dyn FnMut(Question)) {
             for a in [0, 1, 65_535] {
                 let (b, c) = (rng.pick(&bounds), rng.pick(&bounds));
                 // ArgsR may not stand first, nor a wide call last.
-                let code = [Ins::default(), Ins { op: o, marks: 0, a, b, c, x }];
+                let code = [Ins::default(), Ins { op: Op(o), marks: 0, a, b, c, x }];
                 let words = abi::words(&code).to_vec();
                 let r = if rng.once_in(2) { b.wrapping_add(rng.below(6) as u16) } else { rng.pick(&[a, b, c]) };
                 let mut args = vec![Arg::U16(words), Arg::N(1)];
@@ -147,9 +147,9 @@ fn every_opcode(rng: &mut Rng, call: Call, take: &mut dyn FnMut(Question)) {
 
 /// The instructions of which all short codes are made.
 fn chosen() -> Vec<Ins> {
-    let i = |op: u16, a: u16, b: u16, c: u16, x: u16| Ins { op, marks: 0, a, b, c, x };
+    let i = |op: Op, a: u16, b: u16, c: u16, x: u16| Ins { op, marks: 0, a, b, c, x };
     let mut all = vec![
-        i(0, 0, 1, 2, 0), i(op::Jump, 0, 0, 0, 0), i(op::Jump, 1, 0, 0, 0), i(op::Jump, 2, 0, 0, 1), i(op::Jump, 3, 0, 0, 0),
+        i(Op::OTHER, 0, 1, 2, 0), i(op::Jump, 0, 0, 0, 0), i(op::Jump, 1, 0, 0, 0), i(op::Jump, 2, 0, 0, 1), i(op::Jump, 3, 0, 0, 0),
         i(op::JumpIfFalseR, 0, 1, 0, 0), i(op::JumpIfFalseR, 1, 0, 0, 0), i(op::JumpIfFalseR, 2, 0, 0, 0), i(op::JumpUnlessLt, 1, 0, 1, 0),
         i(op::ReturnR, 0, 0, 0, 0), i(op::ReturnR, 0, 1, 0, 0), i(op::ReturnValue, 0, 0, 0, 0), i(op::PopTop, 0, 0, 0, 0),
         i(op::PushRegs, 0, 1, 2, 0), i(op::PushRegs, 0, 1, 2, 1), i(op::PushRegs, 1, 0, 0, 2), i(op::PushRegs, 0, 1, 2, 3), i(op::PushRegs, 0, 0, 0, 4),
@@ -164,10 +164,10 @@ fn chosen() -> Vec<Ins> {
         i(op::LoadYieldFrom, 0, 0, 0, 0), i(op::SetupExcept, 1, 0, 0, 0), i(op::PopExcept, 0, 0, 0, 0),
         i(op::WithEnter, 0, 0, 2, 0), i(op::WithEnter, 0, 0, 2, 2), i(op::WithEnter, 0, 65_533, 0, 1), i(op::WithEnter, 0, 65_534, 0, 1),
         i(op::WithExit, 0, 0, 0, 2), i(op::WithExit, 0, 65_530, 0, 1), i(op::WithExit, 0, 65_531, 0, 1), i(op::WithJudge, 0, 0, 0, 1),
-        i(op::Dup, 0, 0, 0, 0), i(op::Add, 0, 0, 0, 0), i(op::BuildList, 0, 0, 0, 0), i(191, 0, 0, 0, 0), i(op::Move, 0, 1, 0, 256),
+        i(op::Dup, 0, 0, 0, 0), i(op::Add, 0, 0, 0, 0), i(op::BuildList, 0, 0, 0, 0), i(Op(191), 0, 0, 0, 0), i(op::Move, 0, 1, 0, 256),
     ];
-    let marked = |o: u16, marks: u16| Ins { marks, ..i(o, 0, 1, 2, 1) };
-    all.extend([marked(op::CallR, WIDE), marked(op::CallSpreadR, WIDE), marked(op::AddR, 2), marked(op::AddR, 4), marked(op::AddR, 1), marked(op::Add, 8), marked(0, 6)]);
+    let marked = |o: Op, marks: u16| Ins { marks, ..i(o, 0, 1, 2, 1) };
+    all.extend([marked(op::CallR, WIDE), marked(op::CallSpreadR, WIDE), marked(op::AddR, 2), marked(op::AddR, 4), marked(op::AddR, 1), marked(op::Add, 8), marked(Op::OTHER, 6)]);
     all
 }
 

@@ -6,11 +6,11 @@ impl Rng {
     /// A source of its own for each seed and stream.
     pub fn new(seed: u64, stream: u64) -> Rng {
         let mut rng = Rng(seed ^ stream.wrapping_mul(0xD134_2543_DE82_EF95));
-        rng.next();
+        rng.word();
         rng
     }
 
-    pub fn next(&mut self) -> u64 {
+    pub fn word(&mut self) -> u64 {
         self.0 = self.0.wrapping_add(0x9E37_79B9_7F4A_7C15);
         let z = (self.0 ^ self.0 >> 30).wrapping_mul(0xBF58_476D_1CE4_E5B9);
         let z = (z ^ z >> 27).wrapping_mul(0x94D0_49BB_1331_11EB);
@@ -18,7 +18,7 @@ impl Rng {
     }
 
     /// A number below `n`, which is not 0.
-    pub fn below(&mut self, n: usize) -> usize { (self.next() % n as u64) as usize }
+    pub fn below(&mut self, n: usize) -> usize { (self.word() % n as u64) as usize }
 
     /// Yes, once in `n` times.
     pub fn once_in(&mut self, n: usize) -> bool { self.below(n) == 0 }

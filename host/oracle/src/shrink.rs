@@ -2,7 +2,7 @@
 
 use crate::question::*;
 use listing::notation::{usual, usual_marks};
-use turniploom::Ins;
+use turniploom::{Ins, Op};
 
 /// How many questions a shrinking may ask.
 const TRIALS: usize = 20_000;
@@ -72,13 +72,13 @@ impl Shrink<'_> {
         if self.best.call.of_a_chunk() {
             for k in 0..self.best.u16("code").len() / 3 {
                 let mut changed = self.best.clone();
-                changed.args[0].u16()[3 * k + 1] = usual_marks(self.best.u16("code")[3 * k]);
+                changed.args[0].u16()[3 * k + 1] = usual_marks(Op(self.best.u16("code")[3 * k]));
                 self.offer(changed);
             }
             return;
         }
         for k in 0..self.best.u16("code").len() / 6 {
-            let code: Vec<Ins> = self.best.u16("code").chunks_exact(6).map(|w| Ins { op: w[0], marks: w[1], a: w[2], b: w[3], c: w[4], x: w[5] }).collect();
+            let code: Vec<Ins> = self.best.u16("code").chunks_exact(6).map(|w| Ins { op: Op(w[0]), marks: w[1], a: w[2], b: w[3], c: w[4], x: w[5] }).collect();
             let mut changed = self.best.clone();
             changed.args[0].u16()[6 * k + 1] = usual(&code, k);
             self.offer(changed);

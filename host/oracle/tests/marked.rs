@@ -1,9 +1,9 @@
 //! The marked examples of document 01: the model has them, and so has the Rust but for the listed difference of P4.
 
 use oracle::{model::{self, rows}, original, port, question::*};
-use turniploom::{Ins, NAMES, abi, op};
+use turniploom::{Ins, NAMES, Op, abi, op};
 
-fn i(op: u16, a: u16, b: u16, c: u16, x: u16) -> Ins { Ins { op, marks: 0, a, b, c, x } }
+fn i(op: Op, a: u16, b: u16, c: u16, x: u16) -> Ins { Ins { op, marks: 0, a, b, c, x } }
 
 /// The reply on which the model, the port and, where it answers, the Rust agree.
 fn agreed(q: &Question) -> Reply {
@@ -77,12 +77,12 @@ fn p6() {
 fn fold(code: &[[u16; 3]], pool: &[(u8, u64)], strict: bool) -> (Vec<[u16; 3]>, Vec<(u8, u64)>) {
     let n = code.len();
     let room = |mut v: Vec<u64>| { v.resize(pool.len() + n, 0); v };
-    let args = vec![
-        Arg::U16(code.as_flattened().to_vec()), Arg::U8(room(pool.iter().map(|c| c.0.into()).collect()).iter().map(|&k| k as u8).collect()),
-        Arg::U64(room(pool.iter().map(|c| c.1).collect())), Arg::N(pool.len() as u64), Arg::U32(vec![0; n]), Arg::N(0), Arg::U16(vec![0; 2 * n]), Arg::N(0),
-        Arg::U32(vec![]), Arg::N(0), Arg::U32(vec![]), Arg::N(0), Arg::U8(vec![9; n]), Arg::U32(vec![9; n + 1]), Arg::N(strict.into()),
-    ];
-    let mut r = agreed(&Question { call: Fold, args });
+    let kinds = room(pool.iter().map(|c| c.0.into()).collect()).iter().map(|&k| k as u8).collect();
+    let mut r = agreed(&Question::of(Fold, [
+        ("code", Arg::U16(code.as_flattened().to_vec())), ("kinds", Arg::U8(kinds)), ("words", Arg::U64(room(pool.iter().map(|c| c.1).collect()))),
+        ("constants", Arg::N(pool.len() as u64)), ("phi_map", Arg::U32(vec![0; n])), ("phi_sources", Arg::U16(vec![0; 2 * n])),
+        ("dead", Arg::U8(vec![9; n])), ("remap", Arg::U32(vec![9; n + 1])), ("strict", Arg::N(strict.into())),
+    ]));
     assert_eq!(r.answer.refusal, 0);
     let code = r.lent.u16("code")[..3 * r.answer.first as usize].chunks(3).map(|w| [w[0], w[1], w[2]]).collect();
     let pool = (0..r.answer.second as usize).map(|k| (r.lent.u8("kinds")[k], r.lent.u64("words")[k])).collect();
@@ -94,9 +94,9 @@ fn int(i: i64) -> (u8, u64) { (1, i as u64) }
 fn float(f: f64) -> (u8, u64) { (2, f.to_bits()) }
 
 /// The result of a fold, or none.
-fn result(o: u16, operands: &[(u8, u64)]) -> Option<(u8, u64)> {
-    let loads = (0..operands.len() as u16).map(|k| [op::LoadConst, NAMES, k]);
-    let code: Vec<[u16; 3]> = loads.chain([[o, 0, 0]]).collect();
+fn result(o: Op, operands: &[(u8, u64)]) -> Option<(u8, u64)> {
+    let loads = (0..operands.len() as u16).map(|k| [op::LoadConst.0, NAMES, k]);
+    let code: Vec<[u16; 3]> = loads.chain([[o.0, 0, 0]]).collect();
     let (folded, pool) = fold(&code, operands, false);
     (folded.len() == 1).then(|| pool[folded[0][2] as usize])
 }
@@ -113,14 +113,14 @@ fn p7_to_p12() {
     assert_eq!(result(op::Minus, &[int(-140_737_488_355_328)]), None);
     assert_eq!(result(op::Div, &[int(7), int(2)]), None);
     assert_eq!(result(op::Div, &[int(7), float(2.0)]), Some(float(3.5)));
-    assert_eq!(fold(&[[op::LoadConst, NAMES, 0], [op::Minus, 0, 0]], &[float(0.0)], false), (vec![[op::LoadConst, NAMES, 1]], vec![float(0.0), float(-0.0)]));
+    assert_eq!(fold(&[[op::LoadConst.0, NAMES, 0], [op::Minus.0, 0, 0]], &[float(0.0)], false), (vec![[op::LoadConst.0, NAMES, 1]], vec![float(0.0), float(-0.0)]));
 }
 
 #[test]
 fn p13() {
-    let code = [[op::LoadConst, NAMES, 0], [op::LoadConst, NAMES, 1], [op::Add, 0, 0], [op::Jump, 1, 2]];
+    let code = [[op::LoadConst.0, NAMES, 0], [op::LoadConst.0, NAMES, 1], [op::Add.0, 0, 0], [op::Jump.0, 1, 2]];
     let pool = [int(2), int(3)];
-    assert_eq!(fold(&code, &pool, false), (vec![[op::LoadConst, NAMES, 2], [op::Jump, 1, 1]], vec![int(2), int(3), int(5)]));
+    assert_eq!(fold(&code, &pool, false), (vec![[op::LoadConst.0, NAMES, 2], [op::Jump.0, 1, 1]], vec![int(2), int(3), int(5)]));
     assert_eq!(fold(&code, &pool, true), (code.to_vec(), pool.to_vec()));
 }
 

@@ -20,6 +20,10 @@ pub struct Answer {
     pub fourth: u64,
 }
 
+/// Where the archive is that this crate was built with, a copy in the build's own folder.
+#[doc(hidden)]
+pub const ARCHIVE: &str = env!("TURNIPLOOM_ARCHIVE");
+
 /// The words of a row: `max(1, registers / 64 rounded up)`.
 pub const fn row_words(regs: usize) -> usize { if regs == 0 { 1 } else { regs.div_ceil(64) } }
 

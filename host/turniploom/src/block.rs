@@ -1,16 +1,16 @@
 //! block.rs's own signatures, so that a host which has `mod block` swaps it for this one by changing imports.
 //!
 //! Each function panics on what document 01 refuses; the functions of the same name at the crate's root answer a `Result`.
-//! An instruction that is asked about by itself is asked about as part of a code that holds it.
+//! Code has its marks, as [`marked`](crate::marked) sets them. An instruction that is asked about by itself is asked about as part of a code that holds it.
 //!
 //! ```
-//! use turniploom::{Ins, block, op::*};
-//! let add = Ins::new(AddR, 3, 0, 2, 0);
+//! use turniploom::{Lowered, block, marked, op::*};
+//! let add = marked(&[Lowered::new(AddR, 3, 0, 2, 0)], |_| false)[0];
 //! assert_eq!(block::role(&add), Some((true, &[1, 2][..], false)));
-//! # let _ = add;
 //! ```
 
 use crate::{Ins, Refusal, op};
+use alloc::vec::Vec;
 
 #[track_caller]
 fn granted<T>(answer: Result<T, Refusal>) -> T { answer.unwrap_or_else(|refusal| panic!("turniploom: {refusal}")) }
@@ -22,15 +22,18 @@ fn around(i: &Ins) -> [Ins; 3] { [Ins::default(), *i, Ins { op: op::ArgsR, ..Ins
 macro_rules! calls {
     ($($(#[$doc:meta])* $name:ident($($arg:ident: $of:ty),*) -> $out:ty = $body:expr;)*) => { $(
         $(#[$doc])*
+        ///
+        /// # Panics
+        ///
+        /// On what document 01 refuses.
         #[track_caller]
         pub fn $name($($arg: $of),*) -> $out { granted($body) }
     )* };
 }
 
 calls! {
-    /// What an instruction does with `a` to `c` (0 to 2): whether `a` is written, which fields are read registers, and whether
-    /// `a` is a jump target.
-    role(ins: &Ins) -> Option<(bool, &'static [u8], bool)> = crate::role(&around(ins), 1);
+    /// The role of an instruction, none if it has none.
+    role(ins: &Ins) -> Option<crate::Role> = crate::role(&around(ins), 1);
     /// `role` as bits: 1 writes `a`; 2, 4, 8 reads `a`, `b`, `c`; 16 jumps to `a`; 32 none.
     kinds(ins: &Ins) -> u8 = crate::kinds(&around(ins), 1);
     /// A field of an instruction: `a` for 0, `b` for 1, else `c`.
@@ -67,6 +70,10 @@ calls! {
 }
 
 /// The module binding that `call`, seen from `j`, calls.
+///
+/// # Panics
+///
+/// On what document 01 refuses.
 #[track_caller]
 pub fn global_of(ins: &[Ins], j: usize, call: Ins) -> Option<u16> {
     if ins.get(j) == Some(&call) { return granted(crate::global_of(ins, j)) }

@@ -2,6 +2,11 @@
 //! or of their words.
 
 use crate::{Code, Refusal, abi::{self, Answer}};
+use alloc::{vec, vec::Vec};
+
+/// What an instruction does with `a` to `c` (0 to 2), as block.rs tells it: whether `a` is written, which fields are read registers, and
+/// whether `a` is a jump target.
+pub type Role = (bool, &'static [u8], bool);
 
 fn truth(answer: Answer) -> Result<bool, Refusal> { Ok(answer.granted()?.first != 0) }
 
@@ -16,55 +21,106 @@ fn lent(tries: &[(usize, usize)]) -> Vec<u32> {
 }
 
 /// The role of the instruction at `k` as bits: 1 writes `a`; 2, 4, 8 reads `a`, `b`, `c`; 16 jumps to `a`; 32 none.
+///
+/// # Errors
+///
+/// [`Refusal::Code`] or [`Refusal::Record`] for bad code, [`Refusal::Position`] for a position at its end or beyond.
 pub fn kinds(ins: &(impl Code + ?Sized), k: usize) -> Result<u8, Refusal> {
     Ok(bits(abi::kinds(ins.words(), k))? as u8)
 }
 
-/// What the instruction at `k` does with `a` to `c` (0 to 2): whether `a` is written, which fields are read registers, and
-/// whether `a` is a jump target.
-pub fn role(ins: &(impl Code + ?Sized), k: usize) -> Result<Option<(bool, &'static [u8], bool)>, Refusal> {
+/// The role of the instruction at `k`, none if it has none.
+///
+/// # Errors
+///
+/// [`Refusal::Code`] or [`Refusal::Record`] for bad code, [`Refusal::Position`] for a position at its end or beyond.
+pub fn role(ins: &(impl Code + ?Sized), k: usize) -> Result<Option<Role>, Refusal> {
     const READS: [&[u8]; 8] = [&[], &[0], &[1], &[0, 1], &[2], &[0, 2], &[1, 2], &[0, 1, 2]];
     let role = abi::role(ins.words(), k).granted()?;
     Ok((role.first != 0).then(|| (role.second != 0, READS[(role.third & 7) as usize], role.fourth != 0)))
 }
 
 /// Field `f` of the instruction at `k`: `a` for 0, `b` for 1, else `c`.
+///
+/// # Errors
+///
+/// [`Refusal::Code`] or [`Refusal::Record`] for bad code, [`Refusal::Position`] for a position at its end or beyond.
 pub fn field(ins: &(impl Code + ?Sized), k: usize, f: u8) -> Result<u16, Refusal> {
     Ok(bits(abi::field(ins.words(), k, f))? as u16)
 }
 
 /// Whether the instruction at `k` writes register `r`.
+///
+/// # Errors
+///
+/// [`Refusal::Code`] or [`Refusal::Record`] for bad code, [`Refusal::Position`] for a position at its end or beyond.
 pub fn writes(ins: &(impl Code + ?Sized), k: usize, r: u16) -> Result<bool, Refusal> { truth(abi::writes(ins.words(), k, r)) }
 
 /// Whether code may be laid as a section.
+///
+/// # Errors
+///
+/// [`Refusal::Code`] or [`Refusal::Record`] for bad code.
 pub fn pure(ins: &(impl Code + ?Sized)) -> Result<bool, Refusal> { truth(abi::pure(ins.words())) }
 
 /// Whether laid code leaves nothing of its own on the stack between instructions, but what a PushRegs hands a Raise.
+///
+/// # Errors
+///
+/// [`Refusal::Code`] or [`Refusal::Record`] for bad code.
 pub fn flat(ins: &(impl Code + ?Sized)) -> Result<bool, Refusal> { truth(abi::flat(ins.words())) }
 
 /// Whether code has a `try` or a `with`.
+///
+/// # Errors
+///
+/// [`Refusal::Code`] or [`Refusal::Record`] for bad code.
 pub fn guarded(ins: &(impl Code + ?Sized)) -> Result<bool, Refusal> { truth(abi::guarded(ins.words())) }
 
 /// Whether the PushRegs at `k` pushes the value that a ReturnValue returns.
+///
+/// # Errors
+///
+/// [`Refusal::Code`] or [`Refusal::Record`] for bad code, [`Refusal::Position`] for a position at its end or beyond.
 pub fn returns(ins: &(impl Code + ?Sized), k: usize) -> Result<bool, Refusal> { truth(abi::returns(ins.words(), k)) }
 
 /// The parameters, the first `arity` registers, that some instruction writes, a bit each for the first 64.
+///
+/// # Errors
+///
+/// [`Refusal::Code`] or [`Refusal::Record`] for bad code.
 pub fn params_written(ins: &(impl Code + ?Sized), arity: usize) -> Result<u64, Refusal> { bits(abi::params_written(ins.words(), arity)) }
 
 /// For the call at `j`, one of the four, the parameters that it passes on as they are, a bit each.
+///
+/// # Errors
+///
+/// [`Refusal::Code`] or [`Refusal::Record`] for bad code, [`Refusal::Position`] for a position that holds none of the four calls.
 pub fn passed(ins: &(impl Code + ?Sized), j: usize, arity: usize) -> Result<u64, Refusal> { bits(abi::passed(ins.words(), j, arity)) }
 
 /// Whether a generator's body may be laid as the section that a `for` steps.
+///
+/// # Errors
+///
+/// [`Refusal::Code`] or [`Refusal::Record`] for bad code.
 pub fn gen_pure(ins: &(impl Code + ?Sized)) -> Result<bool, Refusal> {
     truth(abi::gen_pure(ins.words(), &mut vec![0; length(ins)], &mut vec![0; length(ins)]))
 }
 
 /// Whether the slot `r` that the Phi at `k` writes is read on no path from it before a write.
+///
+/// # Errors
+///
+/// [`Refusal::Code`] or [`Refusal::Record`] for bad code, [`Refusal::Position`] for a position at its end or beyond.
 pub fn dead_phi(ins: &(impl Code + ?Sized), k: usize, r: u16) -> Result<bool, Refusal> {
     truth(abi::dead_phi(ins.words(), k, r, &mut vec![0; length(ins)], &mut vec![0; length(ins)]))
 }
 
 /// For each position and the end, how many `for` loops it lies inside.
+///
+/// # Errors
+///
+/// [`Refusal::Code`] or [`Refusal::Record`] for bad code.
 pub fn loops_around(ins: &(impl Code + ?Sized)) -> Result<Vec<usize>, Refusal> {
     let mut out = vec![0; length(ins)];
     abi::loops_around(ins.words(), &mut out).granted()?;
@@ -72,6 +128,10 @@ pub fn loops_around(ins: &(impl Code + ?Sized)) -> Result<Vec<usize>, Refusal> {
 }
 
 /// Which positions a jump or the handler of one of `tries` lands on, the end too.
+///
+/// # Errors
+///
+/// [`Refusal::Code`] or [`Refusal::Record`] for bad code, [`Refusal::Try`] for a bad try.
 pub fn targets(ins: &(impl Code + ?Sized), tries: &[(usize, usize)]) -> Result<Vec<bool>, Refusal> {
     let mut out = vec![0; length(ins)];
     abi::targets(ins.words(), &lent(tries), &mut out).granted()?;
@@ -83,22 +143,34 @@ pub fn targets(ins: &(impl Code + ?Sized), tries: &[(usize, usize)]) -> Result<V
 /// The call of P1 in document 01, two instructions into code K:
 ///
 /// ```
-/// use turniploom::{Ins, global_of, op::*};
-/// let k = [Ins::new(LoadGlobalR, 0, 7, 0, 0), Ins::new(LoadGlobalR, 1, 9, 0, 0), Ins::new(CallR, 1, 0, 0, 0)];
-/// assert_eq!(global_of(&k, 2), Ok(Some(9)));
+/// use turniploom::{Lowered, global_of, marked, op::*};
+/// let k = [Lowered::new(LoadGlobalR, 0, 7, 0, 0), Lowered::new(LoadGlobalR, 1, 9, 0, 0), Lowered::new(CallR, 1, 0, 0, 0)];
+/// assert_eq!(global_of(&marked(&k, |_| false), 2), Ok(Some(9)));
 /// ```
+///
+/// # Errors
+///
+/// [`Refusal::Code`] or [`Refusal::Record`] for bad code, [`Refusal::Position`] for a position at its end or beyond.
 pub fn global_of(ins: &(impl Code + ?Sized), j: usize) -> Result<Option<u16>, Refusal> {
     let found = abi::global_of(ins.words(), j).granted()?;
     Ok((found.first != 0).then_some(found.second as u16))
 }
 
 /// The PushRegs that pushed the value which the StoreTopR at `d` takes back into `r` past a call.
+///
+/// # Errors
+///
+/// [`Refusal::Code`] or [`Refusal::Record`] for bad code, [`Refusal::Position`] for a position at its end or beyond.
 pub fn pushed_back(ins: &(impl Code + ?Sized), d: usize, r: u16) -> Result<Option<usize>, Refusal> {
     let found = abi::pushed_back(ins.words(), d, r).granted()?;
     Ok((found.first != 0).then_some(found.second as usize))
 }
 
 /// For the stack call at `j` of `n` positionals, the PushRegs that pushed its function, and the register.
+///
+/// # Errors
+///
+/// [`Refusal::Code`] or [`Refusal::Record`] for bad code, [`Refusal::Position`] for a position at its end or beyond.
 pub fn stack_callee(ins: &(impl Code + ?Sized), j: usize, n: u16) -> Result<Option<(usize, u16)>, Refusal> {
     let found = abi::stack_callee(ins.words(), j, n).granted()?;
     Ok((found.first != 0).then_some((found.second as usize, found.third as u16)))
@@ -106,6 +178,7 @@ pub fn stack_callee(ins: &(impl Code + ?Sized), j: usize, n: u16) -> Result<Opti
 
 /// The rows of a code, the registers kept at each level, and the sweeps that found them.
 #[derive(Clone, Debug, PartialEq, Eq)]
+#[non_exhaustive]
 pub struct Kept {
     /// The rows, `words` words each, the end's too.
     pub rows: Vec<u64>,
@@ -123,7 +196,31 @@ pub struct Kept {
 
 impl Kept {
     /// The registers kept at position `k`, none where there is no level.
+    ///
+    /// # Panics
+    ///
+    /// If `k` is at the end or beyond.
     pub fn at(&self, k: usize) -> &[u16] { &self.list[self.offsets[k] as usize..self.offsets[k + 1] as usize] }
+
+    /// The levels that keep something, in order, each with what it keeps. A level that keeps nothing is not among them.
+    pub fn levels(&self) -> impl Iterator<Item = (usize, &[u16])> {
+        (0..self.offsets.len() - 1).map(|k| (k, self.at(k))).filter(|(_, kept)| !kept.is_empty())
+    }
+
+    /// The row of position `k`, the registers needed before it, a bit each. Without the wide route, and with at most 64 registers, rows
+    /// before the first level may be left empty.
+    ///
+    /// # Panics
+    ///
+    /// If `k` is past the end.
+    pub fn row(&self, k: usize) -> &[u64] { &self.rows[k * self.words..][..self.words] }
+
+    /// Whether register `r` is in the row of position `k`. A register that is not below the count is in none.
+    ///
+    /// # Panics
+    ///
+    /// If `k` is past the end.
+    pub fn needed(&self, k: usize, r: u16) -> bool { self.row(k).get(usize::from(r) / 64).is_some_and(|w| w >> (r % 64) & 1 != 0) }
 }
 
 /// The registers kept at each level of a code with `regs` registers; `wide` forces the wide route, which starts at 0.
@@ -131,19 +228,25 @@ impl Kept {
 /// The loop of P5 in document 01, whose first sweep is abandoned:
 ///
 /// ```
-/// use turniploom::{Ins, kept, op::*};
+/// use turniploom::{Lowered, kept, marked, op::*};
 /// let p5 = [
-///     Ins::new(Move, 1, 0, 0, 0),
-///     Ins::new(LenR, 2, 1, 0, 0),
-///     Ins::new(JumpIfFalseR, 4, 1, 0, 0),
-///     Ins::new(Jump, 0, 0, 0, 0),
-///     Ins::new(ReturnR, 0, 2, 0, 0),
+///     Lowered::new(Move, 1, 0, 0, 0),
+///     Lowered::new(LenR, 2, 1, 0, 0),
+///     Lowered::new(JumpIfFalseR, 4, 1, 0, 0),
+///     Lowered::new(Jump, 0, 0, 0, 0),
+///     Lowered::new(ReturnR, 0, 2, 0, 0),
 /// ];
-/// let found = kept(&p5, 3, &[], false)?;
+/// let found = kept(&marked(&p5, |_| false), 3, &[], false)?;
 /// assert_eq!((&found.rows[..], found.full, found.abandoned), (&[1, 3, 7, 1, 4, 0][..], 3, 1));
 /// assert_eq!(found.at(2), [0, 1, 2]);
+/// assert_eq!(found.levels().collect::<Vec<_>>(), [(2, &[0, 1, 2][..])]);
+/// assert!(found.needed(2, 2) && !found.needed(3, 2) && found.row(3) == [1]);
 /// # Ok::<(), turniploom::Refusal>(())
 /// ```
+///
+/// # Errors
+///
+/// [`Refusal::Code`] or [`Refusal::Record`] for bad code, [`Refusal::Registers`] for more than 1,024 registers, [`Refusal::Try`] for a bad try.
 pub fn kept(ins: &(impl Code + ?Sized), regs: usize, tries: &[(usize, usize)], wide: bool) -> Result<Kept, Refusal> {
     let words = abi::row_words(regs.min(1_024));
     let (code, tries, n) = (ins.words(), lent(tries), length(ins));
@@ -165,20 +268,25 @@ pub fn kept(ins: &(impl Code + ?Sized), regs: usize, tries: &[(usize, usize)], w
 /// Code K of document 01 (P1, P2): the call at 2 keeps register 0, and with a try around it what the handler reads as well.
 ///
 /// ```
-/// use turniploom::{Ins, Refusal, live_across, op::*};
+/// use turniploom::{Lowered, Refusal, live_across, marked, op::*};
 /// let k = [
-///     Ins::new(LoadGlobalR, 0, 7, 0, 0),
-///     Ins::new(LoadGlobalR, 1, 9, 0, 0),
-///     Ins::new(CallR, 1, 0, 0, 0),
-///     Ins::new(StoreTopR, 2, 0, 0, 0),
-///     Ins::new(AddR, 3, 0, 2, 0),
-///     Ins::new(ReturnR, 0, 3, 0, 0),
+///     Lowered::new(LoadGlobalR, 0, 7, 0, 0),
+///     Lowered::new(LoadGlobalR, 1, 9, 0, 0),
+///     Lowered::new(CallR, 1, 0, 0, 0),
+///     Lowered::new(StoreTopR, 2, 0, 0, 0),
+///     Lowered::new(AddR, 3, 0, 2, 0),
+///     Lowered::new(ReturnR, 0, 3, 0, 0),
 /// ];
+/// let k = marked(&k, |_| false);
 /// assert_eq!(live_across(&k, 4, &[])?[2], [0]);
 /// assert_eq!(live_across(&k, 4, &[(1, 5)])?[2], [0, 3]);
 /// assert_eq!(live_across(&k, 4, &[(3, 2)]), Err(Refusal::Try { index: 0 }));
 /// # Ok::<(), Refusal>(())
 /// ```
+///
+/// # Errors
+///
+/// [`Refusal::Code`] or [`Refusal::Record`] for bad code, [`Refusal::Registers`] for more than 1,024 registers, [`Refusal::Try`] for a bad try.
 pub fn live_across(ins: &(impl Code + ?Sized), regs: usize, tries: &[(usize, usize)]) -> Result<Vec<Vec<u16>>, Refusal> {
     let kept = kept(ins, regs, tries, false)?;
     Ok((0..kept.offsets.len() - 1).map(|k| kept.at(k).to_vec()).collect())

@@ -1,14 +1,35 @@
 //! The call of optimizer.rs over a plain chunk, as near the Rust's as a refusal allows, and the clearing of its constants.
 
-/// An instruction of a chunk: three words.
-#[derive(Clone, Copy, Debug, Default, PartialEq, Eq)]
+use crate::{Op, Refusal, op::LoadConst};
+use alloc::{vec, vec::Vec};
+
+/// An instruction of a chunk with its marks: three words.
+#[derive(Clone, Copy, Debug, Default, PartialEq, Eq, Hash)]
+#[non_exhaustive]
 pub struct Instruction {
-    /// The opcode's number, one of [`crate::op`] or 0 for any other.
-    pub opcode: u16,
+    /// The opcode.
+    pub opcode: Op,
     /// The mark [`JUMP`] or [`NAMES`], or 0. A LoadConst gets the second of itself.
     pub marks: u16,
     /// The operand.
     pub operand: u16,
+}
+
+impl Instruction {
+    /// An instruction marked by its opcode: a jump's operand is a position, and a LoadConst's names a constant.
+    pub const fn new(opcode: Op, operand: u16) -> Instruction {
+        let marks = if opcode.is_jump() { JUMP } else if opcode.0 == LoadConst.0 { NAMES } else { 0 };
+        Instruction { opcode, marks, operand }
+    }
+
+    /// An instruction whose operand names a constant, as the host knows of an opcode that is no LoadConst.
+    pub const fn naming(opcode: Op, operand: u16) -> Instruction { Instruction { opcode, marks: NAMES, operand } }
+
+    /// An instruction that has no mark. A jump without its mark keeps its old target when the code shrinks.
+    pub const fn unmarked(opcode: Op, operand: u16) -> Instruction { Instruction { opcode, marks: 0, operand } }
+
+    /// The same instruction with more marks.
+    pub const fn with(self, marks: u16) -> Instruction { Instruction { marks: self.marks | marks, ..self } }
 }
 
 /// The mark of a chunk's instruction whose operand is a position.
@@ -32,6 +53,7 @@ pub enum Constant {
 
 /// A chunk with its tables.
 #[derive(Clone, Debug, Default, PartialEq)]
+#[non_exhaustive]
 pub struct Chunk {
     /// The instructions.
     pub instructions: Vec<Instruction>,
@@ -47,23 +69,20 @@ pub struct Chunk {
     pub call_byte_pos: Vec<(u32, u32)>,
 }
 
+impl Chunk {
+    /// A chunk of instructions and constants, with no other table.
+    pub fn new(instructions: Vec<Instruction>, constants: Vec<Constant>) -> Chunk { Chunk { instructions, constants, ..Chunk::default() } }
+}
+
 /// Folds the constants of a chunk, drops the Phis that do nothing, and moves all that names a position. In strict mode
 /// nothing folds that some jump lands in. A refused chunk is as it was.
 ///
 /// P13 of document 01: 2 + 3 folds, and the jump follows; in strict mode the jump keeps it from folding.
 ///
 /// ```
-/// use turniploom::{Chunk, Constant::Int, Instruction, JUMP, NAMES, constant_fold, op::*};
-/// let p13 = Chunk {
-///     instructions: vec![
-///         Instruction { opcode: LoadConst, marks: NAMES, operand: 0 },
-///         Instruction { opcode: LoadConst, marks: NAMES, operand: 1 },
-///         Instruction { opcode: Add, marks: 0, operand: 0 },
-///         Instruction { opcode: Jump, marks: JUMP, operand: 2 },
-///     ],
-///     constants: vec![Int(2), Int(3)],
-///     ..Chunk::default()
-/// };
+/// use turniploom::{Chunk, Constant::Int, Instruction, constant_fold, op::*};
+/// let code = [(LoadConst, 0), (LoadConst, 1), (Add, 0), (Jump, 2)];
+/// let p13 = Chunk::new(code.map(|(op, operand)| Instruction::new(op, operand)).into(), vec![Int(2), Int(3)]);
 /// let mut strict = p13.clone();
 /// constant_fold(&mut strict, true)?;
 /// assert_eq!(strict, p13);
@@ -71,13 +90,14 @@ pub struct Chunk {
 /// let mut plain = p13;
 /// constant_fold(&mut plain, false)?;
 /// assert_eq!(plain.constants, [Int(2), Int(3), Int(5)]);
-/// assert_eq!(plain.instructions, [
-///     Instruction { opcode: LoadConst, marks: NAMES, operand: 2 },
-///     Instruction { opcode: Jump, marks: JUMP, operand: 1 },
-/// ]);
+/// assert_eq!(plain.instructions, [Instruction::new(LoadConst, 2), Instruction::new(Jump, 1)]);
 /// # Ok::<(), turniploom::Refusal>(())
 /// ```
-pub fn constant_fold(chunk: &mut Chunk, strict: bool) -> Result<(), crate::Refusal> {
+///
+/// # Errors
+///
+/// [`Refusal::Code`] or [`Refusal::Record`] for a bad instruction, [`Refusal::Table`] for a bad table.
+pub fn constant_fold(chunk: &mut Chunk, strict: bool) -> Result<(), Refusal> {
     let n = chunk.instructions.len();
     let count = chunk.constants.len();
     let mut code = words_of(chunk);
@@ -100,7 +120,8 @@ pub fn constant_fold(chunk: &mut Chunk, strict: bool) -> Result<(), crate::Refus
         &mut calls, call_count, &mut dead, &mut remap, strict,
     ).granted()?;
     chunk.instructions = instructions(&code, folded.first as usize);
-    chunk.constants.extend((count..folded.second as usize).map(|k| if kinds[k] == 1 { Constant::Int(words[k] as i64) } else { Constant::Float(f64::from_bits(words[k])) }));
+    let pushed = |k: usize| if kinds[k] == 1 { Constant::Int(words[k] as i64) } else { Constant::Float(f64::from_bits(words[k])) };
+    chunk.constants.extend((count..folded.second as usize).map(pushed));
     chunk.phi_map = phi_map[..folded.third as usize].iter().map(|&p| p as usize).collect();
     chunk.phi_sources = sources[..folded.fourth as usize].chunks(2).map(|p| (p[0], p[1])).collect();
     chunk.stmt_pos = stmts.chunks(2).map(|p| (p[0], p[1])).collect();
@@ -114,21 +135,18 @@ pub fn constant_fold(chunk: &mut Chunk, strict: bool) -> Result<(), crate::Refus
 /// After the fold of P13 of document 01 the sum alone is loaded, so it alone is left.
 ///
 /// ```
-/// use turniploom::{Chunk, Constant::Int, Instruction, JUMP, NAMES, op::*};
-/// let mut folded = Chunk {
-///     instructions: vec![
-///         Instruction { opcode: LoadConst, marks: NAMES, operand: 2 },
-///         Instruction { opcode: Jump, marks: JUMP, operand: 1 },
-///     ],
-///     constants: vec![Int(2), Int(3), Int(5)],
-///     ..Chunk::default()
-/// };
+/// use turniploom::{Chunk, Constant::Int, Instruction, op::*};
+/// let mut folded = Chunk::new(vec![Instruction::new(LoadConst, 2), Instruction::new(Jump, 1)], vec![Int(2), Int(3), Int(5)]);
 /// turniploom::clear(&mut folded)?;
 /// assert_eq!(folded.constants, [Int(5)]);
 /// assert_eq!(folded.instructions[0].operand, 0);
 /// # Ok::<(), turniploom::Refusal>(())
 /// ```
-pub fn clear(chunk: &mut Chunk) -> Result<(), crate::Refusal> {
+///
+/// # Errors
+///
+/// [`Refusal::Code`] or [`Refusal::Record`] for a bad instruction, [`Refusal::Table`] for too many constants.
+pub fn clear(chunk: &mut Chunk) -> Result<(), Refusal> {
     let count = chunk.constants.len();
     let mut code = words_of(chunk);
     let (mut kinds, mut words): (Vec<u8>, Vec<u64>) = chunk.constants.iter().map(|&c| stored(c)).unzip();
@@ -144,13 +162,13 @@ pub fn clear(chunk: &mut Chunk) -> Result<(), crate::Refusal> {
 
 /// The lent words of a chunk. A LoadConst names a constant, whether it is marked so or not.
 fn words_of(chunk: &Chunk) -> Vec<u16> {
-    let marks = |i: &Instruction| if i.opcode == crate::op::LoadConst { i.marks | NAMES } else { i.marks };
-    chunk.instructions.iter().flat_map(|i| [i.opcode, marks(i), i.operand]).collect()
+    let marks = |i: &Instruction| if i.opcode == LoadConst { i.marks | NAMES } else { i.marks };
+    chunk.instructions.iter().flat_map(|i| [i.opcode.0, marks(i), i.operand]).collect()
 }
 
 /// The first `n` instructions of lent words.
 fn instructions(code: &[u16], n: usize) -> Vec<Instruction> {
-    code.chunks(3).take(n).map(|w| Instruction { opcode: w[0], marks: w[1], operand: w[2] }).collect()
+    code.chunks(3).take(n).map(|w| Instruction { opcode: Op(w[0]), marks: w[1], operand: w[2] }).collect()
 }
 
 fn stored(constant: Constant) -> (u8, u64) {

@@ -1,11 +1,15 @@
-//! The refusals, one for each number of document 01.
+//! The refusals, one for each number of document 01, in words.
 
-use crate::abi::Answer;
-use std::{error::Error, fmt};
+use crate::{Chunk, Code, DUNDER, Ins, JUMP, NAMES, Op, REGISTER, WIDE, abi::Answer, op};
+use alloc::{format, string::String};
+use core::{error::Error, fmt};
 
 /// Why a call gave no answer. Every lent buffer is then as it was, but for the rows of a kept-register call whose list is
 /// too short.
-#[derive(Clone, Copy, Debug, PartialEq, Eq)]
+///
+/// It says which rule was broken; [`Refusal::in_code`] and [`Refusal::in_chunk`] look at what was lent and say how.
+#[derive(Clone, Copy, Debug, PartialEq, Eq, Hash)]
+#[non_exhaustive]
 pub enum Refusal {
     /// 1: the code's length is no multiple of its stride, or it has too many instructions.
     Code {
@@ -48,7 +52,7 @@ pub enum Refusal {
 
 impl Refusal {
     /// The number document 01 gives the refusal.
-    pub fn number(self) -> u8 {
+    pub const fn number(self) -> u8 {
         match self {
             Refusal::Code { .. } => 1,
             Refusal::Record { .. } => 2,
@@ -59,10 +63,100 @@ impl Refusal {
             Refusal::Table { .. } => 7,
         }
     }
+
+    /// What is wrong, whatever was lent: the header's `turniploom_refusal_text` says the same.
+    pub const fn rule(self) -> &'static str {
+        match self {
+            Refusal::Code { .. } => "the code is no whole number of instructions, or has more than 65,535",
+            Refusal::Record { .. } => "an instruction breaks a record rule",
+            Refusal::Registers { .. } => "there are more than 1,024 registers",
+            Refusal::Try { .. } => "a try breaks its rule",
+            Refusal::Buffer { .. } => "a lent buffer is too short",
+            Refusal::Position { .. } => "the position is not one to ask about",
+            Refusal::Table { .. } => "a table of the chunk breaks its rule",
+        }
+    }
+
+    /// The refusal of a call over this code and these tries, with the rule that was broken.
+    ///
+    /// ```
+    /// use turniploom::{Lowered, live_across, marked, op::PushRegs};
+    /// let code = marked(&[Lowered::new(PushRegs, 1, 0, 0, 4)], |_| false);
+    /// let refusal = live_across(&code, 2, &[]).unwrap_err();
+    /// assert_eq!(refusal.in_code(&code, &[]), "the instruction at 0 breaks a record rule: PushRegs pushes at most 3 registers, not 4");
+    /// ```
+    pub fn in_code(self, code: &(impl Code + ?Sized), tries: &[(usize, usize)]) -> String {
+        let words = code.words();
+        match self {
+            Refusal::Record { position } => {
+                let at = position as usize * 6;
+                let Some(&[op, marks, a, b, c, x]) = words.get(at..at + 6) else { return format!("{self}") };
+                format!("{self}: {}", record(Ins { op: Op(op), marks, a, b, c, x }))
+            }
+            Refusal::Try { index } => match tries.get(index as usize) {
+                Some((s, h)) if s > h => format!("{self}: it starts at {s}, past its handler at {h}"),
+                Some((s, _)) => format!("{self}: it starts at {s}, past the end at {}", words.len() / 6),
+                None => format!("{self}"),
+            },
+            _ => format!("{self}"),
+        }
+    }
+
+    /// The refusal of a call over this chunk, with the rule that was broken.
+    pub fn in_chunk(self, chunk: &Chunk) -> String {
+        let n = chunk.instructions.len();
+        match self {
+            Refusal::Record { position } => match chunk.instructions.get(position as usize) {
+                Some(i) => format!("{self}: {}", chunk_record(i.opcode, i.marks)),
+                None => format!("{self}"),
+            },
+            Refusal::Table { table: 1 } => format!("{self}: there are at most 65,536 constants, of the kinds 0 to 3, and a bool is 0 or 1"),
+            Refusal::Table { table: 2 } => format!("{self}: phi_map has {} entries, not 0 and not {n}, one for each instruction", chunk.phi_map.len()),
+            Refusal::Table { table: 3 } => format!("{self}: the numbers of phi_sources come in pairs"),
+            Refusal::Table { table: 4 } => format!("{self}: the numbers of stmt_pos come in pairs"),
+            Refusal::Table { table: 5 } => format!("{self}: the numbers of call_byte_pos come in pairs"),
+            _ => format!("{self}"),
+        }
+    }
+}
+
+/// The record rule that a refused instruction breaks.
+fn record(i: Ins) -> String {
+    let Ins { op, marks, b, x, .. } = i;
+    match op {
+        _ if op.0 > 190 => format!("no opcode has the number {}", op.0),
+        _ if marks & !(WIDE | DUNDER | REGISTER) != 0 => format!("{marks} has bits that are no mark"),
+        _ if i.wide() && !op.is_call() => format!("{op} is none of the four calls that can be wide"),
+        _ if x > 255 => format!("x is {x}, more than 255"),
+        op::PushRegs => format!("PushRegs pushes at most 3 registers, not {x}"),
+        op::UnpackR => "UnpackR unpacks into at least one register".into(),
+        op::ArgsR => "ArgsR stands first, after no call".into(),
+        _ if i.wide() => "a wide call is followed by its ArgsR".into(),
+        _ => format!("b is {b}, and {op} writes registers from b on past 65,535"),
+    }
+}
+
+/// The record rule that a refused instruction of a chunk breaks.
+fn chunk_record(op: Op, marks: u16) -> String {
+    match op {
+        _ if op.0 > 190 => format!("no opcode has the number {}", op.0),
+        _ if marks & !(JUMP | NAMES) != 0 => format!("{marks} has bits that are no mark"),
+        _ if marks & JUMP != 0 && (op == op::LoadConst || op == op::Phi || op.folds()) => "LoadConst, Phi and the folding operators are no jumps".into(),
+        op::LoadConst => "LoadConst names a constant, and lacks that mark".into(),
+        _ => "a jump, a Phi and a folding operator name no constant".into(),
+    }
 }
 
 impl Answer {
     /// The answer itself, or the refusal that it stands for.
+    ///
+    /// # Errors
+    ///
+    /// The refusal, if its number is not 0.
+    ///
+    /// # Panics
+    ///
+    /// On a number that no refusal has: the archive is of another version.
     pub fn granted(self) -> Result<Answer, Refusal> {
         let Answer { refusal, first, second, .. } = self;
         Err(match refusal {
@@ -74,7 +168,7 @@ impl Answer {
             5 => Refusal::Buffer { buffer: first, needed: second },
             6 => Refusal::Position { position: first },
             7 => Refusal::Table { table: first },
-            other => unreachable!("no refusal has the number {other}"),
+            other => panic!("no refusal has the number {other}: the archive is of another version"),
         })
     }
 }

@@ -41,7 +41,7 @@ calls! {
     /// The PushRegs that pushed the function of a stack call with count positionals.
     stack_callee(code: &[u16], at: usize, count: u16) -> { first: "1 if it is found, else 0", second: "its position", third: "the register" };
     /// The registers kept at each level. rows is (n + 1) times the words of a row long, offsets n + 1. A list too short is refused with
-    /// the length it needs, and the rows are then found. The list of position k is list[offsets[k]] up to list[offsets[k + 1]].
+    /// the length it needs, and the rows are then found. The list of position k begins at entry k of offsets and ends at the next.
     kept(code: &[u16], regs: usize, tries: &[u32], wide: bool, rows: &mut [u64], offsets: &mut [u32], list: &mut [u16]) -> {
         first: "the length of the list", second: "full sweeps", third: "abandoned sweeps"
     };

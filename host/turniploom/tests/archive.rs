@@ -1,6 +1,6 @@
 //! The archive: found in one way everywhere, held to the whole table of calls, and linked into hosts outside this workspace.
 
-use std::{env, fs, path::{Path, PathBuf}, process::{Command, Output}};
+use std::{env, ffi::OsString, fs, os::unix::fs::symlink, path::{Path, PathBuf}, process::{Command, Output}};
 
 /// The archive that this crate was built with.
 const ARCHIVE: &str = env!("TURNIPLOOM_ARCHIVE");
@@ -35,12 +35,23 @@ fn copied(to: &Path) {
     }
 }
 
+/// The folders of PATH; for one that has `rt`, a folder of links to all else that it has.
+fn without_rt(folder: &Folder) -> OsString {
+    let mirror = |(k, dir): (usize, PathBuf)| {
+        if !dir.join("rt").exists() { return dir }
+        let links = folder.join(format!("path-{k}"));
+        if fs::create_dir(&links).is_ok() {
+            for file in fs::read_dir(&dir).unwrap().map(|f| f.unwrap()).filter(|f| f.file_name() != "rt") { symlink(file.path(), links.join(file.file_name())).unwrap() }
+        }
+        links
+    };
+    env::join_paths(env::split_paths(&env::var_os("PATH").unwrap()).enumerate().map(mirror)).unwrap()
+}
+
 /// Runs cargo for the crate in `place`, with TURNIPLOOM_LIB as given and no `rt` to be found. It builds in the test's own folder.
 fn cargo(folder: &Folder, place: &Path, words: &[&str], lib: Option<&str>) -> Output {
     let mut command = Command::new(env!("CARGO"));
-    let path = env::var_os("PATH").unwrap();
-    let without_rt = env::split_paths(&path).filter(|dir| !dir.join("rt").exists());
-    command.args(words).args(["--offline", "--quiet"]).current_dir(place).env("PATH", env::join_paths(without_rt).unwrap());
+    command.args(words).args(["--offline", "--quiet"]).current_dir(place).env("PATH", without_rt(folder));
     command.env("CARGO_TARGET_DIR", folder.join("built")).env_remove("TURNIPLOOM_LIB");
     if let Some(lib) = lib { command.env("TURNIPLOOM_LIB", lib); }
     command.output().unwrap()
@@ -68,7 +79,8 @@ fn without_archive_and_rt_the_build_names_the_path_and_two_ways() {
     let (root, inside) = repository("bare");
     for lib in [None, Some("")] {
         let says = refused(&root, &inside, lib);
-        assert!(says.contains(&format!("no archive of the proved calls at {} (rt can't be run", root.join("target/staticlib/libturniploom.a").display())), "{says}");
+        let looked = root.join("target/staticlib/libturniploom.a");
+        assert!(says.contains(&format!("no archive of the proved calls at {} (rt can't be run", looked.display())), "{says}");
         assert!(says.contains(&format!("run `rt staticlib turniploom` in {}; or set TURNIPLOOM_LIB to the whole path of one", root.display())), "{says}");
     }
 }
@@ -78,7 +90,8 @@ fn a_copy_alone_looks_beside_its_manifest() {
     let alone = folder("alone");
     copied(&alone);
     let says = refused(&alone, &alone, None);
-    assert!(says.contains(&format!("no archive of the proved calls at {}", alone.join("libturniploom.a").display())) && says.contains("Two ways to get one"), "{says}");
+    assert!(says.contains(&format!("no archive of the proved calls at {}", alone.join("libturniploom.a").display())), "{says}");
+    assert!(says.contains("Two ways to get one"), "{says}");
 }
 
 #[test]
@@ -125,21 +138,14 @@ fn printed(folder: &Folder, lib: Option<&str>) -> String {
     String::from_utf8(out.stdout).unwrap()
 }
 
-const KEEP: &str = "
-use turniploom::{Ins, op::*};
-fn main() {
-    let code = [Ins::new(CallGlobalR, 3, 0, 0, 0), Ins::new(StoreTopR, 1, 0, 0, 0), Ins::new(AddR, 2, 0, 1, 0), Ins::new(ReturnR, 0, 2, 0, 0)];
-    println!(\"{:?}\", turniploom::live_across(&code, 3, &[]).unwrap()[0]);
-}";
-
 /// By its path in the repository, with an archive that is reached through a link of another name.
 #[test]
 fn a_host_outside_the_workspace_by_path() {
     let folder = folder("by-path");
     let link = folder.join("calls-of-today.a");
-    std::os::unix::fs::symlink(ARCHIVE, &link).unwrap();
-    host(&folder, "by-path", here(), KEEP);
-    assert_eq!(printed(&folder, link.to_str()), "[0]\n");
+    symlink(ARCHIVE, &link).unwrap();
+    host(&folder, "by-path", here(), include_str!("../examples/keep.rs"));
+    assert_eq!(printed(&folder, link.to_str()), include_str!("examples/keep.txt"));
 }
 
 /// By a copy that holds its own archive, with nothing of this repository at hand.
@@ -148,6 +154,6 @@ fn a_host_with_a_copy_of_the_crate() {
     let folder = folder("by-copy");
     copied(&folder.join("vendor/turniploom"));
     fs::copy(ARCHIVE, folder.join("vendor/turniploom/libturniploom.a")).unwrap();
-    host(&folder, "by-copy", Path::new("vendor/turniploom"), KEEP);
-    assert_eq!(printed(&folder, None), "[0]\n");
+    host(&folder, "by-copy", Path::new("vendor/turniploom"), include_str!("../examples/fold.rs"));
+    assert_eq!(printed(&folder, None), include_str!("examples/fold.txt"));
 }

@@ -1,8 +1,8 @@
 //! Every kind of bad code and bad position gets its refusal, from each call that takes code and a position.
 
-use turniploom::{Code, DUNDER, Ins, REGISTER, Refusal, WIDE, field, kinds, op, role, writes};
+use turniploom::{Code, DUNDER, Ins, Op, REGISTER, Refusal, WIDE, field, kinds, op, role, writes};
 
-fn i(op: u16, a: u16, b: u16, c: u16, x: u16) -> Ins { Ins { op, marks: 0, a, b, c, x } }
+fn i(op: Op, a: u16, b: u16, c: u16, x: u16) -> Ins { Ins { op, marks: 0, a, b, c, x } }
 
 fn wide(i: Ins) -> Ins { Ins { marks: WIDE, ..i } }
 
@@ -17,7 +17,7 @@ fn asked(code: &(impl Code + ?Sized), at: usize) -> Option<Refusal> {
 
 fn record(position: u64) -> Option<Refusal> { Some(Refusal::Record { position }) }
 
-const NOP: Ins = Ins { op: 0, marks: 0, a: 0, b: 0, c: 0, x: 0 };
+const NOP: Ins = Ins::unmarked(Op::OTHER, 0, 0, 0, 0);
 
 #[test]
 fn odd_length() {
@@ -32,8 +32,8 @@ fn too_many_instructions() {
 
 #[test]
 fn unknown_opcode() {
-    for o in 0..=190 { assert_ne!(asked(&[NOP, i(o, 0, 0, 0, 1)], 1), record(0)) }
-    for o in [191, 192, 255, 256, 65_535] { assert_eq!(asked(&[NOP, i(o, 0, 0, 0, 0)], 0), record(1)) }
+    for o in 0..=190 { assert_ne!(asked(&[NOP, i(Op(o), 0, 0, 0, 1)], 1), record(0)) }
+    for o in [191, 192, 255, 256, 65_535] { assert_eq!(asked(&[NOP, i(Op(o), 0, 0, 0, 0)], 0), record(1)) }
 }
 
 #[test]
@@ -44,7 +44,7 @@ fn stray_marks() {
 
 #[test]
 fn wide_mark_on_another_opcode() {
-    for o in [0, op::Call, op::CallValueR, op::ArgsR] { assert_eq!(asked(&[NOP, wide(i(o, 0, 0, 0, 0)), i(op::ArgsR, 0, 0, 0, 0)], 0), record(1)) }
+    for o in [Op::OTHER, op::Call, op::CallValueR, op::ArgsR] { assert_eq!(asked(&[NOP, wide(i(o, 0, 0, 0, 0)), i(op::ArgsR, 0, 0, 0, 0)], 0), record(1)) }
 }
 
 #[test]
@@ -109,7 +109,7 @@ fn position_n() {
 fn refusals_in_their_order() {
     // The length is tested before the records, the records before the position, and the first bad record is named.
     assert_eq!(asked(&vec![255u16; 7], 9), Some(Refusal::Code { length: 7 }));
-    assert_eq!(asked(&[NOP, i(255, 0, 0, 0, 0), i(255, 0, 0, 0, 0)], 9), record(1));
+    assert_eq!(asked(&[NOP, i(Op(255), 0, 0, 0, 0), i(Op(255), 0, 0, 0, 0)], 9), record(1));
 }
 
 #[test]

@@ -1,17 +1,18 @@
 //! The header for C: a program in C is compiled with it, linked with the archive and run; its numbers are the crate's.
 
 use std::{collections::BTreeSet, env, fs, path::{Path, PathBuf}, process::Command};
-use turniploom::{abi::{CALLS, Call, Kind, Param, Width}, op};
+use turniploom::{Instruction, Lowered, Op, abi::{Answer, CALLS, Call, Kind, Param, Width}, marked, op};
 
 fn here() -> &'static Path { Path::new(env!("CARGO_MANIFEST_DIR")) }
 
 fn header() -> String { fs::read_to_string(here().join("../../include/turniploom.h")).unwrap() }
 
-/// Compiles and runs tests/c/host.c as the given language.
-fn built(language: &str, flags: &[&str]) -> Option<String> {
-    let out = PathBuf::from(env!("CARGO_TARGET_TMPDIR")).join(format!("host-{language}"));
+/// Compiles a program as the given language and runs it; none where there is no compiler.
+fn built(language: &str, flags: &[&str], source: &str) -> Option<String> {
+    let name = source.replace(['/', '.'], "-");
+    let out = PathBuf::from(env!("CARGO_TARGET_TMPDIR")).join(format!("{name}-{language}"));
     let gcc = Command::new("gcc").args(["-x", language, "-Wall", "-Wextra", "-Werror", "-pedantic"]).args(flags)
-        .arg("-I").arg(here().join("../../include")).arg(here().join("tests/c/host.c")).args(["-x", "none"]).arg(env!("TURNIPLOOM_ARCHIVE")).arg("-o").arg(&out)
+        .arg("-I").arg(here().join("../../include")).arg(here().join(source)).args(["-x", "none"]).arg(env!("TURNIPLOOM_ARCHIVE")).arg("-o").arg(&out)
         .output().ok()?;
     let said = String::from_utf8_lossy(&gcc.stderr).into_owned();
     if said.contains("cc1plus") && said.contains("No such file") { return None }
@@ -21,11 +22,43 @@ fn built(language: &str, flags: &[&str]) -> Option<String> {
     Some(String::from_utf8_lossy(&run.stdout).into_owned())
 }
 
+/// The marks of each opcode by itself, as the program prints them: of code, where GetItemR may run a dunder, and of a chunk.
+fn marks() -> String {
+    let line = |op: Op| {
+        let code = marked(&[Lowered::new(op, 0, 0, 0, 0)], |i| i.op == op::GetItemR);
+        format!("{} {} {}\n", op.number(), code[0].marks, Instruction::new(op, 0).marks)
+    };
+    (0..=191).map(|n| line(Op(n))).collect()
+}
+
+/// The text of each refusal, as the program prints it.
+fn texts() -> String {
+    let refusal = |number: u8| Answer { refusal: number, ..Answer::default() }.granted().unwrap_err();
+    let known = (1..=7).map(|n| { assert_eq!(refusal(n).number(), n); format!("{}\n", refusal(n).rule()) });
+    known.chain(["no refusal\n".into(), "a refusal that this header does not know\n".into()]).collect()
+}
+
 #[test]
 fn a_host_in_c() {
-    match built("c", &["-std=c11"]) {
-        Some(said) => assert_eq!(said, "all is well\n"),
+    match built("c", &["-std=c11"], "tests/c/host.c") {
+        Some(said) => assert_eq!(said, marks() + &texts() + "all is well\n"),
         None => println!("skipped: there is no gcc"),
+    }
+}
+
+#[test]
+fn the_sample_in_c() {
+    let said = built("c", &["-std=c11"], "../../samples/host.c");
+    let due = "turniploom 0.1.0: 2 kept, in 1 full sweeps\n0 keeps r9\n3 keeps r7\nrefused (3): there are more than 1,024 registers, 2000 of them\n";
+    if let Some(said) = said { assert_eq!(said, due) } else { println!("skipped: there is no gcc") }
+}
+
+#[test]
+fn the_header_has_the_crates_version() {
+    let text = header();
+    let [major, minor, patch] = [env!("CARGO_PKG_VERSION_MAJOR"), env!("CARGO_PKG_VERSION_MINOR"), env!("CARGO_PKG_VERSION_PATCH")];
+    for (name, value) in [("_MAJOR", major), ("_MINOR", minor), ("_PATCH", patch), ("", concat!("\"", env!("CARGO_PKG_VERSION"), "\""))] {
+        assert!(text.contains(&format!("#define TURNIPLOOM_VERSION{name} {value}\n")), "TURNIPLOOM_VERSION{name} {value}");
     }
 }
 
@@ -41,7 +74,7 @@ fn the_archive_has_exactly_the_calls_of_the_table() {
 
 #[test]
 fn the_header_is_good_cpp_too() {
-    if built("c++", &["-std=c++17"]).is_none() { println!("skipped: there is no compiler for C++") }
+    if built("c++", &["-std=c++17"], "tests/c/host.c").is_none() { println!("skipped: there is no compiler for C++") }
 }
 
 /// The archive stands by itself: no allocator, no panic, no system. A compiler may still copy and compare by these.
@@ -112,5 +145,5 @@ fn the_header_has_every_opcode_number() {
     let text = header();
     let listed = text.split_once("enum turniploom_opcode {").unwrap().1.split_once('}').unwrap().0;
     let numbers: Vec<String> = listed.split(',').map(|n| n.trim().to_string()).collect();
-    assert_eq!(numbers, op::ALL.map(|(number, name)| format!("TURNIPLOOM_{name} = {number}")));
+    assert_eq!(numbers, op::ALL.map(|o| format!("TURNIPLOOM_{o} = {}", o.number())));
 }

@@ -22,8 +22,8 @@ static COUNTING: Counting = Counting;
 
 /// Document 01's code K.
 const K: [Ins; 6] = [
-    Ins::new(LoadGlobalR, 0, 7, 0, 0), Ins::new(LoadGlobalR, 1, 9, 0, 0), Ins::new(CallR, 1, 0, 0, 0), Ins::new(StoreTopR, 2, 0, 0, 0),
-    Ins::new(AddR, 3, 0, 2, 0), Ins::new(ReturnR, 0, 3, 0, 0),
+    Ins::unmarked(LoadGlobalR, 0, 7, 0, 0), Ins::unmarked(LoadGlobalR, 1, 9, 0, 0), Ins::unmarked(CallR, 1, 0, 0, 0), Ins::unmarked(StoreTopR, 2, 0, 0, 0),
+    Ins::unmarked(AddR, 3, 0, 2, 0), Ins::unmarked(ReturnR, 0, 3, 0, 0),
 ];
 
 #[test]
@@ -44,22 +44,22 @@ fn no_call_allocates() {
 
 #[test]
 fn folding_allocates_nothing() {
-    let mut code = [LoadConst, 2, 0, LoadConst, 2, 1, Add, 0, 0, Jump, 1, 2];
+    let mut code = [LoadConst.0, 2, 0, LoadConst.0, 2, 1, Add.0, 0, 0, Jump.0, 1, 2];
     let (mut kinds, mut words, mut dead, mut remap) = ([1, 1, 0], [2, 3, 0], [9; 4], [9; 5]);
     let before = ALLOCATED.get();
     let a = abi::fold(&mut code, &mut kinds, &mut words, 2, &mut [0; 4], 0, &mut [], 0, &mut [], 0, &mut [], 0, &mut dead, &mut remap, false);
     assert_eq!(ALLOCATED.get(), before);
-    assert_eq!((a.refusal, a.first, a.second, code), (0, 2, 3, [LoadConst, 2, 2, Jump, 1, 1, 0, 0, 0, 0, 0, 0]));
+    assert_eq!((a.refusal, a.first, a.second, code), (0, 2, 3, [LoadConst.0, 2, 2, Jump.0, 1, 1, 0, 0, 0, 0, 0, 0]));
     assert_eq!((kinds, words, dead, remap), ([1, 1, 1], [2, 3, 5], [0, 1, 1, 0], [0, 1, 1, 1, 2]));
 }
 
 #[test]
 fn clearing_allocates_nothing() {
-    let mut code = [LoadConst, 2, 2, Jump, 1, 1, LoadConst, 2, 3];
+    let mut code = [LoadConst.0, 2, 2, Jump.0, 1, 1, LoadConst.0, 2, 3];
     let (mut kinds, mut words, mut scratch) = ([1, 1, 1, 9], [2, 3, 5, 9], [9; 4]);
     let before = ALLOCATED.get();
     let a = abi::clear(&mut code, &mut kinds, &mut words, 3, &mut scratch);
     assert_eq!(ALLOCATED.get(), before);
-    assert_eq!((a.refusal, a.first, code), (0, 1, [LoadConst, 2, 0, Jump, 1, 1, LoadConst, 2, 3]));
+    assert_eq!((a.refusal, a.first, code), (0, 1, [LoadConst.0, 2, 0, Jump.0, 1, 1, LoadConst.0, 2, 3]));
     assert_eq!((kinds, words, scratch), ([1, 0, 0, 9], [5, 0, 0, 9], [0, 0, 0, 9]));
 }

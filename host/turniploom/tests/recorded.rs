@@ -2,7 +2,7 @@
 //!
 //! host/README.md has the form of a record; `oracle record` writes the file.
 
-use std::{collections::BTreeMap, str::SplitWhitespace};
+use std::{collections::BTreeMap, io::Write, str::SplitWhitespace};
 use turniploom::abi::{Answer, Arg, CALLS, Kind, Width};
 
 const RECORDED: &str = include_str!("recorded.txt");
@@ -110,7 +110,9 @@ fn whole() -> BTreeMap<&'static str, usize> { CALLS.iter().map(|call| (call.name
 #[test]
 fn every_record_agrees() {
     let agree = replayed(RECORDED).unwrap_or_else(|says| panic!("tests/recorded.txt, {says}"));
-    for (call, count) in &agree { println!("{call} {count} agree") }
+    // Past the test's own capture, so that it is read also where all is well.
+    let told: Vec<String> = CALLS.iter().map(|call| format!("{} {}", call.name, agree.get(call.name).unwrap_or(&0))).collect();
+    writeln!(std::io::stderr(), "recorded answers that agree: {}", told.join(", ")).unwrap();
     assert_eq!(agree, whole());
 }
 

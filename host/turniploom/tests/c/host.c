@@ -13,7 +13,74 @@ static const uint16_t K[] = {
 };
 enum { WORDS = sizeof K / sizeof K[0] };
 
+static bool no_dunder(uint16_t op) { (void)op; return false; }
+static bool get_item(uint16_t op) { return op == TURNIPLOOM_GetItemR; }
+
+/* A wide call, whose mark decides what is kept, and the marks of every opcode. */
+static void marks(void) {
+    uint16_t code[] = {TURNIPLOOM_CallR, 0, 5, 0, 1, 5, TURNIPLOOM_ArgsR, 0, 9, 4, 5, 0, TURNIPLOOM_StoreTopR, 0, 6, 0, 0, 0,
+                       TURNIPLOOM_AddR, 0, 7, 6, 9, 0,  TURNIPLOOM_ReturnR, 0, 0, 7, 0, 0};
+    static const uint32_t no_tries[1] = {0};
+    uint64_t rows[6];
+    uint32_t offsets[6];
+    uint16_t list[4], op, one[6] = {0}, chunk[3] = {0};
+    turniploom_answer kept = turniploom_kept(code, 30, 10, no_tries, 0, false, rows, 6, offsets, 6, list, 4);
+    SHOW(kept.first == 2 && list[0] == 4 && list[1] == 5);
+    turniploom_mark(code, 30, no_dunder);
+    SHOW(code[1] == (TURNIPLOOM_WIDE | TURNIPLOOM_IS_REGISTER));
+    kept = turniploom_kept(code, 30, 10, no_tries, 0, false, rows, 6, offsets, 6, list, 4);
+    SHOW(kept.first == 1 && list[0] == 9);
+    for (op = 0; op <= 191; op++) {
+        one[0] = chunk[0] = op;
+        turniploom_mark(one, 6, get_item);
+        turniploom_mark_chunk(chunk, 3);
+        printf("%d %d %d\n", op, one[1], chunk[1]);
+    }
+}
+
+/* The lengths that the macros give are enough, and one less is refused where nothing shorter would do. */
+static void lengths(void) {
+    uint64_t rows[TURNIPLOOM_ROWS_LEN(6, 65)];
+    uint32_t offsets[TURNIPLOOM_ENDS_LEN(6)], out[TURNIPLOOM_ENDS_LEN(6)];
+    uint16_t list[TURNIPLOOM_LIST_LEN(6, 65)];
+    static const uint32_t no_tries[1] = {0};
+    turniploom_answer a = turniploom_kept(K, WORDS, 65, no_tries, 0, false, rows, TURNIPLOOM_ROWS_LEN(6, 65) - 1, offsets, 7, list, 390);
+    SHOW(a.refusal == TURNIPLOOM_BUFFER && a.first == 1 && a.second == TURNIPLOOM_ROWS_LEN(6, 65));
+    a = turniploom_kept(K, WORDS, 65, no_tries, 0, false, rows, TURNIPLOOM_ROWS_LEN(6, 65), offsets, TURNIPLOOM_ENDS_LEN(6) - 1, list, 390);
+    SHOW(a.refusal == TURNIPLOOM_BUFFER && a.first == 2 && a.second == TURNIPLOOM_ENDS_LEN(6));
+    SHOW(turniploom_kept(K, WORDS, 65, no_tries, 0, false, rows, 14, offsets, 7, list, TURNIPLOOM_LIST_LEN(6, 65)).refusal == 0);
+    a = turniploom_loops_around(K, WORDS, out, TURNIPLOOM_ENDS_LEN(6) - 1);
+    SHOW(a.refusal == TURNIPLOOM_BUFFER && a.second == TURNIPLOOM_ENDS_LEN(6));
+    SHOW(TURNIPLOOM_ROW_WORDS(0) == 1 && TURNIPLOOM_ROW_WORDS(64) == 1 && TURNIPLOOM_ROW_WORDS(65) == 2 && TURNIPLOOM_ROW_WORDS(1024) == 16);
+}
+
+/* A negation and two Phis, with room as the macros give it. */
+static void room(void) {
+    uint16_t code[] = {TURNIPLOOM_LoadConst, 0, 0, TURNIPLOOM_Minus, 0, 0, TURNIPLOOM_Phi, 0, 0, TURNIPLOOM_Phi, 0, 0};
+    uint8_t kinds[TURNIPLOOM_CONSTANTS_LEN(4, 1)] = {TURNIPLOOM_INT}, dead[TURNIPLOOM_MARKS_LEN(4)];
+    uint64_t words[TURNIPLOOM_CONSTANTS_LEN(4, 1)] = {7};
+    uint32_t phi_map[TURNIPLOOM_MARKS_LEN(4)] = {0}, remap[TURNIPLOOM_ENDS_LEN(4)], none[1] = {0};
+    uint16_t sources[TURNIPLOOM_PHI_SOURCES_LEN(4, 2)] = {1, 2};
+    turniploom_answer a;
+    turniploom_mark_chunk(code, 12);
+    a = turniploom_fold(code, 12, kinds, 5, words, 5, 1, phi_map, 4, 4, sources, TURNIPLOOM_PHI_SOURCES_LEN(4, 2), 2, none, 0, 0, none, 0, 0, dead, 4,
+                        remap, TURNIPLOOM_ENDS_LEN(4), false);
+    SHOW(a.refusal == 0 && a.first == 3 && a.second == 2 && words[1] == (uint64_t)-7);
+}
+
+/* The text of each refusal. */
+static void texts(void) {
+    uint8_t k;
+    for (k = 1; k <= 7; k++) puts(turniploom_refusal_text(k));
+    puts(turniploom_refusal_text(0));
+    puts(turniploom_refusal_text(200));
+}
+
 int main(void) {
+    marks();
+    texts();
+    lengths();
+    room();
     SHOW(turniploom_kinds(K, WORDS, 4).first == 13);
     turniploom_answer refused = turniploom_kinds(K, WORDS - 1, 4);
     SHOW(refused.refusal == TURNIPLOOM_CODE && refused.first == WORDS - 1 && refused.second == 0);

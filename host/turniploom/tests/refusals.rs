@@ -1,0 +1,65 @@
+//! A refusal says which rule was broken, and how: one sentence for each rule of docs/BUFFERS.md.
+
+use turniploom::{Chunk, Constant::Int, Ins, Instruction, JUMP, NAMES, Op, WIDE, constant_fold, kept, op::*};
+
+/// What is said of a code of this instruction between two others.
+fn code(i: Ins) -> String {
+    let code = [Ins::default(), i, Ins::default()];
+    kept(&code, 4, &[], false).unwrap_err().in_code(&code, &[])
+}
+
+#[test]
+fn every_record_rule_has_its_sentence() {
+    let due = |rule: &str| format!("the instruction at 1 breaks a record rule: {rule}");
+    let ins = |op: Op, b: u16, x: u16| Ins { op, marks: 0, a: 0, b, c: 0, x };
+    for (i, rule) in [
+        (ins(Op(191), 0, 0), "no opcode has the number 191"),
+        (ins(Move, 0, 0).with(8), "8 has bits that are no mark"),
+        (ins(Move, 0, 0).with(WIDE), "Move is none of the four calls that can be wide"),
+        (ins(Move, 0, 256), "x is 256, more than 255"),
+        (ins(PushRegs, 0, 4), "PushRegs pushes at most 3 registers, not 4"),
+        (ins(UnpackR, 0, 0), "UnpackR unpacks into at least one register"),
+        (ins(CallR, 0, 0).with(WIDE), "a wide call is followed by its ArgsR"),
+        (ins(WithEnter, 65_534, 1), "b is 65534, and WithEnter writes registers from b on past 65,535"),
+        (ins(WithExit, 65_531, 2), "b is 65531, and WithExit writes registers from b on past 65,535"),
+    ] { assert_eq!(code(i), due(rule)) }
+    let first = [Ins::unmarked(ArgsR, 0, 0, 0, 0)];
+    assert_eq!(kept(&first, 4, &[], false).unwrap_err().in_code(&first, &[]), "the instruction at 0 breaks a record rule: ArgsR stands first, after no call");
+}
+
+#[test]
+fn registers_tries_and_lengths() {
+    let code = [Ins::default(); 2];
+    let says = |regs: usize, tries: &[(usize, usize)]| kept(&code, regs, tries, false).unwrap_err().in_code(&code, tries);
+    assert_eq!(says(1_025, &[]), "1025 registers are more than 1,024");
+    assert_eq!(says(4, &[(0, 1), (2, 1)]), "try 1 breaks its rule: it starts at 2, past its handler at 1");
+    assert_eq!(says(4, &[(3, 9)]), "try 0 breaks its rule: it starts at 3, past the end at 2");
+    let words = [0u16; 7];
+    assert_eq!(kept(&words, 4, &[], false).unwrap_err().in_code(&words, &[]), "a code of 7 words is no whole number of instructions, or too long");
+}
+
+#[test]
+fn every_rule_of_a_chunk_has_its_sentence() {
+    let says = |mut chunk: Chunk| constant_fold(&mut chunk, false).unwrap_err().in_chunk(&chunk);
+    let of = |i: Instruction| says(Chunk::new(vec![i], vec![Int(1)]));
+    let due = |rule: &str| format!("the instruction at 0 breaks a record rule: {rule}");
+    assert_eq!(of(Instruction::new(Op(200), 0)), due("no opcode has the number 200"));
+    assert_eq!(of(Instruction::new(PopTop, 0).with(4)), due("4 has bits that are no mark"));
+    assert_eq!(of(Instruction::new(Add, 0).with(JUMP)), due("LoadConst, Phi and the folding operators are no jumps"));
+    assert_eq!(of(Instruction::new(Jump, 0).with(NAMES)), due("a jump, a Phi and a folding operator name no constant"));
+    let mut mapped = Chunk::new(vec![Instruction::new(PopTop, 0)], vec![]);
+    mapped.phi_map = vec![0, 0];
+    assert_eq!(says(mapped), "table 2 of the chunk breaks its rule: phi_map has 2 entries, not 0 and not 1, one for each instruction");
+    let many = Chunk::new(vec![], vec![Int(0); 65_537]);
+    assert_eq!(says(many), "table 1 of the chunk breaks its rule: there are at most 65,536 constants, of the kinds 0 to 3, and a bool is 0 or 1");
+}
+
+/// The crate leans on core and alloc alone.
+#[test]
+fn no_std() {
+    for file in std::fs::read_dir(concat!(env!("CARGO_MANIFEST_DIR"), "/src")).unwrap() {
+        let text = std::fs::read_to_string(file.unwrap().path()).unwrap();
+        assert!(!text.contains("std::"));
+    }
+    assert!(include_str!("../src/lib.rs").contains("#![no_std]"));
+}

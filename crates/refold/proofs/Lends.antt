@@ -36,6 +36,7 @@ use Rattle.optimizer.specs.declared.FoldAnswer.the-variants.{Is, No}
 use Rattle.optimizer.proofs.Whole.{pass-kept, exact-of, fit-of}
 use Rattle.optimizer.proofs.Again.{again}
 use Rattle.optimizer.proofs.Tested.{held-of}
+use Rattle.clear.proofs.Accepts.{table-on, room-on}
 use Rattle.refold.proofs.Pushes.{all-pushed, pool-again}
 use Rattle.refold.proofs.Prefix.{prefix}
 use Rattle.refold.proofs.Spent.{waiting, all-spent}
@@ -54,13 +55,13 @@ table-kept n (Count m) t true e = (e, refl)
 table-kept n (Count m) t false e = never n (Table t) e
 
 -- the rules of all five tables
-record Kept (n k : ℕ) (v : Checked) (kinds words : List ℕ) (c : Counts) (l : Lens) : Type 0 where
-  before : v ≡ Count n
-  constants : constantsKept kinds words (c .constants) ≡ true
-  map : mapKept k (c .map) (l .map) ≡ true
-  sources : pairsKept (c .sources) (l .sources) ≡ true
-  stmts : pairsKept (c .stmts) (l .stmts) ≡ true
-  calls : pairsKept (c .calls) (l .calls) ≡ true
+pub record Kept (n k : ℕ) (v : Checked) (kinds words : List ℕ) (c : Counts) (l : Lens) : Type 0 where
+  pub before : v ≡ Count n
+  pub constants : constantsKept kinds words (c .constants) ≡ true
+  pub map : mapKept k (c .map) (l .map) ≡ true
+  pub sources : pairsKept (c .sources) (l .sources) ≡ true
+  pub stmts : pairsKept (c .stmts) (l .stmts) ≡ true
+  pub calls : pairsKept (c .calls) (l .calls) ≡ true
 
 tables-kept : (n k : ℕ) (v : Checked) (kinds words : List ℕ) (c : Counts) (l : Lens) → tablesOf v k kinds words c l ≡ Count n → Kept n k v kinds words c l
 unfolding tablesOf
@@ -96,12 +97,6 @@ check-count w n e = go (uneven w) refl (ltb (firstBad w) (count w)) refl e
     go false p false q g = let z : Count (count w) ≡ Count n = rw (p, q) at g in cc
 
 -- ---- and what they ask for
-
-table-on : (n : ℕ) (v : Checked) (t : ℕ) (kept : Bool) → v ≡ Count n → kept ≡ true → tableOf v t kept ≡ Count n
-table-on n v t kept e f = rw (e, f)
-
-room-on : (n : ℕ) (v : Checked) (b have needed : ℕ) → v ≡ Count n → needed ≤ have → roomOf v b have needed ≡ Count n
-room-on n v b have needed e h = rw (e, le-ltb have needed h)
 
 tables-on : (n k : ℕ) (v : Checked) (kinds words : List ℕ) (c : Counts) (l : Lens) → Kept n k v kinds words c l → tablesOf v k kinds words c l ≡ Count n
 unfolding tablesOf
@@ -160,7 +155,7 @@ pairs-is words len e = eqb-true (words % 2) 0 (and-true (eqb (words % 2) 0) (leb
 -- ---- the parts of an answer
 
 module _ (strict : Bool) (b : Buffers) (c : Counts) where
-  abbrev o : Outcome Folded
+  abbrev pub o : Outcome Folded
   o = constantFold strict (needed b c) c
 
   pub call-refused : (r : Refusal) → readyOf (b .code) (b .kinds) (b .words) c (lensOf b) ≡ Refused r → foldCall strict b c ≡ outcome (No r) b
@@ -176,18 +171,18 @@ module _ (strict : Bool) (b : Buffers) (c : Counts) where
   joined-answer = refl
 
   -- the chunk that the pass begins with, and ends with
-  abbrev clean : Chunk
+  abbrev pub clean : Chunk
   clean = chunk (b .code) (replicate (length (take (count (b .code)) (b .dead))) 0) (b .kinds) (b .words) (c .constants)
 
-  abbrev end : Chunk
+  abbrev pub end : Chunk
   end = foldPass strict (chunk (b .code) (take (count (b .code)) (b .dead)) (b .kinds) (b .words) (c .constants))
 
-  abbrev before : Tables
+  abbrev pub before : Tables
   before =
       tables (end .code) (needed b c .map) (needed b c .sources) (needed b c .stmts) (needed b c .calls) (end .dead) (needed b c .remap)
       (record { instructions = length (needed b c .dead); map = c .map; sources = c .sources })
 
-  abbrev after : Tables
+  abbrev pub after : Tables
   after = finished before
 
   end-is : end ≡ foldAll strict clean
@@ -195,7 +190,7 @@ module _ (strict : Bool) (b : Buffers) (c : Counts) where
   end-is = refl
 
   module _ (m : ℕ) (q : readyOf (b .code) (b .kinds) (b .words) c (lensOf b) ≡ Count m) where
-    rules : Kept m (count (b .code)) (checkOf (b .code)) (b .kinds) (b .words) c (lensOf b)
+    pub rules : Kept m (count (b .code)) (checkOf (b .code)) (b .kinds) (b .words) c (lensOf b)
     rules = ready-kept m (b .code) (b .kinds) (b .words) c (lensOf b) q
 
     held : Held b c
@@ -215,7 +210,7 @@ module _ (strict : Bool) (b : Buffers) (c : Counts) where
         fit-of (b .code) (b .kinds) (b .words) (needed b c .map) (needed b c .sources) (needed b c .stmts) (needed b c .calls) (needed b c .dead) (needed b c .remap) c
         strict (end .code) (end .dead) (end .kinds) (end .words) (end .constants) exact refl
 
-    lent-clean : Lent clean
+    pub lent-clean : Lent clean
     unfolding tallyOf
     lent-clean =
         record { few = held .constants; marks = omega (arith, marks, length-replicate {A = ℕ} (length (take (count (b .code)) (b .dead))) 0); kinds-room = held .kinds; words-room = held .words }

@@ -6,4 +6,6 @@ pub mod Spent
 pub mod Settled
 pub mod Lends
 pub mod Chain
+pub mod Beside
+pub mod Refolds
 pub mod Scratch

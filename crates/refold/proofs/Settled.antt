@@ -29,10 +29,7 @@ use Rattle.refold.proofs.Spent.{waiting}
 
 -- ---- how many of the live instructions pass a test of their opcode
 
-module _ (g : ℕ → Bool) (dead w : List ℕ) where
-  abbrev lived : ℕ → Bool
-  lived j = g (opAt w j) && alive dead j
-
+module _ (dead w : List ℕ) where
   abbrev packed : ℕ → List ℕ
   packed k = each (leftAt dead w) k
 
@@ -40,10 +37,14 @@ module _ (g : ℕ → Bool) (dead w : List ℕ) where
   one-long k true = refl
   one-long k false = refl
 
-  packed-long : (k : ℕ) → length (packed k) ≡ stride * live dead k
+  pub packed-long : (k : ℕ) → length (packed k) ≡ stride * live dead k
   unfolding each many
   packed-long zero = refl
   packed-long (suc k) = length-append (packed k) (leftAt dead w k) ∙ omega (arith, packed-long k, one-long k (alive dead k))
+
+module _ (g : ℕ → Bool) (dead w : List ℕ) where
+  abbrev lived : ℕ → Bool
+  lived j = g (opAt w j) && alive dead j
 
   and-yes : (b : Bool) → b && true ≡ b
   and-yes true = refl
@@ -53,7 +54,7 @@ module _ (g : ℕ → Bool) (dead w : List ℕ) where
   and-no true = refl
   and-no false = refl
 
-  pub packed-many : (k : ℕ) → many (λ i. g (opAt (packed k) i)) (live dead k) ≡ many lived k
+  pub packed-many : (k : ℕ) → many (λ i. g (opAt (packed dead w k) i)) (live dead k) ≡ many lived k
   unfolding each many
   packed-many zero = refl
   packed-many (suc k) = go (alive dead k) (packed-many k)
@@ -65,14 +66,14 @@ module _ (g : ℕ → Bool) (dead w : List ℕ) where
       r = many (alive dead) k
 
       before : (rest : List ℕ) (i : ℕ) → i < r → g (opAt (p ++ rest) i) ≡ g (opAt p i)
-      before rest i h = ap g (List·getD-append p rest 0 (stride * i) (omega (arith, packed-long k)))
+      before rest i h = ap g (List·getD-append p rest 0 (stride * i) (omega (arith, packed-long dead w k)))
 
       same : (rest : List ℕ) → many (λ i. g (opAt p i)) r ≡ many lived k → many (λ i. g (opAt (p ++ rest) i)) r ≡ many lived k
       same rest ih = many-ext (λ i. g (opAt (p ++ rest) i)) (λ i. g (opAt p i)) r (before rest) ∙ ih
 
       at : (o m v : ℕ) → opAt (p ++ (o ∷ m ∷ v ∷ [])) r ≡ o
       at o m v =
-          let e : stride * r ≡ length p + 0 = omega (arith, packed-long k) in
+          let e : stride * r ≡ length p + 0 = omega (arith, packed-long dead w k) in
           ap (λ (i : ℕ). getD (p ++ (o ∷ m ∷ v ∷ [])) i 0) e ∙ getD-append-add p (o ∷ m ∷ v ∷ []) 0 0
 
       go : (t : Bool) → many (λ i. g (opAt p i)) r ≡ many lived k
@@ -187,7 +188,7 @@ module _ (t : Tables) (fit : Fit t) (all : t .left .instructions ≡ length (t .
 
   left-length : length (left d (t .code)) ≡ stride * live d (length d)
   unfolding left
-  left-length = packed-long (λ o. true) d (t .code) (length d)
+  left-length = packed-long d (t .code) (length d)
 
   new-length : length new ≡ length (t .code)
   unfolding compacted

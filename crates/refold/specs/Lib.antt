@@ -1,2 +1,3 @@
 pub mod Pushed
 pub mod Lendable
+pub mod Refolded

@@ -22,7 +22,7 @@ use Rattle.refold.specs.Lendable.{cutAt, countsLeft, Lendable, clearable
 use Rattle.refold.proofs.Lends.{call-answered, joined-answer, lends}
 
 -- an accepted chunk is folded
-folds : (strict : Bool) (b : Buffers) (c : Counts) (n : ℕ) → readyOf (b .code) (b .kinds) (b .words) c (lensOf b) ≡ Count n
+pub folds : (strict : Bool) (b : Buffers) (c : Counts) (n : ℕ) → readyOf (b .code) (b .kinds) (b .words) c (lensOf b) ≡ Count n
     → (g : Folded) × (y : Buffers) × (foldCall strict b c ≡ outcome (Is g) y)
 folds strict b c n e =
     let o = constantFold strict (needed b c) c in

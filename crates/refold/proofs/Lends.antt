@@ -1,15 +1,16 @@
 -- An answered fold leaves a chunk that the next call accepts, cut at the answered count. Assumes nothing.
-use Prim.Native.Nat.{ℕ, _+_, _*_, _%_, _≤_}
+use Prim.Native.Nat.{ℕ, _+_, _-_, _*_, _%_, _≤_}
 use native.Mathlib.Omega.{arith}
-use mathlib.Core.Path.{_≡_, refl, sym, ap, _∙_}
+use mathlib.Core.Path.{_≡_, refl, sym, ap, _∙_, subst}
 use mathlib.Core.Logic.{_⊎_, inl, inr, ⊎-elim}
 use mathlib.Core.Bool.{Bool, true, false, _&&_, _||_}
 use mathlib.Core.List.{List, _++_}
 use lib.Dec.{eqb, leb, ltb}
-use lib.ListN.{length, take, drop, replicate, length-append, length-replicate}
-use lib.Seq.{length-take-le}
+use lib.ListN.{length, getD, take, drop, replicate, length-append, length-drop, length-replicate, take-append-drop, List·getD-append}
+use lib.Seq.{length-take-le, getD-drop, ext-getD, drop-at}
 use borrow.Author.Tests.{eqb-true, eq-eqb, le-leb, le-ltb}
 use Rattle.laws.specs.All.{every, many}
+use Rattle.laws.specs.Table as Table
 use Rattle.laws.proofs.Branch.{and-true}
 use Rattle.laws.proofs.Many.{many-fewer}
 use Rattle.code.specs.Check.{roomOf}
@@ -35,13 +36,15 @@ use Rattle.optimizer.specs.declared.FoldAnswer.{FoldAnswer}
 use Rattle.optimizer.specs.declared.FoldAnswer.the-variants.{Is, No}
 use Rattle.optimizer.proofs.Whole.{pass-kept, exact-of, fit-of}
 use Rattle.optimizer.proofs.Again.{again}
+use Rattle.optimizer.proofs.Idle.{as-lent}
 use Rattle.optimizer.proofs.Tested.{held-of}
 use Rattle.clear.proofs.Accepts.{table-on, room-on}
-use Rattle.refold.proofs.Pushes.{all-pushed, pool-again}
+use Rattle.refold.proofs.Pushes.{all-pushed, all-held as pool-few, pool-again, every-at, every-of}
 use Rattle.refold.proofs.Prefix.{prefix}
 use Rattle.refold.proofs.Spent.{waiting, all-spent}
 use Rattle.refold.proofs.Settled.{Settled, settled}
 use Rattle.refold.specs.Pushed.{Pushed}
+use Rattle.refold.specs.Left.{PoolLeft, FoldBeyond, NoneDied, asLent}
 use Rattle.refold.specs.Lendable.{cutAt, countsLeft, Lendable}
 
 never : {A : Type 0} (n : ℕ) (r : Refusal) → Refused r ≡ Count n → A
@@ -152,6 +155,20 @@ pairs-on words len e h = rw (eq-eqb (words % 2) 0 e, le-leb words len h)
 pairs-is : (words len : ℕ) → pairsKept words len ≡ true → words % 2 ≡ 0
 pairs-is words len e = eqb-true (words % 2) 0 (and-true (eqb (words % 2) 0) (leb words len) e .0)
 
+-- ---- a buffer that keeps its length and its tail
+
+front-held : (m : ℕ) (front l : List ℕ) → length front ≡ m → m ≤ length l → Table.Held m l (front ++ drop m l)
+front-held m front l e h = record { same = length-append front (drop m l) ∙ omega (arith, length-drop m l); tail = drop-at front (drop m l) m e }
+
+past-held : (m : ℕ) (l l′ : List ℕ) → length l′ ≡ length l → ((i : ℕ) → m ≤ i → getD l′ i 0 ≡ getD l i 0) → Table.Held m l l′
+past-held m l l′ e h =
+    record {
+      same = e;
+      tail =
+          ext-getD 0 (drop m l′) (drop m l) (length-drop m l′ ∙ ap (λ (x : ℕ). x - m) e ∙ sym (length-drop m l))
+          (λ i q. getD-drop m l′ i 0 ∙ h (m + i) (omega arith) ∙ sym (getD-drop m l i 0));
+    }
+
 -- ---- the parts of an answer
 
 module _ (strict : Bool) (b : Buffers) (c : Counts) where
@@ -217,6 +234,20 @@ module _ (strict : Bool) (b : Buffers) (c : Counts) where
 
     pushed : Pushed clean end
     pushed = rw end-is (all-pushed strict clean)
+
+    pub pool-left : PoolLeft b c (o .answer) (joined b c o .after)
+    unfolding constantFold joined
+    pool-left =
+        let p = pushed in
+        record {
+          more = p .more;
+          kinds-below = p .kinds-below;
+          words-below = p .words-below;
+          kinds-past = p .kinds-past;
+          words-past = p .words-past;
+          kinds-long = p .kinds-long;
+          words-long = p .words-long;
+        }
 
     end-marks : length (end .dead) ≡ count (b .code)
     end-marks = pushed .dead-long ∙ length-replicate (length (take (count (b .code)) (b .dead))) 0 ∙ marks
@@ -331,11 +362,34 @@ module _ (strict : Bool) (b : Buffers) (c : Counts) where
           ready = ready-on r short (end .kinds) (end .words) (countsLeft (o .answer) c) (lensOf (cutAt (o .answer) (joined b c o .after))) rules-left room-left;
         }
 
-  -- what an answered call leaves can be lent to the next
-  pub lends : (f : Folded) (a : Buffers) → foldCall strict b c ≡ outcome (Is f) a → Lendable f c a
-  lends f a e = go (readyOf (b .code) (b .kinds) (b .words) c (lensOf b)) refl
+    -- ---- words past a need
+
+    fold-beyond : FoldBeyond c b (joined b c o .after)
+    unfolding constantFold joined tallyOf
+    fold-beyond =
+        let n = count (b .code) in
+        let room = constantRoom (c .constants) (tallyOf (b .code) .folding) in
+        let few : end .constants ≤ room = rw end-is (pool-few strict clean lent-clean) in
+        let p = pushed in
+        record {
+          code = all-settled .long ∙ p .code-long;
+          kinds = past-held room (b .kinds) (end .kinds) (p .kinds-long) (λ i h. p .kinds-past i (omega arith));
+          words = past-held room (b .words) (end .words) (p .words-long) (λ i h. p .words-past i (omega arith));
+          map = front-held n (after .map) (b .map) (all-settled .map ∙ length-take-le n (b .map) (held .map)) (held .map);
+          sources =
+              front-held (sourcesNeeded b c) (after .sources) (b .sources) (all-settled .sources ∙ length-take-le (sourcesNeeded b c) (b .sources) (held .sources)) (held .sources);
+          stmts = front-held (c .stmts) (after .stmts) (b .stmts) (all-settled .stmts ∙ length-take-le (c .stmts) (b .stmts) (held .stmts)) (held .stmts);
+          calls = front-held (c .calls) (after .calls) (b .calls) (all-settled .calls ∙ length-take-le (c .calls) (b .calls) (held .calls)) (held .calls);
+          dead = front-held n (after .dead) (b .dead) (all-settled .dead ∙ end-marks) (held .dead);
+          remap = front-held (n + 1) (after .remap) (b .remap) (all-settled .remap ∙ length-take-le (n + 1) (b .remap) (held .remap)) (held .remap);
+        }
+
+  -- what holds of the answer holds of any answered call
+  pub by-call : (P : Folded → Buffers → Type 0) → ((m : ℕ) → readyOf (b .code) (b .kinds) (b .words) c (lensOf b) ≡ Count m → P (o .answer) (joined b c o .after))
+      → (f : Folded) (a : Buffers) → foldCall strict b c ≡ outcome (Is f) a → P f a
+  by-call P h f a e = go (readyOf (b .code) (b .kinds) (b .words) c (lensOf b)) refl
     where
-      go : (v : Checked) → readyOf (b .code) (b .kinds) (b .words) c (lensOf b) ≡ v → Lendable f c a
+      go : (v : Checked) → readyOf (b .code) (b .kinds) (b .words) c (lensOf b) ≡ v → P f a
       go (Refused r) q =
           let y : No r ≡ Is f = ap (λ (x : Outcome FoldAnswer). x .answer) (sym (call-refused r q) ∙ e) in
           absurd (let z : _≡_ {A = ℕ} 0 1 = cc in omega arith)
@@ -344,4 +398,57 @@ module _ (strict : Bool) (b : Buffers) (c : Counts) where
           let i : Is (o .answer) ≡ Is f = sym joined-answer ∙ ap (λ (x : Outcome FoldAnswer). x .answer) y in
           let j : o .answer ≡ f = cc in
           let k : joined b c o .after ≡ a = ap (λ (x : Outcome FoldAnswer). x .after) y in
-          rw (← j, ← k) (lendable m q)
+          subst (λ (x : Buffers). P f x) k (subst (λ (x : Folded). P x (joined b c o .after)) j (h m q))
+
+  -- what an answered call leaves can be lent to the next
+  pub lends : (f : Folded) (a : Buffers) → foldCall strict b c ≡ outcome (Is f) a → Lendable f c a
+  lends = by-call (λ f a. Lendable f c a) lendable
+
+  -- and of the pool it changes nothing that was there
+  pub pool-stays : (f : Folded) (a : Buffers) → foldCall strict b c ≡ outcome (Is f) a → PoolLeft b c f a
+  pool-stays = by-call (λ f a. PoolLeft b c f a) pool-left
+
+  -- words past a needed length are never touched
+  pub stays-beyond : (f : Folded) (a : Buffers) → foldCall strict b c ≡ outcome (Is f) a → FoldBeyond c b a
+  stays-beyond = by-call (λ f a. FoldBeyond c b a) fold-beyond
+
+  -- a refusal leaves every buffer as lent
+  pub refusal-leaves : (r : Refusal) (a : Buffers) → foldCall strict b c ≡ outcome (No r) a → a ≡ b
+  refusal-leaves r a e = go (readyOf (b .code) (b .kinds) (b .words) c (lensOf b)) refl
+    where
+      go : (v : Checked) → readyOf (b .code) (b .kinds) (b .words) c (lensOf b) ≡ v → a ≡ b
+      go (Refused s) q = ap (λ (x : Outcome FoldAnswer). x .after) (sym e ∙ call-refused s q)
+      go (Count m) q =
+          let y : Is (o .answer) ≡ No r = sym joined-answer ∙ ap (λ (x : Outcome FoldAnswer). x .answer) (sym (call-answered m q) ∙ e) in
+          absurd (let z : _≡_ {A = ℕ} 0 1 = cc in omega arith)
+
+  -- ---- if nothing died
+
+  module _ (m : ℕ) (q : readyOf (b .code) (b .kinds) (b .words) c (lensOf b) ≡ Count m) where
+    all-alive : NoneDied b (joined b c o .after) → every (alive (o .after .dead)) (length (o .after .dead)) ≡ true
+    unfolding joined constantFold
+    all-alive e =
+        let n = count (b .code) in
+        let l : length (after .dead) ≡ n = all-settled m q .dead ∙ end-marks m q in
+        every-of (alive (after .dead)) (length (after .dead))
+        (λ k h.
+        let z : getD (after .dead ++ drop n (b .dead)) k 0 ≡ getD (after .dead) k 0 = List·getD-append (after .dead) (drop n (b .dead)) 0 k h in
+        sym (ap (λ (x : ℕ). eqb x 0) z) ∙ every-at (alive (after .dead ++ drop n (b .dead))) n k e (rw l at h))
+
+    idle : NoneDied b (joined b c o .after) → joined b c o ≡ asLent b c
+    unfolding joined
+    idle e =
+        let h : count (b .code) ≤ length (needed b c .dead) = omega (arith, marks m q) in
+        rw (
+          as-lent strict (needed b c) c h (all-alive e),
+          marks m q,
+          take-append-drop (count (b .code)) (b .map),
+          take-append-drop (sourcesNeeded b c) (b .sources),
+          take-append-drop (c .stmts) (b .stmts),
+          take-append-drop (c .calls) (b .calls),
+          take-append-drop (count (b .code) + 1) (b .remap),
+        )
+
+  -- then code, constants and every table stay as lent, and the dead marks are 0
+  pub idle-call : (f : Folded) (a : Buffers) → foldCall strict b c ≡ outcome (Is f) a → NoneDied b a → foldCall strict b c ≡ asLent b c
+  idle-call = by-call (λ f a. NoneDied b a → foldCall strict b c ≡ asLent b c) (λ m q e. call-answered m q ∙ idle m q e)

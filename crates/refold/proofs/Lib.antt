@@ -8,4 +8,5 @@ pub mod Lends
 pub mod Chain
 pub mod Beside
 pub mod Refolds
+pub mod Operators
 pub mod Scratch

@@ -194,7 +194,7 @@ module _ (strict : Bool) (s : Chunk) where
       let z = held-more g refl h x (tryFold strict k (folded strict k s)) refl (l .code-long) (l .dead-long) (l .kinds-long) (l .words-long) in
       rw (folded-next k) (rw (add-one k) at z)
 
-  all-held : Lent s → foldAll strict s .constants ≤ constantRoom (s .constants) (many (λ k. folds (opAt (s .code) k)) (count (s .code)))
+  pub all-held : Lent s → foldAll strict s .constants ≤ constantRoom (s .constants) (many (λ k. folds (opAt (s .code) k)) (count (s .code)))
   unfolding foldAll
   all-held x = held-at x (count (s .code)) (omega arith) .few
 

@@ -7,19 +7,21 @@ use mathlib.Core.Bool.{Bool, true}
 use mathlib.Core.List.{List, [], _∷_, _++_}
 use lib.ListN.{length, getD, take, drop, replicate}
 use borrow.Author.Tests.{lt-ltb, le-ltb}
-use Rattle.code.specs.declared.Checked.{Checked}
-use Rattle.code.specs.declared.Checked.the-variants.{Count, No as Refused}
+use Rattle.code.specs.declared.Checked.the-variants.{Count}
 use Rattle.lent.specs.Chunk.{count, operandAt}
+use Rattle.lent.specs.Tables.{constantKept, within}
 use Rattle.lent.specs.Check.{sourceRoom, tallyOf, readyOf}
+use Rattle.lent.proofs.Kept.{kinds-there, words-there}
+use Rattle.laws.specs.All.{every}
+use Rattle.laws.proofs.Branch.{and-true}
 use Rattle.lent.specs.declared.Counts.{Counts}
 use Rattle.lent.specs.declared.Tally.{Tally}
 use Rattle.fold.specs.Plan.{Chunk}
 use Rattle.fold.specs.Pass.{foldAll}
 use Rattle.optimizer.specs.Finish.{Tables, tables, finished}
-use Rattle.optimizer.specs.Fold.{Buffers, buffers, lensOf, needed, sourcesNeeded, Outcome, outcome, foldPass, constantFold, joined, foldCall}
+use Rattle.optimizer.specs.Fold.{Buffers, buffers, lensOf, needed, sourcesNeeded, outcome, foldPass, constantFold, joined, foldCall}
 use Rattle.optimizer.specs.declared.Folded.{Folded}
-use Rattle.optimizer.specs.declared.FoldAnswer.{FoldAnswer}
-use Rattle.optimizer.specs.declared.FoldAnswer.the-variants.{Is, No}
+use Rattle.optimizer.specs.declared.FoldAnswer.the-variants.{Is}
 use Rattle.clear.specs.Unused.{AllNear, named, before as number, pooled, recoded, loaded}
 use Rattle.clear.specs.Clear as clearing
 use Rattle.clear.proofs.Answers.{answered-call, answered}
@@ -30,8 +32,10 @@ use Rattle.clear.proofs.Loads.{recoded-count}
 use Rattle.clear.proofs.Room.{clearedChunk}
 use Rattle.clear.proofs.Alike.{SameLoad, Loads, Alike}
 use Rattle.clear.proofs.Refold.{refold, refold-fewer}
+use Rattle.refold.specs.Lendable.{clearedBuffers}
 use Rattle.refold.specs.Refolded.{Refolded, Refolds}
-use Rattle.refold.proofs.Lends.{o, clean, end, before, after, rules, lent-clean, call-refused, call-answered, joined-answer}
+use Rattle.refold.proofs.Lends.{o, clean, end, before, after, rules, lent-clean, call-answered, joined-answer, by-call}
+use Rattle.refold.proofs.Chain.{folds}
 use Rattle.refold.proofs.Beside.{Beside, finished-beside}
 
 -- what is loaded in both
@@ -172,16 +176,38 @@ constants-left strict b c = refl
 -- asked: each operand with the mark is below the count, or at or past the count that the uncleared fold ends with, and that is below 65,535
 pub refold-call : (strict : Bool) (b : Buffers) (c : Counts) (f : Folded) (a : Buffers) → foldCall strict b c ≡ outcome (Is f) a → f .constants < 65535
     → AllNear (b .code) (c .constants) (f .constants) → (scratch : List ℕ) → c .constants ≤ length scratch → Refolds strict b c f a scratch
-refold-call strict b c f a e few near scratch room = go (readyOf (b .code) (b .kinds) (b .words) c (lensOf b)) refl
+refold-call strict b c f a e few near scratch room =
+    by-call strict b c (λ g y. g .constants < 65535 → AllNear (b .code) (c .constants) (g .constants) → Refolds strict b c g y scratch)
+    (λ n q l h. refolds strict b c n q (rw (constants-left strict b c) at h) (rw (constants-left strict b c) at l) scratch room) f a e few near
+
+-- ---- whatever the operands: a chunk that is accepted is accepted after clearing too
+
+pub accepted-again : (strict : Bool) (b : Buffers) (c : Counts) (f : Folded) (a : Buffers) → foldCall strict b c ≡ outcome (Is f) a
+    → (left : ℕ) (x : clearing.Buffers) → left ≡ number (b .code) (c .constants) → x .code ≡ recoded (number (b .code)) (c .constants) (b .code)
+    → x .kinds ≡ pooled (named (b .code)) (c .constants) (b .kinds) → x .words ≡ pooled (named (b .code)) (c .constants) (b .words)
+    → (strict′ : Bool) → (g : Folded) × (y : Buffers)
+    × (foldCall strict′ (clearedBuffers b x) (record { constants = left; map = c .map; sources = c .sources; stmts = c .stmts; calls = c .calls }) ≡ outcome (Is g) y)
+accepted-again strict b c f a e left x l code kinds words strict′ =
+    by-call strict b c
+    (λ _ _. (g : Folded) × (y : Buffers)
+    × (foldCall strict′ (clearedBuffers b x) (record { constants = left; map = c .map; sources = c .sources; stmts = c .stmts; calls = c .calls }) ≡ outcome (Is g) y))
+    (λ n q. by n q) f a e
   where
-    go : (v : Checked) → readyOf (b .code) (b .kinds) (b .words) c (lensOf b) ≡ v → Refolds strict b c f a scratch
-    go (Refused r) q =
-        let y : No r ≡ Is f = ap (λ (x : Outcome FoldAnswer). x .answer) (sym (call-refused strict b c r q) ∙ e) in
-        absurd (let z : _≡_ {A = ℕ} 0 1 = cc in omega arith)
-    go (Count n) q =
-        let y : joined b c (o strict b c) ≡ outcome (Is f) a = sym (call-answered strict b c n q) ∙ e in
-        let i : Is (o strict b c .answer) ≡ Is f = sym (joined-answer strict b c) ∙ ap (λ (x : Outcome FoldAnswer). x .answer) y in
-        let j : o strict b c .answer ≡ f = cc in
-        let k : joined b c (o strict b c) .after ≡ a = ap (λ (x : Outcome FoldAnswer). x .after) y in
-        let l : f .constants ≡ foldAll strict (clean strict b c) .constants = sym (ap (λ (x : Folded). x .constants) j) ∙ constants-left strict b c in
-        rw (← j, ← k) (refolds strict b c n q (rw l at near) (rw l at few) scratch room)
+    by : (n : ℕ) → readyOf (b .code) (b .kinds) (b .words) c (lensOf b) ≡ Count n → (g : Folded) × (y : Buffers)
+        × (foldCall strict′ (clearedBuffers b x) (record { constants = left; map = c .map; sources = c .sources; stmts = c .stmts; calls = c .calls }) ≡ outcome (Is g) y)
+    by n q =
+        let w = b .code in
+        let m = c .constants in
+        let h = rules strict b c n q in
+        let d = clearedBuffers b x in
+        let i = and-true (within m (length (b .kinds)) (length (b .words))) (every (constantKept (b .kinds) (b .words)) m) (h .constants) .0 in
+        let z : readyOf (d .code) (d .kinds) (d .words) (record { constants = left; map = c .map; sources = c .sources; stmts = c .stmts; calls = c .calls }) (lensOf d) ≡ Count n =
+        rw (
+          code,
+          kinds,
+          words,
+          l,
+          pooled-length (named w) m (b .kinds) (kinds-there m (length (b .kinds)) (length (b .words)) i),
+          pooled-length (named w) m (b .words) (words-there m (length (b .kinds)) (length (b .words)) i),
+        ) (accepted-after n w (b .kinds) (b .words) c (lensOf b) q) in
+        folds strict′ d (record { constants = left; map = c .map; sources = c .sources; stmts = c .stmts; calls = c .calls }) n z

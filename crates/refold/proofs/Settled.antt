@@ -119,6 +119,28 @@ module _ (w map sources dead : List ℕ) where
       let e = length-append (each (pairLeft w map sources dead) n) (pairLeft w map sources dead n) in
       omega (arith, e, some-even n, pair-even n (alive dead n && paired w map sources n))
 
+  pair-few : (k : ℕ) (t : Bool) → (t ≡ true → isPhi w k ≡ true) → length (cond t (firstOf map sources k ∷ secondOf map sources k ∷ []) []) ≤ 2 * boolByte (isPhi w k)
+  pair-few k true h = let e = h refl in rw e (omega arith)
+  pair-few k false h = omega arith
+
+  is-phi : (k : ℕ) → alive dead k && paired w map sources k ≡ true → isPhi w k ≡ true
+  unfolding paired
+  is-phi k e =
+      let p = and-true (alive dead k) (paired w map sources k) e .1 in
+      and-true (isPhi w k) (ltb k (length map) && ltb (getD map k 0) (length sources / 2)) p .0
+
+  some-few : (n : ℕ) → length (each (pairLeft w map sources dead) n) ≤ 2 * many (isPhi w) n
+  unfolding each many
+  some-few zero = omega arith
+  some-few (suc n) =
+      let e = length-append (each (pairLeft w map sources dead) n) (pairLeft w map sources dead n) in
+      omega (arith, e, some-few n, pair-few n (alive dead n && paired w map sources n) (is-phi n))
+
+  -- a pair for a Phi at the most
+  pairs-few : length (pairsLeft w map sources dead) ≤ 2 * many (isPhi w) (length dead)
+  unfolding pairsLeft
+  pairs-few = some-few (length dead)
+
   pairs-even : length (pairsLeft w map sources dead) % 2 ≡ 0
   unfolding pairsLeft
   pairs-even = some-even (length dead)
@@ -135,7 +157,7 @@ pub record Settled (t u : Tables) : Type 0 where
   pub even : u .left .sources % 2 ≡ 0
   pub pairs : u .left .sources ≤ length (u .sources)
   pub map : length (u .map) ≡ length (t .map)
-  pub sources : length (t .sources) ≤ length (u .sources)
+  pub sources : length (u .sources) ≡ length (t .sources)
   pub stmts : length (u .stmts) ≡ length (t .stmts)
   pub calls : length (u .calls) ≡ length (t .calls)
   pub dead : length (u .dead) ≡ length (t .dead)
@@ -173,7 +195,7 @@ module _ (t : Tables) (fit : Fit t) (all : t .left .instructions ≡ length (t .
         even = even;
         pairs = fit .words;
         map = refl;
-        sources = omega arith;
+        sources = refl;
         stmts = refl;
         calls = refl;
         dead = d-long;
@@ -238,6 +260,9 @@ module _ (t : Tables) (fit : Fit t) (all : t .left .instructions ≡ length (t .
   unfolding sourcesAfter
   after-length = length-append l (replicate (length (t .sources) - length l) 0) ∙ ap (λ (x : ℕ). length l + x) (length-replicate (length (t .sources) - length l) 0)
 
+  phis-of : many (isPhi (t .code)) (length d) ≡ many (isPhi (t .code)) (length (t .dead))
+  phis-of = ap (many (isPhi (t .code))) d-long
+
   anew : Settled t (renewed m)
   unfolding renewed
   anew =
@@ -247,7 +272,7 @@ module _ (t : Tables) (fit : Fit t) (all : t .left .instructions ≡ length (t .
         even = pairs-even (t .code) (mapOf t) (sourcesOf t) d;
         pairs = omega (arith, after-length);
         map = omega (arith, map-length, new-length, fit .code, fit .map);
-        sources = omega (arith, after-length);
+        sources = omega (arith, after-length, pairs-few (t .code) (mapOf t) (sourcesOf t) d, phis-of, fit .pairs);
         stmts = placed-length d (t .stmts) (fit .stmts);
         calls = placed-length d (t .calls) (fit .calls);
         dead = d-long;

@@ -1,3 +1,4 @@
 pub mod Pushed
 pub mod Lendable
 pub mod Refolded
+pub mod Left

@@ -9,4 +9,3 @@ pub mod Chain
 pub mod Beside
 pub mod Refolds
 pub mod Operators
-pub mod Scratch

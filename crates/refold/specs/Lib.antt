@@ -2,3 +2,4 @@ pub mod Pushed
 pub mod Lendable
 pub mod Refolded
 pub mod Left
+pub mod Examples

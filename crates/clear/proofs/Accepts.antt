@@ -26,16 +26,16 @@ use Rattle.clear.proofs.Loads.{recoded-count, recoded-op}
 use Rattle.clear.proofs.Twice.{check-same, constants-same}
 use Rattle.clear.proofs.Room.{no-more, operators-same, room-down}
 
-table-on : (n : ℕ) (v : Checked) (t : ℕ) (kept : Bool) → v ≡ Count n → kept ≡ true → tableOf v t kept ≡ Count n
+pub table-on : (n : ℕ) (v : Checked) (t : ℕ) (kept : Bool) → v ≡ Count n → kept ≡ true → tableOf v t kept ≡ Count n
 table-on n v t kept e f = rw (e, f)
 
-room-on : (n : ℕ) (v : Checked) (b have needed : ℕ) → v ≡ Count n → needed ≤ have → roomOf v b have needed ≡ Count n
+pub room-on : (n : ℕ) (v : Checked) (b have needed : ℕ) → v ≡ Count n → needed ≤ have → roomOf v b have needed ≡ Count n
 room-on n v b have needed e h = rw (e, le-ltb have needed h)
 
-room-met : (n : ℕ) (v : Checked) (b have needed : ℕ) → roomOf v b have needed ≡ Count n → (v ≡ Count n) × (needed ≤ have)
+pub room-met : (n : ℕ) (v : Checked) (b have needed : ℕ) → roomOf v b have needed ≡ Count n → (v ≡ Count n) × (needed ≤ have)
 room-met n v b have needed e = (room-before n v b have needed (sym e), room-there n v b have needed (sym e))
 
-tally-same : (number : ℕ → ℕ) (m : ℕ) (w : List ℕ) → tallyOf (recoded number m w) ≡ tallyOf w
+pub tally-same : (number : ℕ → ℕ) (m : ℕ) (w : List ℕ) → tallyOf (recoded number m w) ≡ tallyOf w
 unfolding tallyOf
 tally-same number m w = rw (operators-same number m w, phis)
   where

@@ -1,14 +1,16 @@
 -- Two chunks that differ only in where their constants stand have the same plans. Assumes nothing.
-use Prim.Native.Nat.{ℕ, zero, suc, _-_, _/_, _%_, _<_}
+use Prim.Native.Nat.{ℕ, zero, suc, _-_, _/_, _%_, _≤_, _<_}
+use native.Mathlib.Omega.{arith}
 use mathlib.Core.Path.{_≡_, refl, sym, ap, _∙_}
+use mathlib.Core.Logic.{_⊎_, ⊎-elim}
 use mathlib.Core.Bool.{Bool, true, false, cond}
 use mathlib.Core.List.{List}
-use lib.Dec.{eqb}
+use lib.Dec.{eqb, ltb}
 use lib.ListN.{length, getD}
-use borrow.Author.Tests.{lt-ltb}
+use borrow.Author.Tests.{lt-ltb, le-ltb}
 use Rattle.laws.specs.Some.{some}
 use Rattle.code.specs.Op.{LoadConst}
-use Rattle.lent.specs.Chunk.{stride, count, opAt, markAt, operandAt, jumps, names}
+use Rattle.lent.specs.Chunk.{stride, count, opAt, markAt, operandAt, jumps, names, isPhi}
 use Rattle.values.specs.Folds.{foldBinop}
 use Rattle.values.specs.declared.Val.{Val}
 use Rattle.values.specs.declared.Maybe.{Maybe}
@@ -30,17 +32,26 @@ pub record SameLoad (s t : Chunk) (v u : ℕ) : Type 0 where
   pub kind : getD (s .kinds) v 0 ≡ getD (t .kinds) u 0
   pub word : getD (s .words) v 0 ≡ getD (t .words) u 0
 
+-- or both are one operand at or past the limit, and load nothing as long as the counts stay below it
+pub record Far (limit v u : ℕ) : Type 0 where
+  pub same : v ≡ u
+  pub past : limit ≤ v
+
+abbrev pub Loads : ℕ → Chunk → Chunk → ℕ → ℕ → Type 0
+Loads limit s t v u = SameLoad s t v u ⊎ Far limit v u
+
 -- instruction by instruction the same opcode, marks and dead mark; the same operand without the mark 'names a constant', and the same load with it
-pub record Alike (s t : Chunk) : Type 0 where
+pub record Alike (limit : ℕ) (s t : Chunk) : Type 0 where
   pub long : length (s .code) ≡ length (t .code)
   pub dead : s .dead ≡ t .dead
   pub ops : (k : ℕ) → opAt (s .code) k ≡ opAt (t .code) k
   pub marks : (k : ℕ) → markAt (s .code) k ≡ markAt (t .code) k
   pub plain : (k : ℕ) → names (s .code) k ≡ false → operandAt (s .code) k ≡ operandAt (t .code) k
-  pub loads : (k : ℕ) → names (s .code) k ≡ true → SameLoad s t (operandAt (s .code) k) (operandAt (t .code) k)
+  pub loads : (k : ℕ) → names (s .code) k ≡ true → Loads limit s t (operandAt (s .code) k) (operandAt (t .code) k)
   -- as the record rules have it
   pub consts : (k : ℕ) → eqb (opAt (s .code) k) LoadConst ≡ true → names (s .code) k ≡ true
   pub apart : (k : ℕ) → names (s .code) k ≡ true → jumps (s .code) k ≡ false
+  pub free : (k : ℕ) → names (s .code) k ≡ true → isPhi (s .code) k ≡ false
 
 found-both : {f f′ : Found} {g h : ℕ → Plan} → f ≡ f′ → ((p : ℕ) → g p ≡ h p) → withFound f g ≡ withFound f′ h
 found-both {f} {f′} {g} {h} e x = rw e (go f′)
@@ -61,19 +72,25 @@ unfolding some
 some-ext f g zero h = refl
 some-ext f g (suc n) h = rw (some-ext f g n h, h n)
 
-module _ {s t : Chunk} (a : Alike s t) where
-  operand-same : (p : ℕ) → operandOf (s .code) (s .kinds) (s .words) (s .constants) p ≡ operandOf (t .code) (t .kinds) (t .words) (t .constants) p
+module _ {limit : ℕ} {s t : Chunk} (a : Alike limit s t) where
+  operand-same : s .constants ≤ limit → t .constants ≤ limit → (p : ℕ)
+      → operandOf (s .code) (s .kinds) (s .words) (s .constants) p ≡ operandOf (t .code) (t .kinds) (t .words) (t .constants) p
   unfolding operandOf constToVal
-  operand-same p = go (eqb (opAt (s .code) p) LoadConst) refl
+  operand-same low low′ p = go (eqb (opAt (s .code) p) LoadConst) refl
     where
+      past : (v n : ℕ) → limit ≤ v → n ≤ limit → ltb v n ≡ false
+      past v n h k = le-ltb v n (omega arith)
+
       go : (b : Bool) → eqb (opAt (s .code) p) LoadConst ≡ b → operandOf (s .code) (s .kinds) (s .words) (s .constants) p ≡ operandOf (t .code) (t .kinds) (t .words) (t .constants) p
       go false e =
           let f : eqb (opAt (t .code) p) LoadConst ≡ false = sym (ap (λ (o : ℕ). eqb o LoadConst) (a .ops p)) ∙ e in
           rw (e, f)
       go true e =
           let f : eqb (opAt (t .code) p) LoadConst ≡ true = sym (ap (λ (o : ℕ). eqb o LoadConst) (a .ops p)) ∙ e in
-          let l = a .loads p (a .consts p e) in
-          rw (e, f, lt-ltb (operandAt (s .code) p) (s .constants) (l .there), lt-ltb (operandAt (t .code) p) (t .constants) (l .here), l .kind, l .word)
+          ⊎-elim
+          (λ l. rw (e, f, lt-ltb (operandAt (s .code) p) (s .constants) (l .there), lt-ltb (operandAt (t .code) p) (t .constants) (l .here), l .kind, l .word))
+          (λ l.
+          rw (e, f, past (operandAt (s .code) p) (s .constants) (l .past) low, past (operandAt (t .code) p) (t .constants) (rw (l .same) at (l .past)) low′)) (a .loads p (a .consts p e))
 
   lands-same : (p i k : ℕ) → lands (s .code) p i k ≡ lands (t .code) p i k
   unfolding lands
@@ -94,21 +111,21 @@ module _ {s t : Chunk} (a : Alike s t) where
       ap (some (lands (s .code) p i)) c ∙ some-ext (lands (s .code) p i) (lands (t .code) p i) (count (t .code)) (lands-same p i) in
       rw (e, lands-same p i (p - 1))
 
-  module _ (strict : Bool) (i : ℕ) where
+  module _ (strict : Bool) (i : ℕ) (low : s .constants ≤ limit) (low′ : t .constants ≤ limit) where
     binop-same : (o : Op) → tryFoldBinop strict o i s ≡ tryFoldBinop strict o i t
     unfolding tryFoldBinop
     binop-same o =
         found-both (ap (λ (d : List ℕ). prevLive d i) (a .dead)) (λ q.
         found-both (ap (λ (d : List ℕ). prevLive d q) (a .dead)) (λ p.
-        val-both (operand-same p) (λ x.
-        val-both (operand-same q) (λ y.
+        val-both (operand-same low low′ p) (λ x.
+        val-both (operand-same low low′ q) (λ y.
         val-both {a = foldBinop o x y} refl (λ v. ap (λ (b : Bool). cond b Stay (Put p q v)) (blocked-same strict p i))))))
 
     unary-same : (minus : Bool) → tryFoldUnary strict minus i s ≡ tryFoldUnary strict minus i t
     unfolding tryFoldUnary
     unary-same minus =
         found-both (ap (λ (d : List ℕ). prevLive d i) (a .dead)) (λ p.
-        val-both (operand-same p) (λ x.
+        val-both (operand-same low low′ p) (λ x.
         val-both {a = foldUnary minus x} refl (λ v. ap (λ (b : Bool). cond b Stay (Put p i v)) (blocked-same strict p i))))
 
     pub plan-same : planAt strict i s ≡ planAt strict i t

@@ -1,7 +1,8 @@
 -- An attempt to fold keeps two chunks alike that differ only in where their constants stand. Assumes nothing.
-use Prim.Native.Nat.{ℕ, _+_, _*_, _/_, _%_, _<_}
+use Prim.Native.Nat.{ℕ, _+_, _*_, _/_, _%_, _≤_, _<_}
 use native.Mathlib.Omega.{arith}
 use mathlib.Core.Path.{_≡_, refl, sym, ap, _∙_}
+use mathlib.Core.Logic.{inl, inr, ⊎-elim}
 use mathlib.Core.Bool.{Bool, true, false, cond, false≢true}
 use mathlib.Core.List.{List}
 use lib.Dec.{eqb}
@@ -10,7 +11,8 @@ use lib.Seq.{getD-set-same, getD-set-other}
 use mir.Syntax.{w64}
 use mir.Val.{ofZ}
 use lib.Ieee.{binary64, toBits}
-use Rattle.code.specs.Op.{LoadConst, LoadTrue, LoadFalse}
+use borrow.Author.Tests.{eqb-true}
+use Rattle.code.specs.Op.{LoadConst, LoadTrue, LoadFalse, Phi}
 use Rattle.lent.specs.Chunk.{stride, count, markAt, operandAt, names}
 use Rattle.values.specs.declared.Val.{Val}
 use Rattle.values.specs.declared.Val.the-variants.{Int, Float as Real, Bool as Truth}
@@ -22,7 +24,7 @@ use Rattle.fold.specs.declared.Plan.{Plan}
 use Rattle.fold.specs.declared.Plan.the-variants.{Stay, Put}
 use Rattle.fold.proofs.Planned.{planned}
 use Rattle.fold.proofs.Grown.{put-other, put-here, put-long}
-use Rattle.clear.proofs.Alike.{SameLoad, Alike, plan-same}
+use Rattle.clear.proofs.Alike.{SameLoad, Loads, Alike, plan-same}
 use Rattle.clear.proofs.Pools.{cases, Grew, grew-none, Pools, fewer, stepped}
 
 -- ---- a load that is put at p
@@ -77,6 +79,9 @@ nameMark x = eqb (x / 2 % 2) 1
 abbrev jumpMark : ℕ → Bool
 jumpMark x = eqb (x % 2) 1
 
+abbrev phiCode : ℕ → Bool
+phiCode o = eqb o Phi
+
 -- the chunk with it
 abbrev wrote : Chunk → (p q i o x : ℕ) → (kinds words : List ℕ) → ℕ → Chunk
 wrote s p q i o x kinds words n = chunk (put (s .code) p o x) (set (set (s .dead) q 1) i 1) kinds words n
@@ -91,7 +96,11 @@ load-grew {v = v} {u = u} gs gt l =
       word = gs .word v (l .there) ∙ l .word ∙ sym (gt .word u (l .here));
     }
 
-module _ {s t : Chunk} (a : Alike s t) (p q i o x y : ℕ) (h : p < count (s .code)) (ks ws : List ℕ) (n : ℕ) (kt wt : List ℕ) (m : ℕ)
+loads-grew : {limit : ℕ} {s t : Chunk} {v u : ℕ} {S T : Chunk} → Grew (s .kinds) (s .words) (s .constants) (S .kinds) (S .words) (S .constants)
+    → Grew (t .kinds) (t .words) (t .constants) (T .kinds) (T .words) (T .constants) → Loads limit s t v u → Loads limit S T v u
+loads-grew {s = s} {t = t} gs gt l = ⊎-elim (λ x. inl (load-grew {s = s} {t = t} gs gt x)) (λ x. inr x) l
+
+module _ {limit : ℕ} {s t : Chunk} (a : Alike limit s t) (p q i o x y : ℕ) (h : p < count (s .code)) (ks ws : List ℕ) (n : ℕ) (kt wt : List ℕ) (m : ℕ)
     (gs : Grew (s .kinds) (s .words) (s .constants) ks ws n) (gt : Grew (t .kinds) (t .words) (t .constants) kt wt m)
     (con : eqb o LoadConst ≡ true → SameLoad (wrote s p q i o x ks ws n) (wrote t p q i o y kt wt m) x y) (non : eqb o LoadConst ≡ false → x ≡ y) where
   h′ : p < count (t .code)
@@ -110,13 +119,13 @@ module _ {s t : Chunk} (a : Alike s t) (p q i o x y : ℕ) (h : p < count (s .co
       (λ z. operand-other (s .code) p o x k z ∙ a .plain k (sym (names-other k z) ∙ e) ∙ sym (operand-other (t .code) p o y k z))
 
   wrote-loads : (k : ℕ) → names (put (s .code) p o x) k ≡ true
-      → SameLoad (wrote s p q i o x ks ws n) (wrote t p q i o y kt wt m) (operandAt (put (s .code) p o x) k) (operandAt (put (t .code) p o y) k)
+      → Loads limit (wrote s p q i o x ks ws n) (wrote t p q i o y kt wt m) (operandAt (put (s .code) p o x) k) (operandAt (put (t .code) p o y) k)
   wrote-loads k e =
       cases k p
-      (λ z. rw (z, operand-here (s .code) p o x h, operand-here (t .code) p o y h′) (con (sym names-here ∙ (rw z at e))))
-      (λ z. rw (operand-other (s .code) p o x k z, operand-other (t .code) p o y k z) (load-grew {s = s} {t = t} gs gt (a .loads k (sym (names-other k z) ∙ e))))
+      (λ z. rw (z, operand-here (s .code) p o x h, operand-here (t .code) p o y h′) (inl (con (sym names-here ∙ (rw z at e)))))
+      (λ z. rw (operand-other (s .code) p o x k z, operand-other (t .code) p o y k z) (loads-grew {s = s} {t = t} gs gt (a .loads k (sym (names-other k z) ∙ e))))
 
-  put-alike : Alike (wrote s p q i o x ks ws n) (wrote t p q i o y kt wt m)
+  put-alike : Alike limit (wrote s p q i o x ks ws n) (wrote t p q i o y kt wt m)
   put-alike =
       record {
         long = put-long (s .code) p o x ∙ a .long ∙ sym (put-long (t .code) p o y);
@@ -137,12 +146,16 @@ module _ {s t : Chunk} (a : Alike s t) (p q i o x y : ℕ) (h : p < count (s .co
             cases k p
             (λ z. rw z (ap jumpMark (mark-here (s .code) p o x h) ∙ jumps-of o))
             (λ z. ap jumpMark (mark-other (s .code) p o x k z) ∙ a .apart k (sym (names-other k z) ∙ e));
+        free = λ k e.
+            cases k p
+            (λ z. rw z (ap phiCode (put-here (s .code) p o x h ∙ eqb-true o LoadConst (sym names-here ∙ (rw z at e)))))
+            (λ z. ap phiCode (put-other (s .code) p o x k z) ∙ a .free k (sym (names-other k z) ∙ e));
       }
 
 -- ---- both chunks, with their pools
 
-pub record Sim (s t : Chunk) : Type 0 where
-  pub alike : Alike s t
+pub record Sim (limit : ℕ) (s t : Chunk) : Type 0 where
+  pub alike : Alike limit s t
   pub pools : Pools (s .kinds) (s .words) (s .constants) (t .kinds) (t .words) (t .constants)
 
 abbrev pub settled : Stored → (p q i : ℕ) → Chunk → Chunk
@@ -152,10 +165,10 @@ settled-at : (r : Stored) (x n : ℕ) (ks ws : List ℕ) (p q i : ℕ) (s : Chun
 unfolding landed
 settled-at r x n ks ws p q i s e = rw (← e)
 
-module _ {s t : Chunk} (z : Sim s t) (p q i : ℕ) (h : p < count (s .code)) where
+module _ {limit : ℕ} {s t : Chunk} (z : Sim limit s t) (p q i : ℕ) (h : p < count (s .code)) where
   module _ (few : s .constants < 65535) (a : s .constants < length (s .kinds)) (b : s .constants < length (s .words)) (c : t .constants < length (t .kinds))
       (d : t .constants < length (t .words)) where
-    pool-sim : (k w : ℕ) → Sim (settled (findOrPush (s .kinds) (s .words) (s .constants) k w) p q i s) (settled (findOrPush (t .kinds) (t .words) (t .constants) k w) p q i t)
+    pool-sim : (k w : ℕ) → Sim limit (settled (findOrPush (s .kinds) (s .words) (s .constants) k w) p q i s) (settled (findOrPush (t .kinds) (t .words) (t .constants) k w) p q i t)
     pool-sim k w =
         let r = stepped (s .kinds) (s .words) (s .constants) (t .kinds) (t .words) (t .constants) k w (z .pools) few a b c d in
         rw (settled-at _ (r .x) (r .n′) (r .ks′) (r .ws′) p q i s (r .in-s), settled-at _ (r .y) (r .m′) (r .kt′) (r .wt′) p q i t (r .in-t))
@@ -166,7 +179,7 @@ module _ {s t : Chunk} (z : Sim s t) (p q i : ℕ) (h : p < count (s .code)) whe
           pools = r .pools;
         })
 
-  truth-sim : (o : ℕ) → eqb o LoadConst ≡ false → Sim (wrote s p q i o 0 (s .kinds) (s .words) (s .constants)) (wrote t p q i o 0 (t .kinds) (t .words) (t .constants))
+  truth-sim : (o : ℕ) → eqb o LoadConst ≡ false → Sim limit (wrote s p q i o 0 (s .kinds) (s .words) (s .constants)) (wrote t p q i o 0 (t .kinds) (t .words) (t .constants))
   truth-sim o e =
       record {
         alike =
@@ -176,7 +189,7 @@ module _ {s t : Chunk} (z : Sim s t) (p q i : ℕ) (h : p < count (s .code)) whe
       }
 
   put-sim : (v : Val) → s .constants < 65535 → s .constants < length (s .kinds) → s .constants < length (s .words) → t .constants < length (t .kinds) → t .constants < length (t .words)
-      → Sim (applied (Put p q v) i s) (applied (Put p q v) i t)
+      → Sim limit (applied (Put p q v) i s) (applied (Put p q v) i t)
   unfolding applied landed constLoad findOrPushConst
   put-sim (Int x) few a b c d = pool-sim few a b c d 1 (ofZ w64 x)
   put-sim (Real x) few a b c d = pool-sim few a b c d 2 (toBits binary64 x)
@@ -193,8 +206,8 @@ module _ (strict : Bool) (i : ℕ) (s : Chunk) where
   unfolding tryFold
   try-dead e = rw e
 
-applied-sim : (strict : Bool) (i : ℕ) (s t : Chunk) → Sim s t → s .constants < 65535 → Ready s i → Ready t i → (plan : Plan) → planAt strict i s ≡ plan → planAt strict i t ≡ plan
-    → Sim (applied plan i s) (applied plan i t)
+applied-sim : {limit : ℕ} (strict : Bool) (i : ℕ) (s t : Chunk) → Sim limit s t → s .constants < 65535 → Ready s i → Ready t i → (plan : Plan) → planAt strict i s ≡ plan → planAt strict i t ≡ plan
+    → Sim limit (applied plan i s) (applied plan i t)
 unfolding applied
 applied-sim strict i s t z few r r′ Stay e f = z
 applied-sim strict i s t z few r r′ (Put p q v) e f =
@@ -205,14 +218,15 @@ applied-sim strict i s t z few r r′ (Put p q v) e f =
     let w = fewer (z .pools) in
     put-sim z p q i (omega (arith, x .first, r .readable .here)) v few (m .kinds-more few) (m .words-more few) (m′ .kinds-more (omega arith)) (m′ .words-more (omega arith))
 
-pub try-sim : (strict : Bool) (i : ℕ) (s t : Chunk) → Sim s t → s .constants < 65535 → Ready s i → Ready t i → Sim (tryFold strict i s) (tryFold strict i t)
-try-sim strict i s t z few r r′ = go (eqb (getD (s .dead) i 0) 0) refl
+pub try-sim : {limit : ℕ} (strict : Bool) (i : ℕ) (s t : Chunk) → Sim limit s t → s .constants ≤ limit → s .constants < 65535 → Ready s i → Ready t i
+    → Sim limit (tryFold strict i s) (tryFold strict i t)
+try-sim {limit} strict i s t z low few r r′ = go (eqb (getD (s .dead) i 0) 0) refl
   where
-    go : (b : Bool) → eqb (getD (s .dead) i 0) 0 ≡ b → Sim (tryFold strict i s) (tryFold strict i t)
+    go : (b : Bool) → eqb (getD (s .dead) i 0) 0 ≡ b → Sim limit (tryFold strict i s) (tryFold strict i t)
     go true e =
         let f : eqb (getD (t .dead) i 0) 0 ≡ true = ap (λ (d : List ℕ). eqb (getD d i 0) 0) (sym (z .alike .dead)) ∙ e in
         let plan = planAt strict i t in
-        let g = plan-same (z .alike) strict i in
+        let g = plan-same (z .alike) strict i low (omega (arith, fewer (z .pools))) in
         rw (try-live strict i s plan e g, try-live strict i t plan f refl) (applied-sim strict i s t z few r r′ plan g refl)
     go false e =
         let f : eqb (getD (t .dead) i 0) 0 ≡ false = ap (λ (d : List ℕ). eqb (getD d i 0) 0) (sym (z .alike .dead)) ∙ e in

@@ -5,6 +5,7 @@ use native.Mathlib.Nat.{le-refl}
 use native.Mathlib.Omega.{arith}
 use native.Mathlib.Numerals.{add-one}
 use mathlib.Core.Path.{_≡_, refl, sym, ap, _∙_}
+use mathlib.Core.Logic.{_⊎_, inl, inr, ⊎-elim}
 use mathlib.Core.Bool.{Bool, true, false, cond, not, _&&_, _||_, false≢true}
 use mathlib.Core.List.{List}
 use lib.Dec.{eqb, ltb, leb}
@@ -29,13 +30,13 @@ use Rattle.fold.specs.Pass.{constLoad, put, landed, applied, tryFold, folded, f
 use Rattle.fold.specs.declared.Plan.{Plan}
 use Rattle.fold.specs.declared.Plan.the-variants.{Stay, Put}
 use Rattle.fold.proofs.Grown.{put-long, Held, held-none, held-more, held-ready}
-use Rattle.clear.specs.Unused.{named, before, pooled, recoded}
+use Rattle.clear.specs.Unused.{AllNear, named, before, pooled, recoded}
 use Rattle.clear.proofs.Kept.{named-by, in-order, onto, pooled-kept}
-use Rattle.clear.proofs.Loads.{recoded-length, recoded-count, recoded-op, recoded-mark, unmarked-stays, near-moves}
+use Rattle.clear.proofs.Loads.{recoded-length, recoded-count, recoded-op, recoded-mark, unmarked-stays, far-stays, near-moves}
 use Rattle.clear.proofs.Tested.{check-met, whole-of, never}
 use Rattle.clear.proofs.Room.{clearedChunk, room-after}
-use Rattle.clear.proofs.Alike.{SameLoad, Alike}
-use Rattle.clear.proofs.Pools.{Pools}
+use Rattle.clear.proofs.Alike.{SameLoad, Loads, Alike}
+use Rattle.clear.proofs.Pools.{Pools, fewer}
 use Rattle.clear.proofs.Attempts.{Sim, settled, try-live, try-dead, try-sim}
 
 -- ---- lengths stay, and the count never falls
@@ -125,7 +126,7 @@ all-is : (strict : Bool) (s : Chunk) (n : ℕ) → n ≡ count (s .code) → fol
 unfolding foldAll
 all-is strict s n c = ap (λ (k : ℕ). folded strict k s) (sym c)
 
-sim-to : {a b a′ b′ : Chunk} → a ≡ a′ → b ≡ b′ → Sim a′ b′ → Sim a b
+sim-to : {limit : ℕ} {a b a′ b′ : Chunk} → a ≡ a′ → b ≡ b′ → Sim limit a′ b′ → Sim limit a b
 sim-to e f z = rw (e, f) z
 
 before-it : (k n : ℕ) → suc k ≤ n → k ≤ n
@@ -137,17 +138,21 @@ before-end k n m e h = omega arith
 below-limit : (a b : ℕ) → a ≤ b → b < 65535 → a < 65535
 below-limit a b h l = omega arith
 
-module _ (strict : Bool) (s t : Chunk) (n : ℕ) (c : n ≡ count (s .code)) (c′ : n ≡ count (t .code)) (x : Lent s) (y : Lent t) (few : folded strict n s .constants < 65535) (z : Sim s t) where
-  sim-at : (k : ℕ) → k ≤ n → Sim (folded strict k s) (folded strict k t)
+within-limit : (a b limit : ℕ) → a ≤ b → b ≤ limit → a ≤ limit
+within-limit a b limit h l = omega arith
+
+module _ (strict : Bool) (s t : Chunk) (n : ℕ) (c : n ≡ count (s .code)) (c′ : n ≡ count (t .code)) (x : Lent s) (y : Lent t) (few : folded strict n s .constants < 65535) (limit : ℕ) (low : folded strict n s .constants ≤ limit) (z : Sim limit s t) where
+  sim-at : (k : ℕ) → k ≤ n → Sim limit (folded strict k s) (folded strict k t)
   sim-at zero h = sim-to (folded-none strict s) (folded-none strict t) z
   sim-at (suc k) h =
       let a = held-at strict s x k (before-end k n (count (s .code)) c h) in
       let b = held-at strict t y k (before-end k n (count (t .code)) c′ h) in
-      let l = below-limit (folded strict k s .constants) (folded strict n s .constants) (more-up strict s k n (before-it k n h)) few in
+      let up = more-up strict s k n (before-it k n h) in
+      let l = below-limit (folded strict k s .constants) (folded strict n s .constants) up few in
       sim-to (folded-next strict s k) (folded-next strict t k)
-      (try-sim strict k (folded strict k s) (folded strict k t) (sim-at k (before-it k n h)) l (held-ready a c h x) (held-ready b c′ h y))
+      (try-sim strict k (folded strict k s) (folded strict k t) (sim-at k (before-it k n h)) (within-limit (folded strict k s .constants) (folded strict n s .constants) limit up low) l (held-ready a c h x) (held-ready b c′ h y))
 
-  sim-all : Sim (foldAll strict s) (foldAll strict t)
+  sim-all : Sim limit (foldAll strict s) (foldAll strict t)
   sim-all = sim-to (all-is strict s n c) (all-is strict t n c′) (sim-at n (le-refl n))
 
 -- ---- what the record rules say of an accepted chunk
@@ -185,10 +190,10 @@ module _ (o marks : ℕ) (e : rules o marks ≡ true) where
   rule-const : eqb o LoadConst ≡ true → naming ≡ true
   rule-const h = or-left (eqb o LoadConst) naming (and-true (not (eqb o LoadConst) || naming) (not naming || not (jump || eqb o Phi || folds o)) kept .0) h
 
-  rule-apart : naming ≡ true → jump ≡ false
-  rule-apart h =
+  rule-both : naming ≡ true → (jump ≡ false) × (eqb o Phi ≡ false)
+  rule-both h =
       let d = or-left naming (not (jump || eqb o Phi || folds o)) (and-true (not (eqb o LoadConst) || naming) (not naming || not (jump || eqb o Phi || folds o)) kept .1) h in
-      or-false jump (eqb o Phi) (not-or (jump || eqb o Phi) (folds o) d) .0
+      or-false jump (eqb o Phi) (not-or (jump || eqb o Phi) (folds o) d)
 
 -- ---- a chunk and the cleared one
 
@@ -219,11 +224,7 @@ in-or-past {X} k n y z = go (ltb k n) refl
     go true e = y (ltb-true k n e)
     go false e = z (ltb-false k n e)
 
--- every operand of an instruction with the mark names a constant that is there
-abbrev pub AllThere : List ℕ → ℕ → Type 0
-AllThere w m = (k : ℕ) → k < count w → names w k ≡ true → operandAt w k < m
-
-module _ (n : ℕ) (s : Chunk) (ok : checkOf (s .code) ≡ Count n) (there : AllThere (s .code) (s .constants)) where
+module _ (n : ℕ) (s : Chunk) (ok : checkOf (s .code) ≡ Count n) (limit : ℕ) (up : s .constants ≤ limit) (near : AllNear (s .code) (s .constants) limit) where
   abbrev w : List ℕ
   w = s .code
 
@@ -245,10 +246,9 @@ module _ (n : ℕ) (s : Chunk) (ok : checkOf (s .code) ≡ Count n) (there : All
   unmarked-past : (k : ℕ) → count w ≤ k → names w k ≡ true → ⊥
   unmarked-past k h e = false≢true (sym (ap (λ (x : ℕ). eqb (x / 2 % 2) 1) (mark-past w k long h)) ∙ e)
 
-  start-load : (k : ℕ) → k < count w → names w k ≡ true → SameLoad s (clearedChunk s) (operandAt w k) (operandAt w′ k)
-  start-load k h e =
+  start-near : (k : ℕ) → k < count w → names w k ≡ true → operandAt w k < m → SameLoad s (clearedChunk s) (operandAt w k) (operandAt w′ k)
+  start-near k h e l =
       let v = operandAt w k in
-      let l = there k h e in
       let y : named w v ≡ true = named-by w v k h e refl in
       rw (near-moves (before w) m w k h e l)
       (record {
@@ -258,7 +258,11 @@ module _ (n : ℕ) (s : Chunk) (ok : checkOf (s .code) ≡ Count n) (there : All
         word = sym (pooled-kept (named w) m (s .words) v l y);
       })
 
-  start-alike : Alike s (clearedChunk s)
+  start-load : (k : ℕ) → k < count w → names w k ≡ true → Loads limit s (clearedChunk s) (operandAt w k) (operandAt w′ k)
+  start-load k h e =
+      ⊎-elim (λ l. inl (start-near k h e l)) (λ l. inr (record { same = sym (far-stays (before w) m w k h (omega arith)); past = l })) (near k h e)
+
+  start-alike : Alike limit s (clearedChunk s)
   start-alike =
       record {
         long = long ∙ sym (recoded-length (before w) m w);
@@ -271,7 +275,8 @@ module _ (n : ℕ) (s : Chunk) (ok : checkOf (s .code) ≡ Count n) (there : All
         consts = λ k e.
             in-or-past k (count w) (λ h. rule-const (opAt w k) (markAt w k) (accepted-at n w ok k h) e)
             (λ h. absurd (false≢true (sym (ap (λ (x : ℕ). eqb x LoadConst) (op-past w k long h)) ∙ e)));
-        apart = λ k e. in-or-past k (count w) (λ h. rule-apart (opAt w k) (markAt w k) (accepted-at n w ok k h) e) (λ h. absurd (unmarked-past k h e));
+        apart = λ k e. in-or-past k (count w) (λ h. rule-both (opAt w k) (markAt w k) (accepted-at n w ok k h) e .0) (λ h. absurd (unmarked-past k h e));
+        free = λ k e. in-or-past k (count w) (λ h. rule-both (opAt w k) (markAt w k) (accepted-at n w ok k h) e .1) (λ h. absurd (unmarked-past k h e));
       }
 
   start-pools : Pools (s .kinds) (s .words) m (pooled (named w) m (s .kinds)) (pooled (named w) m (s .words)) (before w m)
@@ -290,7 +295,28 @@ module _ (n : ℕ) (s : Chunk) (ok : checkOf (s .code) ≡ Count n) (there : All
             };
       }
 
-  -- folding before and after
-  pub refold : (strict : Bool) → Lent s → foldAll strict s .constants < 65535 → Alike (foldAll strict s) (foldAll strict (clearedChunk s))
-  refold strict x few =
-      sim-all strict s (clearedChunk s) (count w) refl (sym (recoded-count (before w) m w)) x (room-after s x) (rw (all-is strict s (count w) refl) at few) (record { alike = start-alike; pools = start-pools }) .alike
+  sim-refold : (strict : Bool) → Lent s → foldAll strict s .constants < 65535 → foldAll strict s .constants ≤ limit → Sim limit (foldAll strict s) (foldAll strict (clearedChunk s))
+  sim-refold strict x few low =
+      let e = all-is strict s (count w) refl in
+      sim-all strict s (clearedChunk s) (count w) refl (sym (recoded-count (before w) m w)) x (room-after s x) (rw e at few) limit (rw e at low)
+      (record { alike = start-alike; pools = start-pools })
+
+-- the pass adds to the constants
+more-all : (strict : Bool) (s : Chunk) → s .constants ≤ foldAll strict s .constants
+more-all strict s =
+    rw (all-is strict s (count (s .code)) refl)
+    (let h = more-up strict s 0 (count (s .code)) (omega arith) in
+    rw (folded-none strict s) at h)
+
+-- folding before and after: asked is that each operand with the mark is below the count, or at or past the count that the uncleared fold ends with
+module _ (n : ℕ) (s : Chunk) (ok : checkOf (s .code) ≡ Count n) (strict : Bool) (near : AllNear (s .code) (s .constants) (foldAll strict s .constants))
+    (x : Lent s) (few : foldAll strict s .constants < 65535) where
+  both : Sim (foldAll strict s .constants) (foldAll strict s) (foldAll strict (clearedChunk s))
+  both = sim-refold n s ok (foldAll strict s .constants) (more-all strict s) near strict x few (le-refl (foldAll strict s .constants))
+
+  pub refold : Alike (foldAll strict s .constants) (foldAll strict s) (foldAll strict (clearedChunk s))
+  refold = both .alike
+
+  -- and the cleared chunk ends with no more constants
+  pub refold-fewer : foldAll strict (clearedChunk s) .constants ≤ foldAll strict s .constants
+  refold-fewer = fewer (both .pools)

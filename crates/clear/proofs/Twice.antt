@@ -28,6 +28,7 @@ use Rattle.clear.specs.Unused.{named, before, kept, pooled, operandOf, r
 use Rattle.clear.specs.Clear.{Buffers, Outcome, outcome, cleared, readyOf, clearCall, Held}
 use Rattle.clear.specs.declared.ClearAnswer.the-variants.{Is, No}
 use Rattle.clear.proofs.Answers.{refused-call, answered-call}
+use Rattle.clear.proofs.Whole.{numbered-ext}
 use Rattle.clear.proofs.Moving.{Recoding, recoding-none, recoding-more, recoding-done}
 use Rattle.clear.proofs.Tested.{held-of, table-met}
 use Rattle.clear.proofs.Kept.{named-by, naming, onto, pooled-kept, pooled-length}
@@ -93,12 +94,13 @@ module _ (w : List ℕ) (m : ℕ) where
   pool-again : (l : List ℕ) → m ≤ length l → pooled (named after) (before w m) (pooled (named w) m l) ≡ pooled (named w) m l
   pool-again l h = pooled-all (named after) (before w m) (pooled (named w) m l) all-named (omega (arith, pooled-length (named w) m l h, many-few (named w) m))
 
--- the same count, code, kinds and words
+-- the same count, code, kinds and words; the scratch counts from 0 up to the constants that are left, and stays as lent past them
 pub record Again (b : Buffers) (r : ℕ) (o : Outcome) : Type 0 where
   pub answer : o .answer ≡ Is r
   pub code : o .after .code ≡ b .code
   pub kinds : o .after .kinds ≡ b .kinds
   pub words : o .after .words ≡ b .words
+  pub scratch : o .after .scratch ≡ numbered (λ i. i) r (b .scratch)
 
 cleared-again : (b : Buffers) (m : ℕ) → Held b m → Again (cleared b m .after) (before (b .code) m) (cleared (cleared b m .after) (before (b .code) m))
 unfolding cleared
@@ -108,6 +110,10 @@ cleared-again b m h =
       code = code-again (b .code) m;
       kinds = pool-again (b .code) m (b .kinds) (h .kinds);
       words = pool-again (b .code) m (b .words) (h .words);
+      scratch =
+          numbered-ext (before (after (b .code) m)) (λ i. i) (before (b .code) m)
+          (λ i l. many-all (named (after (b .code) m)) i (λ j q. all-named (b .code) m j (omega arith)))
+          (numbered (before (b .code)) m (b .scratch));
     }
 
 -- ---- and it is not refused

@@ -39,7 +39,7 @@ module _ (f g : ℕ → Bool) (m : ℕ) (h : (i : ℕ) → i < m → f i ≡ g i
   pooled-ext l = rw (kept-ext l, many-ext f g m h)
 
 module _ (a b : ℕ → ℕ) (m : ℕ) (h : (i : ℕ) → i < m → a i ≡ b i) where
-  numbered-ext : (l : List ℕ) → numbered a m l ≡ numbered b m l
+  pub numbered-ext : (l : List ℕ) → numbered a m l ≡ numbered b m l
   unfolding numbered
   numbered-ext l = ap (λ (t : List ℕ). t ++ drop m l) (each-ext (λ i. a i ∷ []) (λ i. b i ∷ []) m (λ i q. rw (h i q)))
 

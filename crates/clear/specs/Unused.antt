@@ -1,6 +1,8 @@
 -- What is left of a pool when the constants that nobody names go: document 02, wish 1. Assumes nothing.
-use Prim.Native.Nat.{ℕ, _-_}
-use mathlib.Core.Bool.{Bool, cond, _&&_}
+use Prim.Native.Nat.{ℕ, _-_, _≤_, _<_}
+use mathlib.Core.Path.{_≡_}
+use mathlib.Core.Logic.{_⊎_}
+use mathlib.Core.Bool.{Bool, true, cond, _&&_}
 use mathlib.Core.List.{List, [], _∷_, _++_}
 use lib.Dec.{eqb, ltb}
 use lib.ListN.{getD, drop, replicate}
@@ -57,3 +59,7 @@ numbered number m l = each (λ i. number i ∷ []) m ++ drop m l
 -- what an operand v loads of m entries: the one at v, and nothing at or past m
 unfoldable pub loaded : List ℕ → ℕ → ℕ → List ℕ
 loaded l m v = cond (ltb v m) (getD l v 0 ∷ []) []
+
+-- every operand of an instruction with the mark names one of the m constants that are there, or is at or past the limit
+abbrev pub AllNear : List ℕ → ℕ → ℕ → Type 0
+AllNear w m limit = (k : ℕ) → k < count w → names w k ≡ true → (operandAt w k < m) ⊎ (limit ≤ operandAt w k)

@@ -45,7 +45,7 @@ first-le f (suc m) k j lo hi e = go (f k) refl (λ l. first-le f m (suc k) j l (
 
 -- sweeps begin no later than any level
 module _ (wide : Bool) (regs : ℕ) (w : List ℕ) where
-  inside : firstOf wide regs w ≤ count w
+  pub inside : firstOf wide regs w ≤ count w
   unfolding firstOf
   inside = go (wide || ltb 64 regs)
     where
@@ -53,7 +53,7 @@ module _ (wide : Bool) (regs : ℕ) (w : List ℕ) where
       go true = zero-le
       go false = level-le w
 
-  before : (k : ℕ) → k < count w → isLevel (insAt w k) ≡ true → firstOf wide regs w ≤ k
+  pub before : (k : ℕ) → k < count w → isLevel (insAt w k) ≡ true → firstOf wide regs w ≤ k
   unfolding firstOf firstLevel
   before k l e = go (wide || ltb 64 regs)
     where
@@ -63,23 +63,25 @@ module _ (wide : Bool) (regs : ℕ) (w : List ℕ) where
 
 module _ (w : List ℕ) (regs : ℕ) (tries : List ℕ) (wide : Bool) (rows offsets list : List ℕ) where
   -- what an answer leaves
-  record Left (a b c : List ℕ) (full abandoned : ℕ) : Type 0 where
-    valid : Valid w
-    scratch : Scratch wide regs w rows a full abandoned
-    begins : b ≡ over (offsetsTo regs w tries (rowsIn regs w a) (suc (count w))) offsets
-    lists : c ≡ over (listsTo regs w tries (rowsIn regs w a) (count w)) list
+  pub record Left (a b c : List ℕ) (t full abandoned : ℕ) : Type 0 where
+    pub valid : Valid w
+    pub scratch : Scratch wide regs w rows a full abandoned
+    pub begins : b ≡ over (offsetsTo regs w tries (rowsIn regs w a) (suc (count w))) offsets
+    pub lists : c ≡ over (listsTo regs w tries (rowsIn regs w a) (count w)) list
+    pub total : t ≡ length (listsTo regs w tries (rowsIn regs w a) (count w))
 
-  left : {a b c : List ℕ} {r : KeptAnswer} → Outcome w regs tries wide rows offsets list a b c r → (t f g : ℕ) → r ≡ Is t f g → Left a b c f g
+  pub left : {a b c : List ℕ} {r : KeptAnswer} → Outcome w regs tries wide rows offsets list a b c r → (t f g : ℕ) → r ≡ Is t f g → Left a b c t f g
   left (refused p) t f g e = let z : _≡_ {A = ℕ} 0 1 = cc in absurd (omega arith)
   left (short p q l) t f g e = let z : _≡_ {A = ℕ} 0 1 = cc in absurd (omega arith)
-  left (told {full = x} {abandoned = y} p q l) t f g e =
+  left {a = a} (told {full = x} {abandoned = y} p q l) t f g e =
       let h : x ≡ f = cc in
       let k : y ≡ g = cc in
-      record { valid = accepted-valid w regs tries (length rows) (length offsets) (count w) p; scratch = rw (← h, ← k) q; begins = refl; lists = refl }
+      let m : length (listsTo regs w tries (rowsIn regs w a) (count w)) ≡ t = cc in
+      record { valid = accepted-valid w regs tries (length rows) (length offsets) (count w) p; scratch = rw (← h, ← k) q; begins = refl; lists = refl; total = sym m }
 
 module _ (w : List ℕ) (regs : ℕ) (tries : List ℕ) (wide : Bool) (rows offsets list : List ℕ) (new o l : List ℕ) (total full abandoned : ℕ)
     (out : Outcome w regs tries wide rows offsets list new o l (Is total full abandoned)) (k : ℕ) (inCode : k < count w) where
-  answer : Left w regs tries wide rows offsets list new o l full abandoned
+  answer : Left w regs tries wide rows offsets list new o l total full abandoned
   answer = left w regs tries wide rows offsets list out total full abandoned refl
 
   -- offsets[k]..offsets[k + 1] of the lent list is the kept list of position k, by the rows in the scratch

@@ -1,19 +1,19 @@
 -- Two 48-bit ints compare as their floats do, since each becomes a float exactly (`lt-ints`, `le-ints`, `eq-ints`, `ne-ints`). Assumes nothing.
 use Prim.Native.Nat.{ℕ, zero, suc, _+_, _*_, _^_, _<_}
-use native.Mathlib.Nat.{mul-pos, mul-comm, mul-assoc, mul-one, zero-mul, eq-of-mul-eq-mul-right, mul-lt-mul-of-pos-right, mul-le-mul-right, add-mul}
+use native.Mathlib.Nat.{mul-pos, mul-comm, mul-assoc, mul-one, mul-right-comm, zero-mul, eq-of-mul-eq-mul-right, mul-lt-mul-of-pos-right, mul-le-mul-right, add-mul}
 use native.Mathlib.Omega.{arith}
 use mathlib.Core.Path.{_≡_, refl, sym, ap, ap₂, _∙_}
 use mathlib.Core.Bool.{Bool, true, false, not, _&&_, _||_, Bool·beq, false≢true}
 use lib.Arith.{lt-of-le-ne}
 use lib.Dec.{ltb, leb, eqb, leb·suc-suc, eqb·zero-suc, eqb·suc-zero, eqb·suc-suc}
-use lib.IntN.{ℤ, pos, negsuc}
+use lib.IntN.{ℤ, pos, negsuc, natAbs, _*ℤ_}
 use lib.Signed.{ltZ, leZ}
 use lib.Pow.{pow-pos}
 use lib.Ieee.{Float, nan, inf, fin, binary64, ofInt, up, down, below, level, lt, le, eq, ne}
 use lib.Ieee.Exact.{HasValue}
 use lib.Ieee.Back.{round-whole}
 use borrow.Author.Tests.{lt-ltb, le-ltb, ltb-true, ltb-false, le-leb, lt-leb, eq-eqb, ne-eqb, eqb-true, eqb-false}
-use Rattle.values.specs.Python.{eqZ}
+use Rattle.values.specs.Python.{signed, sign, eqZ}
 use Rattle.values.specs.Folds.{Small}
 
 -- ---- a common factor above 0 changes no comparison
@@ -155,3 +155,91 @@ eqZ-true (negsuc a) (negsuc b) e = ap (λ (n : ℕ). negsuc n) (eqb-true a b e)
 pub eqZ-same : (a : ℤ) → eqZ a a ≡ true
 eqZ-same (pos a) = eq-eqb a a refl
 eqZ-same (negsuc a) = eq-eqb a a refl
+
+-- ---- an int beside any finite float: a against ±n * 2 ^ d, both times the power of two below the line, so that nothing is rounded
+
+-- a 48-bit int becomes a float exactly
+pub exact-int : (a : ℤ) → Small a → HasValue (ofInt binary64 a) (sign a) (natAbs a) 1
+exact-int (pos n) s = up-value n (s .small)
+exact-int (negsuc n) s = low-value n (s .small)
+
+below-signed : (s t : Bool) (x y : ℕ) → below s x t y ≡ ltZ (signed s x) (signed t y)
+below-signed false false x y = refl
+below-signed false true x zero = sym (le-ltb x 0 (omega arith))
+below-signed false true x (suc y) = refl
+below-signed true false zero y = let e : 0 + y ≡ y = omega arith in ap (ltb 0) e
+below-signed true false (suc x) y = lt-ltb 0 (suc x + y) (omega arith)
+below-signed true true zero zero = refl
+below-signed true true zero (suc y) = le-ltb (suc y) 0 (omega arith)
+below-signed true true (suc x) zero = lt-ltb 0 (suc x) (omega arith)
+below-signed true true (suc x) (suc y) = leb·suc-suc (suc y) x
+
+times : (a : ℤ) (k : ℕ) → signed (sign a) (natAbs a * k) ≡ a *ℤ pos k
+times (pos n) k = refl
+times (negsuc n) k = refl
+
+module _ (s : Bool) (m : ℕ) (t : Bool) (n : ℕ) (d : ℤ) where
+  step : (p : ℕ) (e : ℤ) → p * up e * 1 ≡ m * down e → p * up e * down d ≡ m * down d * down e
+  step p e h = ap (λ (q : ℕ). q * down d) (sym (mul-one (p * up e)) ∙ h) ∙ mul-right-comm m (down e) (down d)
+
+  lt-beside : (x : Float) → HasValue x s m 1 → lt x (fin t n d) ≡ below s (m * down d) t (n * up d)
+  unfolding lt
+  lt-beside nan v = absurd v
+  lt-beside (inf z) v = absurd v
+  lt-beside (fin z p e) v =
+      ap₂ (λ (b : Bool) (q : ℕ). below b q t (n * up d * down e)) (v .0) (step p e (v .1))
+      ∙ below-scale s (m * down d) t (n * up d) (down e) (down-up e)
+
+  lt-after : (x : Float) → HasValue x s m 1 → lt (fin t n d) x ≡ below t (n * up d) s (m * down d)
+  unfolding lt
+  lt-after nan v = absurd v
+  lt-after (inf z) v = absurd v
+  lt-after (fin z p e) v =
+      ap₂ (λ (b : Bool) (q : ℕ). below t (n * up d * down e) b q) (v .0) (step p e (v .1))
+      ∙ below-scale t (n * up d) s (m * down d) (down e) (down-up e)
+
+module _ (a : ℤ) (s : Small a) (t : Bool) (n : ℕ) (d : ℤ) where
+  pub lt-mixed : lt (ofInt binary64 a) (fin t n d) ≡ ltZ (a *ℤ pos (down d)) (signed t (n * up d))
+  lt-mixed =
+      lt-beside (sign a) (natAbs a) t n d (ofInt binary64 a) (exact-int a s)
+      ∙ below-signed (sign a) t (natAbs a * down d) (n * up d)
+      ∙ ap (λ (z : ℤ). ltZ z (signed t (n * up d))) (times a (down d))
+
+  pub gt-mixed : lt (fin t n d) (ofInt binary64 a) ≡ ltZ (signed t (n * up d)) (a *ℤ pos (down d))
+  gt-mixed =
+      lt-after (sign a) (natAbs a) t n d (ofInt binary64 a) (exact-int a s)
+      ∙ below-signed t (sign a) (n * up d) (natAbs a * down d)
+      ∙ ap (λ (z : ℤ). ltZ (signed t (n * up d)) z) (times a (down d))
+
+and-same : (t : Bool) → (t && t) ≡ t
+and-same true = refl
+and-same false = refl
+
+unlike : (x y : ℕ) → (eqb x (suc y) && eqb x 0) ≡ false
+unlike zero y = ap (λ (b : Bool). b && true) (eqb·zero-suc y)
+unlike (suc x) y = ap (λ (b : Bool). eqb (suc x) (suc y) && b) (eqb·suc-zero x) ∙ and-false (eqb (suc x) (suc y))
+
+level-signed : (s t : Bool) (x y : ℕ) → level s x t y ≡ eqZ (signed s x) (signed t y)
+level-signed false false x y = and-true (eqb x y)
+level-signed false true x zero = and-same (eqb x 0)
+level-signed false true x (suc y) = unlike x y
+level-signed true false zero y = and-true (eqb 0 y)
+level-signed true false (suc x) y = ap (λ (b : Bool). eqb (suc x) y && b) (eqb·suc-zero x) ∙ and-false (eqb (suc x) y)
+level-signed true true zero zero = refl
+level-signed true true zero (suc y) = ap (λ (b : Bool). b && true) (eqb·zero-suc y)
+level-signed true true (suc x) zero = ap (λ (b : Bool). b && true) (eqb·suc-zero x)
+level-signed true true (suc x) (suc y) = and-true (eqb (suc x) (suc y)) ∙ eqb·suc-suc x y
+
+eq-beside : (s : Bool) (m : ℕ) (t : Bool) (n : ℕ) (d : ℤ) (x : Float) → HasValue x s m 1 → eq x (fin t n d) ≡ level s (m * down d) t (n * up d)
+unfolding eq
+eq-beside s m t n d nan v = absurd v
+eq-beside s m t n d (inf z) v = absurd v
+eq-beside s m t n d (fin z p e) v =
+    ap₂ (λ (b : Bool) (q : ℕ). level b q t (n * up d * down e)) (v .0) (step s m t n d p e (v .1))
+    ∙ level-scale s (m * down d) t (n * up d) (down e) (down-up e)
+
+pub eq-mixed : (a : ℤ) → Small a → (t : Bool) (n : ℕ) (d : ℤ) → eq (ofInt binary64 a) (fin t n d) ≡ eqZ (a *ℤ pos (down d)) (signed t (n * up d))
+eq-mixed a s t n d =
+    eq-beside (sign a) (natAbs a) t n d (ofInt binary64 a) (exact-int a s)
+    ∙ level-signed (sign a) t (natAbs a * down d) (n * up d)
+    ∙ ap (λ (z : ℤ). eqZ z (signed t (n * up d))) (times a (down d))

@@ -1,7 +1,7 @@
 -- Python's integers, over unbounded ℤ: the Python Language Reference, 6.6 to 6.10. Each law stands first, and the one result that it settles after it.
 use Prim.Native.Nat.{ℕ, zero, suc, _+_, _-_, _/_, _%_, _^_, min, max}
 use mathlib.Core.Path.{_≡_}
-use mathlib.Core.Bool.{Bool, false}
+use mathlib.Core.Bool.{Bool, true, false}
 use mathlib.Core.Logic.{_⊎_}
 use lib.Dec.{T, eqb}
 use lib.IntN.{ℤ, pos, negsuc, negℤ, _+ℤ_, _*ℤ_}
@@ -92,3 +92,13 @@ eqZ (pos a) (pos b) = eqb a b
 eqZ (pos a) (negsuc b) = false
 eqZ (negsuc a) (pos b) = false
 eqZ (negsuc a) (negsuc b) = eqb a b
+
+-- ---- an int beside a float, which is a sign and a size
+
+abbrev pub signed : Bool → ℕ → ℤ
+signed false n = pos n
+signed true n = negℤ (pos n)
+
+abbrev pub sign : ℤ → Bool
+sign (pos n) = false
+sign (negsuc n) = true

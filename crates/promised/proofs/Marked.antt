@@ -2,7 +2,7 @@
 use mathlib.Core.Path.{refl}
 use mathlib.Core.Bool.{false}
 use mathlib.Core.List.{[], _∷_}
-use native.Mathlib.Nat.{le-refl}
+use borrow.Author.Tests.{leb-true}
 use lib.ListN.{replicate}
 use lib.Ieee.{ofBits, toBits, div, ofInt, neg, eq}
 use Rattle.laws.specs.All.{every, many}
@@ -43,21 +43,22 @@ use Rattle.compact.specs.Tables.{operandOf, left, compacted, placed}
 use Rattle.phi_pass.specs.Phi.{paired, noop, markAt, marked as phisMarked, pairsLeft, indexed}
 use Rattle.finish.specs.Finish.{sourcesAfter, renewed, finished}
 use Rattle.optimizer.specs.Fold.{foldPass, constantFold, joined, foldCall}
-use Rattle.marked.specs.Marked.{K, rowsK, code4, code5, code6, room, Marked}
+use Rattle.promised.specs.Marked.{K, rowsK, code4, code5, code6, room, Marked}
 
 pub marked : Marked
 unfolding set.minus flow.joined rowAt sweep below tally value rowsOf first page ruleOf kindsOf hasRole isJump cases caseOf usedBy givenBy isLevel firstLevel storeOf overPending pastStore restores idle usedAt givenAt afterAt firstOf listed handlersOf added resumeOf resultAt keptAt listsTo offsetsTo stagesOf checkOf rules firstBadTry tryKept globalAnswer globalOf traced tracedBy stepAt setsIt passesBy writes foldBinop foldNeg ints floats divmod quotient remainder shifted inRange floorDiv floorMod downDiv downMod shiftUp div ofInt eq neg ofBits toBits foldCall joined constantFold foldPass finished renewed sourcesAfter readyOf tablesOf roomsOf tallyOf chunkCheckOf chunkRules folds every many each some remapOf mapped operandOf left compacted placed paired noop markAt phisMarked pairsLeft indexed foldAll folded tryFold applied landed put constLoad planAt planFor kindOf plan.page tryFoldBinop tryFoldUnary foldUnary prevLive plan.operandOf blocked lands skipsInto landsAny constToVal toVal findOrPushConst findOrPush
 marked =
     record {
-      p1 = (told refl held (le-refl 1), refl);
-      p2 = told refl held (le-refl 2);
-      p3 = (told refl held (le-refl 1), λ rows offsets list. refused refl, told refl held (le-refl 1));
+      p1 = (told refl held (leb-true _ _ refl), refl);
+      p2 = told refl held (leb-true _ _ refl);
+      p2′ = told refl held (leb-true _ _ refl);
+      p3 = (told refl held (leb-true _ _ refl), λ rows offsets list. refused refl, told refl held (leb-true _ _ refl));
       p4 = (
-        told refl (record { found = record { sweeps = done (last-straight (code.flow 64 code4) 0 (replicate 4 0) refl); left = refl }; long = refl; past = refl }) (le-refl 3),
-        told refl (record { found = record { sweeps = done (last-straight (code.flow 65 code4) 0 (replicate 4 0) refl); left = refl }; long = refl; past = refl }) (le-refl 3),
+        told refl (record { found = record { sweeps = done (last-straight (code.flow 64 code4) 0 (replicate 4 0) refl); left = refl }; long = refl; past = refl }) (leb-true _ _ refl),
+        told refl (record { found = record { sweeps = done (last-straight (code.flow 65 code4) 0 (replicate 4 0) refl); left = refl }; long = refl; past = refl }) (leb-true _ _ refl),
       );
-      p5 = told refl (record { found = record { sweeps = three; left = refl }; long = refl; past = refl }) (le-refl 3);
-      p6 = told refl (record { found = record { sweeps = done (last-straight (code.flow 6 code6) 1 (replicate 6 0) refl); left = refl }; long = refl; past = refl }) (le-refl 1);
+      p5 = told refl (record { found = record { sweeps = three; left = refl }; long = refl; past = refl }) (leb-true _ _ refl);
+      p6 = told refl (record { found = record { sweeps = done (last-straight (code.flow 6 code6) 1 (replicate 6 0) refl); left = refl }; long = refl; past = refl }) (leb-true _ _ refl);
       p7 = (refl, refl, refl);
       p8 = (refl, refl);
       p9 = (refl, refl);

@@ -118,6 +118,8 @@ pub record Marked : Type 0 where
   pub p1 : Keeps 4 K [] rowsK 2 (0 ∷ []) 1 0 × (globalAnswer K 2 ≡ callee.Is 9)
   -- K with try (1, 5): [0, 3]
   pub p2 : Keeps 4 K (1 ∷ 5 ∷ []) rowsK 2 (0 ∷ 3 ∷ []) 1 0
+  -- K with try (1, 4), whose handler reads the result register: [0, 2]
+  pub p2′ : Keeps 4 K (1 ∷ 4 ∷ []) rowsK 2 (0 ∷ 2 ∷ []) 1 0
   -- with (2, 5): [0]. (3, 2) is refused, (6, 9) is not
   pub p3 : Keeps 4 K (2 ∷ 5 ∷ []) rowsK 2 (0 ∷ []) 1 0 × RefusesTry 4 K (3 ∷ 2 ∷ []) × Keeps 4 K (6 ∷ 9 ∷ []) rowsK 2 (0 ∷ []) 1 0
   -- [0, 1, 2] at 64 and 65

@@ -1,0 +1,123 @@
+-- The clearing call: one result, its refusals, words past the count, and that asked again it changes nothing more. Assumes nothing.
+use mathlib.Core.Path.{_≡_, refl, sym, ap, _∙_}
+use mathlib.Core.List.{List, [], _∷_}
+use Prim.Native.Nat.{ℕ, _≤_}
+use native.Mathlib.Omega.{arith}
+use lib.ListN.{length}
+use Rattle.laws.specs.Table.{Held}
+use Rattle.laws.specs.Each.{each}
+use Rattle.laws.proofs.Each.{each-word}
+use Rattle.code.specs.declared.Answer.{Answer}
+use Rattle.code.specs.declared.Checked.{Checked}
+use Rattle.code.specs.declared.Checked.the-variants.{Count, No as Refused}
+use Rattle.clear.specs.Unused.{named, before, pooled, recoded, numbered}
+use Rattle.clear.specs.Clear.{Buffers, Outcome, outcome, cleared, readyOf, clearCall}
+use Rattle.clear.specs.declared.ClearAnswer.{ClearAnswer}
+use Rattle.clear.specs.declared.ClearAnswer.the-variants.{Is, No}
+use Rattle.clear.proofs.Answers.{refused-call, answered-call, answered, refusal-keeps}
+use Rattle.clear.proofs.Kept.{in-order, onto, pooled-kept, pooled-freed, pooled-past, pooled-length}
+use Rattle.clear.proofs.Loads.{recoded-length, recoded-op, recoded-mark, unmarked-stays, far-stays, loads-same}
+use Rattle.clear.proofs.Room.{no-more}
+use Rattle.clear.proofs.Tested.{held-of}
+use Rattle.clear.proofs.Twice.{clear-twice}
+use Rattle.turniploom.specs.Answers.{clearTold}
+use Rattle.turniploom.proofs.Alone.{one-clear}
+use Rattle.exported.specs.Settles as settles
+use Rattle.exported.specs.Settles.{Settles}
+use Rattle.exported.specs.Calls.{ClearCall, ClearBeyond}
+use Rattle.exported.specs.Told.{ClearHolds, ClearedTwice}
+use Rattle.exported.proofs.Answered.{refused-not}
+use Rattle.exported.proofs.Writing.{held-same, held-front}
+use Rattle.exported.proofs.Folded.{answered-clear, clear-answers}
+
+module _ (m : ℕ) (b : Buffers) where
+  pool-held : (l : List ℕ) → m ≤ length l → Held m l (pooled (named (b .code)) m l)
+  pool-held l h = record { same = pooled-length (named (b .code)) m l h; tail = pooled-past (named (b .code)) m l }
+
+  scratch-held : (l : List ℕ) → m ≤ length l → Held m l (numbered (before (b .code)) m l)
+  unfolding numbered
+  scratch-held l h = held-front m (each (λ i. before (b .code) i ∷ []) m) l (each-word (before (b .code)) m) h
+
+  cleared-beyond : (r : ℕ) (a : Buffers) → clearCall b m ≡ outcome (Is r) a → ClearBeyond m b a
+  cleared-beyond r a e = go (readyOf b m) refl
+    where
+      go : (v : Checked) → readyOf b m ≡ v → ClearBeyond m b a
+      go (Refused q) f =
+          let y : No q ≡ Is r = ap (λ (x : Outcome). x .answer) (sym (refused-call b m q f) ∙ e) in
+          absurd (let z : _≡_ {A = ℕ} 0 1 = cc in omega arith)
+      go (Count n) f =
+          let y = answered b m r a e in
+          let k = held-of b m (Count n) (sym f) n refl in
+          rw (y .code, y .kinds, y .words, y .scratch)
+          (record {
+            code = recoded-length (before (b .code)) m (b .code) ∙ sym (k .whole);
+            kinds = pool-held (b .kinds) (k .kinds);
+            words = pool-held (b .words) (k .words);
+            scratch = scratch-held (b .scratch) (k .scratch);
+          })
+
+  module _ (r : Answer) (a : Buffers) (x : ClearCall m b r a) where
+    clear-refusal : settles.Refusal r → a ≡ b
+    clear-refusal h = go (x .told) (x .is) (x .allowed)
+      where
+        go : (v : ClearAnswer) → r ≡ clearTold v → outcome v a ≡ clearCall b m → a ≡ b
+        go (Is n) e y = absurd (h (ap (λ (s : Answer). s .refusal) e))
+        go (No q) e y = refusal-keeps b m q a (sym y)
+
+    clear-beyond : ClearBeyond m b a
+    clear-beyond = go (x .told) (x .allowed)
+      where
+        go : (v : ClearAnswer) → outcome v a ≡ clearCall b m → ClearBeyond m b a
+        go (Is n) y = cleared-beyond n a (sym y)
+        go (No q) y =
+            rw (refusal-keeps b m q a (sym y))
+            (record { code = refl; kinds = held-same m (b .kinds) (b .kinds) refl; words = held-same m (b .words) (b .words) refl; scratch = held-same m (b .scratch) (b .scratch) refl })
+
+    -- with refusal 0: what is left
+    pub clear-holds : r .refusal ≡ 0 → ClearHolds m b r a
+    clear-holds z =
+        let w = b .code in
+        let y = answered b m (r .first) a (answered-clear m b r a x z) in
+        rw (y .code, y .kinds, y .words, y .scratch, y .count)
+        (record {
+          count = refl;
+          fewer = no-more w m;
+          kind = λ i h e. pooled-kept (named w) m (b .kinds) i h e;
+          word = λ i h e. pooled-kept (named w) m (b .words) i h e;
+          order = λ i j h e. in-order (named w) i j h e;
+          onto = λ j h. let p = onto (named w) m j h in (p .place, p .below, p .passes, p .number);
+          kinds-freed = λ j h l. pooled-freed (named w) m (b .kinds) j h l;
+          words-freed = λ j h l. pooled-freed (named w) m (b .words) j h l;
+          ops = λ k h. recoded-op (before w) m w k h;
+          marks = λ k h. recoded-mark (before w) m w k h;
+          plain = λ k h e. unmarked-stays (before w) m w k h e;
+          far = λ k h e. far-stays (before w) m w k h e;
+          loads-kind = λ k h e. loads-same w (b .kinds) m k h e;
+          loads-word = λ k h e. loads-same w (b .words) m k h e;
+          scratch = refl;
+        })
+
+    -- with refusal 0, asked again
+    pub cleared-twice : r .refusal ≡ 0 → (s : Answer) (y : Buffers) → ClearCall (r .first) a s y → ClearedTwice r a s y
+    cleared-twice z s y u =
+        let e = answered-clear m b r a x z in
+        let t = clear-twice b m (r .first) a e in
+        let o = clearCall a (r .first) in
+        let w : clearCall a (r .first) ≡ outcome (Is (r .first)) (o .after) = ap (λ (v : ClearAnswer). outcome v (o .after)) (t .answer) in
+        let i = clear-answers (r .first) a s y u (r .first) (o .after) w in
+        let j = clear-answers m b r a x (r .first) a e in
+        record {
+          answer = i .0 ∙ sym (j .0);
+          code = ap (λ (v : Buffers). v .code) (i .1) ∙ t .code;
+          kinds = ap (λ (v : Buffers). v .kinds) (i .1) ∙ t .kinds;
+          words = ap (λ (v : Buffers). v .words) (i .1) ∙ t .words;
+          scratch = ap (λ (v : Buffers). v .scratch) (i .1) ∙ t .scratch;
+        }
+
+pub clear-settles : (m : ℕ) → Settles (ClearCall m) (ClearBeyond m)
+clear-settles m =
+    record {
+      one = λ b r r′ a a′ x y. one-clear b m r r′ a a′ x y;
+      refusal = λ b r a x h. clear-refusal m b r a x h;
+      beyond = λ b r a x. clear-beyond m b r a x;
+    }

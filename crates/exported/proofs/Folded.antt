@@ -1,0 +1,168 @@
+-- The folding call: one result, its refusals, what an answer leaves alone, and what the next calls answer. Assumes nothing.
+use mathlib.Core.Path.{_≡_, refl, sym, ap, _∙_}
+use mathlib.Core.Bool.{Bool}
+use mathlib.Core.List.{List}
+use Prim.Native.Nat.{ℕ, _≤_, _<_}
+use lib.ListN.{length}
+use Rattle.laws.specs.Table.{Held}
+use Rattle.code.specs.declared.Answer.{Answer}
+use Rattle.code.specs.declared.Checked.the-variants.{Count}
+use Rattle.lent.specs.Check.{checkOf}
+use Rattle.lent.specs.declared.Counts.{Counts}
+use Rattle.optimizer.specs.Fold.{Buffers, Outcome, outcome, foldCall}
+use Rattle.optimizer.specs.declared.Folded.{Folded}
+use Rattle.optimizer.specs.declared.FoldAnswer.{FoldAnswer}
+use Rattle.optimizer.specs.declared.FoldAnswer.the-variants.{Is, No}
+use Rattle.clear.specs.Unused.{AllNear}
+use Rattle.clear.specs.Clear as clearing
+use Rattle.clear.specs.Clear.{clearCall}
+use Rattle.clear.specs.declared.ClearAnswer.{ClearAnswer}
+use Rattle.clear.specs.declared.ClearAnswer.the-variants as clear
+use Rattle.optimizer.proofs.Again.{again}
+use Rattle.clear.proofs.Answers.{answered}
+use Rattle.refold.specs.Lendable.{cutAt, countsLeft, Lendable, clearable, clearedBuffers, countsCleared, Chained}
+use Rattle.refold.specs.Refolded.{Refolded, Refolds}
+use Rattle.refold.specs.Left.{PoolLeft, FoldBeyond, NoneDied, asLent}
+use Rattle.refold.proofs.Lends.{lends, pool-stays, stays-beyond, refusal-leaves, idle-call}
+use Rattle.refold.proofs.Chain.{fold-clear-fold, fold-fold}
+use Rattle.refold.proofs.Refolds.{refold-call, accepted-again}
+use Rattle.turniploom.specs.Answers.{foldTold, clearTold}
+use Rattle.turniploom.proofs.Alone.{one-fold}
+use Rattle.exported.specs.Settles as settles
+use Rattle.exported.specs.Settles.{Settles}
+use Rattle.exported.specs.Calls.{FoldCall, ClearCall}
+use Rattle.exported.specs.Told.{foldedOf, FoldsNext, ClearsNext, FoldsSame, FoldsCleared}
+use Rattle.exported.proofs.Answered.{refused-not}
+use Rattle.exported.proofs.Writing.{held-same}
+
+-- ---- an answer, and what it says
+
+module _ (strict : Bool) (c : Counts) (b : Buffers) (r : Answer) (a : Buffers) (x : FoldCall strict c b r a) where
+  -- with refusal 0 the call was answered
+  pub answered-fold : r .refusal ≡ 0 → foldCall strict b c ≡ outcome (Is (foldedOf r)) a
+  answered-fold z = go (x .told) (x .is) (x .allowed)
+    where
+      go : (v : FoldAnswer) → r ≡ foldTold v → outcome v a ≡ foldCall strict b c → foldCall strict b c ≡ outcome (Is (foldedOf r)) a
+      go (Is f) e h = rw e (sym h)
+      go (No q) e h = absurd (refused-not q (sym (ap (λ (s : Answer). s .refusal) e) ∙ z))
+
+  -- and where it was answered, so it says
+  pub fold-answers : (f : Folded) (y : Buffers) → foldCall strict b c ≡ outcome (Is f) y → (r .refusal ≡ 0) × (foldedOf r ≡ f) × (a ≡ y)
+  fold-answers f y e =
+      let h = x .allowed ∙ e in
+      let i : r ≡ foldTold (Is f) = x .is ∙ ap (λ (o : Outcome FoldAnswer). foldTold (o .answer)) h in
+      (ap (λ (s : Answer). s .refusal) i, ap foldedOf i, ap (λ (o : Outcome FoldAnswer). o .after) h)
+
+  fold-refusal : settles.Refusal r → a ≡ b
+  fold-refusal h = go (x .told) (x .is) (x .allowed)
+    where
+      go : (v : FoldAnswer) → r ≡ foldTold v → outcome v a ≡ foldCall strict b c → a ≡ b
+      go (Is f) e y = absurd (h (ap (λ (s : Answer). s .refusal) e))
+      go (No q) e y = refusal-leaves strict b c q a (sym y)
+
+  fold-beyond : FoldBeyond c b a
+  fold-beyond = go (x .told) (x .allowed)
+    where
+      go : (v : FoldAnswer) → outcome v a ≡ foldCall strict b c → FoldBeyond c b a
+      go (Is f) y = stays-beyond strict b c f a (sym y)
+      go (No q) y =
+          rw (refusal-leaves strict b c q a (sym y))
+          (record {
+            code = refl;
+            kinds = held-same _ (b .kinds) (b .kinds) refl;
+            words = held-same _ (b .words) (b .words) refl;
+            map = held-same _ (b .map) (b .map) refl;
+            sources = held-same _ (b .sources) (b .sources) refl;
+            stmts = held-same _ (b .stmts) (b .stmts) refl;
+            calls = held-same _ (b .calls) (b .calls) refl;
+            dead = held-same _ (b .dead) (b .dead) refl;
+            remap = held-same _ (b .remap) (b .remap) refl;
+          })
+
+pub fold-settles : (strict : Bool) (c : Counts) → Settles (FoldCall strict c) (FoldBeyond c)
+fold-settles strict c =
+    record {
+      one = λ b r r′ a a′ x y. one-fold strict b c r r′ a a′ x y;
+      refusal = λ b r a x h. fold-refusal strict c b r a x h;
+      beyond = λ b r a x. fold-beyond strict c b r a x;
+    }
+
+-- ---- clearing, answered
+
+module _ (m : ℕ) (b : clearing.Buffers) (r : Answer) (a : clearing.Buffers) (x : ClearCall m b r a) where
+  pub answered-clear : r .refusal ≡ 0 → clearCall b m ≡ clearing.outcome (clear.Is (r .first)) a
+  answered-clear z = go (x .told) (x .is) (x .allowed)
+    where
+      go : (v : ClearAnswer) → r ≡ clearTold v → clearing.outcome v a ≡ clearCall b m → clearCall b m ≡ clearing.outcome (clear.Is (r .first)) a
+      go (clear.Is n) e h = rw e (sym h)
+      go (clear.No q) e h = absurd (refused-not q (sym (ap (λ (s : Answer). s .refusal) e) ∙ z))
+
+  pub clear-answers : (n : ℕ) (y : clearing.Buffers) → clearCall b m ≡ clearing.outcome (clear.Is n) y → (r ≡ clearTold (clear.Is n)) × (a ≡ y)
+  clear-answers n y e =
+      let h = x .allowed ∙ e in
+      (x .is ∙ ap (λ (o : clearing.Outcome). clearTold (o .answer)) h, ap (λ (o : clearing.Outcome). o .after) h)
+
+-- ---- from refusal 0
+
+module _ (strict : Bool) (c : Counts) (b : Buffers) (r : Answer) (a : Buffers) (x : FoldCall strict c b r a) (z : r .refusal ≡ 0) where
+  abbrev f : Folded
+  f = foldedOf r
+
+  answer : foldCall strict b c ≡ outcome (Is f) a
+  answer = answered-fold strict c b r a x z
+
+  -- the tables that are left keep their rules, and there is room for the next fold
+  pub tables-kept : Lendable f c a
+  tables-kept = lends strict b c f a answer
+
+  pub pool-kept : PoolLeft b c f a
+  pool-kept = pool-stays strict b c f a answer
+
+  pub none-died : NoneDied b a → outcome (Is f) a ≡ asLent b c
+  none-died h = sym answer ∙ idle-call strict b c f a answer h
+
+  pub folds-next : FoldsNext c r a
+  folds-next strict′ t y u =
+      let (g, v, e) = fold-fold strict b c f a answer strict′ in
+      fold-answers strict′ (countsLeft f c) (cutAt f a) t y u g v e .0
+
+  pub clears-next : ClearsNext c r a
+  clears-next scratch h s x′ u =
+      let go : (strict′ : Bool) → Chained f c a scratch strict′ = λ strict′. fold-clear-fold strict b c f a answer scratch h strict′ in
+      let k = go strict in
+      let i = clear-answers (r .second) (clearable f a scratch) s x′ u (k .left) (k .cleared) (k .clears) in
+      (ap (λ (w : Answer). w .refusal) (i .0), λ strict′ t y v. next strict′ (go strict′) t y v)
+    where
+      next : (strict′ : Bool) → Chained f c a scratch strict′ → (t : Answer) (y : Buffers) → FoldCall strict′ (countsCleared f c (s .first)) (clearedBuffers a x′) t y → t .refusal ≡ 0
+      next strict′ k t y v =
+          let i = clear-answers (r .second) (clearable f a scratch) s x′ u (k .left) (k .cleared) (k .clears) in
+          let e : s .first ≡ k .left = ap (λ (w : Answer). w .first) (i .0) in
+          let w : foldCall strict′ (clearedBuffers a x′) (countsCleared f c (s .first)) ≡ outcome (Is (k .folded)) (k .after) = rw (e, i .1) (k .folds) in
+          fold-answers strict′ (countsCleared f c (s .first)) (clearedBuffers a x′) t y v (k .folded) (k .after) w .0
+
+  -- asked: the fold ends below 65,535 constants, and each operand with the mark is below the count, or at or past the count that it ends with
+  pub folds-same : r .second < 65535 → AllNear (b .code) (c .constants) (r .second) → FoldsSame strict b c r a
+  folds-same few near scratch h s x′ u t y v =
+      let k = refold-call strict b c f a answer few near scratch h in
+      let i = clear-answers (c .constants) (clearing.buffers (b .code) (b .kinds) (b .words) scratch) s x′ u (k .left) (k .cleared) (k .clears) in
+      let e : s .first ≡ k .left = ap (λ (w : Answer). w .first) (i .0) in
+      let d : Counts = record { constants = s .first; map = c .map; sources = c .sources; stmts = c .stmts; calls = c .calls } in
+      let w : foldCall strict (clearedBuffers b x′) d ≡ outcome (Is (k .folded)) (k .after) = rw (e, i .1) (k .folds) in
+      let j = fold-answers strict d (clearedBuffers b x′) t y v (k .folded) (k .after) w in
+      (ap (λ (w : Answer). w .refusal) (i .0), j .0, rw (j .1, j .2) (k .same))
+
+  -- cleared first, the same buffers serve
+  pub folds-cleared : FoldsCleared b c
+  folds-cleared scratch s x′ u zs strict′ t y v =
+      let m = c .constants in
+      let w = b .code in
+      let lent = clearing.buffers (b .code) (b .kinds) (b .words) scratch in
+      let e = answered-clear m lent s x′ u zs in
+      let h = answered lent m (s .first) x′ e in
+      let d : Counts = record { constants = s .first; map = c .map; sources = c .sources; stmts = c .stmts; calls = c .calls } in
+      let (g, k, i) = accepted-again strict b c f a answer (s .first) x′ (h .count) (h .code) (h .kinds) (h .words) strict′ in
+      fold-answers strict′ d (clearedBuffers b x′) t y v g k i .0
+
+  -- the whole code passes tests 1 and 2 again
+  pub code-again : (n : ℕ) → checkOf (b .code) ≡ Count n → checkOf (a .code) ≡ Count n
+  code-again n e = ap (λ (o : Outcome FoldAnswer). checkOf (o .after .code)) (sym answer) ∙ again strict b c n e

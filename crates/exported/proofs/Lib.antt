@@ -1,0 +1,5 @@
+pub mod Answered
+pub mod Writing
+pub mod Kept
+pub mod Folded
+pub mod Cleared

@@ -1,0 +1,83 @@
+-- The statements of the calls that write, each with its buffers as one record, and how far each buffer is needed. Assumes nothing.
+use mathlib.Core.Path.{_≡_}
+use mathlib.Core.Logic.{_⊎_}
+use mathlib.Core.Bool.{Bool}
+use mathlib.Core.List.{List}
+use Prim.Native.Nat.{ℕ, suc, _+_}
+use lib.ListN.{length}
+use Rattle.laws.specs.Table.{Held}
+use Rattle.code.specs.Ins.{count}
+use Rattle.code.specs.declared.Answer.{Answer}
+use Rattle.flow.specs.Words.{Small}
+use Rattle.kept.specs.Answers.{scratchFor}
+use Rattle.lent.specs.declared.Counts.{Counts}
+use Rattle.optimizer.specs.Fold.{Buffers}
+use Rattle.clear.specs.Clear as clearing
+use Rattle.turniploom.specs.Answers.{TargetsTold, LoopsTold, DeadTold, GenTold, KeptTold, FoldTold, ClearTold}
+use Rattle.exported.specs.Settles.{Refusal}
+
+-- ---- targets and loops_around write n + 1 entries
+
+abbrev pub TargetsCall : (w tries : List ℕ) → List ℕ → Answer → List ℕ → Type 0
+TargetsCall w tries b r a = TargetsTold w tries b r a
+
+abbrev pub LoopsCall : List ℕ → List ℕ → Answer → List ℕ → Type 0
+LoopsCall w b r a = LoopsTold w b r a
+
+abbrev pub EntriesBeyond : List ℕ → List ℕ → List ℕ → Type 0
+EntriesBeyond w b a = Held (count w + 1) b a
+
+-- ---- dead_phi and gen_pure write n + 1 words of both buffers
+
+pub record Marks : Type 0 where
+  pub seen : List ℕ
+  pub todo : List ℕ
+
+abbrev pub DeadCall : List ℕ → (k q : ℕ) → Marks → Answer → Marks → Type 0
+DeadCall w k q b r a = DeadTold w k q (b .seen) (b .todo) r (a .seen) (a .todo)
+
+abbrev pub GenCall : List ℕ → Marks → Answer → Marks → Type 0
+GenCall w b r a = GenTold w (b .seen) (b .todo) r (a .seen) (a .todo)
+
+pub record MarksBeyond (w : List ℕ) (b a : Marks) : Type 0 where
+  pub seen : Held (count w + 1) (b .seen) (a .seen)
+  pub todo : Held (count w + 1) (b .todo) (a .todo)
+
+-- ---- kept writes its scratch, n + 1 offsets and as much of the list as it answers
+
+pub record Lists : Type 0 where
+  pub rows : List ℕ
+  pub offsets : List ℕ
+  pub list : List ℕ
+
+-- the scratch is words of 64 bits, as every lent u64 is
+pub record KeptCall (w : List ℕ) (regs : ℕ) (tries : List ℕ) (wide : Bool) (b : Lists) (r : Answer) (a : Lists) : Type 0 where
+  pub told : KeptTold w regs tries wide (b .rows) (b .offsets) (b .list) (a .rows) (a .offsets) (a .list) r
+  pub words : Small 64 (a .rows)
+
+-- like `Settles`, with the one exception: refusal 5 for the list, buffer 3, comes after the rows are found, and the scratch holds them
+pub record KeptSettles (w : List ℕ) (regs : ℕ) (tries : List ℕ) (wide : Bool) : Type 0 where
+  -- any two results are equal, lent words included
+  pub one : (b : Lists) (r r′ : Answer) (a a′ : Lists) → KeptCall w regs tries wide b r a → KeptCall w regs tries wide b r′ a′ → (r ≡ r′) × (a ≡ a′)
+  -- a refusal leaves offsets and list as lent, and the scratch too, but for the one
+  pub refusal : (b : Lists) (r : Answer) (a : Lists) → KeptCall w regs tries wide b r a → Refusal r
+      → (a .offsets ≡ b .offsets) × (a .list ≡ b .list) × ((a .rows ≡ b .rows) ⊎ ((r .refusal ≡ 5) × (r .first ≡ 3)))
+  -- words past a needed length are never touched
+  pub rows-beyond : (b : Lists) (r : Answer) (a : Lists) → KeptCall w regs tries wide b r a → Held (scratchFor regs w) (b .rows) (a .rows)
+  pub offsets-beyond : (b : Lists) (r : Answer) (a : Lists) → KeptCall w regs tries wide b r a → Held (suc (count w)) (b .offsets) (a .offsets)
+  pub list-beyond : (b : Lists) (r : Answer) (a : Lists) → KeptCall w regs tries wide b r a → r .refusal ≡ 0 → Held (r .first) (b .list) (a .list)
+
+-- ---- fold and clear
+
+abbrev pub FoldCall : Bool → Counts → Buffers → Answer → Buffers → Type 0
+FoldCall strict c b r a = FoldTold strict b c r a
+
+abbrev pub ClearCall : ℕ → clearing.Buffers → Answer → clearing.Buffers → Type 0
+ClearCall m b r a = ClearTold b m r a
+
+-- constants and scratch as far as there are constants
+pub record ClearBeyond (m : ℕ) (b a : clearing.Buffers) : Type 0 where
+  pub code : length (a .code) ≡ length (b .code)
+  pub kinds : Held m (b .kinds) (a .kinds)
+  pub words : Held m (b .words) (a .words)
+  pub scratch : Held m (b .scratch) (a .scratch)

@@ -1,0 +1,1 @@
+// What is promised of every exported call, over its statement. No code.

@@ -1,0 +1,94 @@
+-- The one value: every promise, by the theorem that proves it. Assumes nothing.
+use Rattle.laws.proofs.Mask.{mask-bit}
+use Rattle.flow.proofs.Rows.{least-one}
+use Rattle.callee.proofs.Tracing.{by-step, left-out}
+use Rattle.values.proofs.Division.{divides, one-pair}
+use Rattle.values.proofs.Digits.{and-law, or-law, xor-law, one-digits}
+use Rattle.values.proofs.Order.{lt-ints, le-ints, eq-ints, ne-ints, eqZ-true, eqZ-same, exact-int, lt-mixed, gt-mixed, eq-mixed}
+use Rattle.chunk.proofs.Nan.{the-nan, nan-read, nan-kept}
+use Rattle.roles.specs.Answers.{kindsAnswer, roleAnswer, fieldAnswer, writesAnswer}
+use Rattle.walks.specs.Answers.{pureAnswer, flatAnswer, guardedAnswer, returnsAnswer}
+use Rattle.surveys.specs.Answers.{writtenAnswer, passedAnswer}
+use Rattle.callee.specs.Answers.{globalAnswer, pushAnswer, stackAnswer}
+use Rattle.turniploom.specs.Answers.{kindsTold, roleTold, fieldTold, truthTold, bitsTold, globalTold, pushTold, stackTold}
+use Rattle.clear.proofs.Kept.{named-by, naming}
+use Rattle.refold.proofs.Operators.{operators-same}
+use Rattle.refold.proofs.Jumped.{jumped}
+use Rattle.refold.proofs.Relent.{relent}
+use Rattle.exported.proofs.Answered.{one}
+use Rattle.exported.proofs.Writing.{targets-settles, loops-settles, dead-settles, gen-settles, dead-truth, gen-truth}
+use Rattle.exported.proofs.Kept.{kept-settles, kept-holds, routes-same}
+use Rattle.exported.proofs.Folded.{fold-settles, pool-kept, tables-kept, code-again, none-died, folds-next, clears-next, folds-cleared, folds-same}
+use Rattle.exported.proofs.Cleared.{clear-settles, clear-holds, cleared-twice}
+use Rattle.promised.specs.Promised.{Promised}
+use Rattle.promised.proofs.Marked.{marked}
+use Rattle.promised.proofs.Late.{late}
+
+pub promised : Promised
+promised =
+    record {
+      marked = marked;
+      one-kinds = λ w at. one (kindsTold (kindsAnswer w at));
+      one-role = λ w at. one (roleTold (roleAnswer w at));
+      one-field = λ w at f. one (fieldTold (fieldAnswer w at f));
+      one-writes = λ w at r. one (truthTold (writesAnswer w at r));
+      one-pure = λ w. one (truthTold (pureAnswer w));
+      one-flat = λ w. one (truthTold (flatAnswer w));
+      one-guarded = λ w. one (truthTold (guardedAnswer w));
+      one-returns = λ w at. one (truthTold (returnsAnswer w at));
+      one-written = λ w arity. one (bitsTold (writtenAnswer w arity));
+      one-passed = λ w at arity. one (bitsTold (passedAnswer w at arity));
+      one-global = λ w at. one (globalTold (globalAnswer w at));
+      one-push = λ w at r. one (pushTold (pushAnswer w at r));
+      one-stack = λ w at count. one (stackTold (stackAnswer w at count));
+      targets = targets-settles;
+      loops = loops-settles;
+      dead = dead-settles;
+      gen = gen-settles;
+      kept = kept-settles;
+      folding = fold-settles;
+      clear = clear-settles;
+      dead-truth = dead-truth;
+      gen-truth = gen-truth;
+      mask-bit = mask-bit;
+      by-step = by-step;
+      left-out = left-out;
+      kept-holds = kept-holds;
+      routes-same = routes-same;
+      least-one = least-one;
+      divides = divides;
+      one-pair = one-pair;
+      and-law = and-law;
+      or-law = or-law;
+      xor-law = xor-law;
+      one-digits = one-digits;
+      eqZ-true = eqZ-true;
+      eqZ-same = eqZ-same;
+      lt-ints = lt-ints;
+      le-ints = le-ints;
+      eq-ints = eq-ints;
+      ne-ints = ne-ints;
+      exact-int = exact-int;
+      lt-mixed = lt-mixed;
+      gt-mixed = gt-mixed;
+      eq-mixed = eq-mixed;
+      the-nan = the-nan;
+      nan-read = nan-read;
+      nan-kept = nan-kept;
+      operators-same = operators-same;
+      jumped = jumped;
+      fold-pool = pool-kept;
+      fold-tables = tables-kept;
+      fold-code = code-again;
+      fold-idle = none-died;
+      folds-next = folds-next;
+      clears-next = clears-next;
+      uncut = relent;
+      folds-cleared = folds-cleared;
+      folds-same = folds-same;
+      late = late;
+      named-by = λ w i k x. named-by w i k (x .there) (x .mark) (x .is);
+      naming = λ w i e. let x = naming w i e in (x .by, record { there = x .there; mark = x .mark; is = x .is });
+      clear-holds = clear-holds;
+      cleared-twice = cleared-twice;
+    }

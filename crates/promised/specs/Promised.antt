@@ -1,0 +1,205 @@
+-- What Turniploom promises: one record over the statements of the exported calls, a sentence above each field. docs/PROMISES.md is its index. Assumes nothing.
+use Prim.Native.Nat.{ℕ, _+_, _-_, _*_, _/_, _%_, _^_, _≤_, _<_}
+use mathlib.Core.Path.{_≡_}
+use mathlib.Core.Bool.{Bool, true, false, not}
+use mathlib.Core.List.{List, []}
+use lib.IntN.{ℤ, pos, natAbs, _*ℤ_}
+use lib.Signed.{ltZ, leZ}
+use lib.Ieee.{nan, fin, binary64, ofBits, toBits, ofInt, up, down, lt, le, eq, ne}
+use lib.Ieee.Exact.{HasValue}
+use mir.Val.{boolByte}
+use Rattle.laws.specs.Mask.{mask}
+use Rattle.code.specs.declared.Answer.{Answer}
+use Rattle.code.specs.declared.Refusal.the-variants.{Table}
+use Rattle.code.specs.declared.Checked.the-variants as stage
+use Rattle.roles.specs.Answers.{kindsAnswer, roleAnswer, fieldAnswer, writesAnswer}
+use Rattle.walks.specs.Answers.{pureAnswer, flatAnswer, guardedAnswer, returnsAnswer}
+use Rattle.surveys.specs.Answers.{writtenAnswer, passedAnswer}
+use Rattle.callee.specs.Answers.{globalAnswer, pushAnswer, stackAnswer}
+use Rattle.callee.specs.Trace.{stepAt, heard, tracedBy, traced}
+use Rattle.phis.specs.Phi.{Dead}
+use Rattle.phis.specs.Generator.{GenPure}
+use Rattle.flow.specs.Flow.{Flow, Least}
+use Rattle.values.specs.Python.{Divides, floorDiv, floorMod, Digitwise, both, some, one, andZ, orZ, xorZ, eqZ, signed, sign}
+use Rattle.values.specs.Folds.{Small}
+use Rattle.values.specs.declared.Val.the-variants.{Float as Real}
+use Rattle.values.specs.declared.Maybe.the-variants.{Is}
+use Rattle.chunk.specs.Pool.{toVal, findOrPush, findOrPushConst}
+use Rattle.lent.specs.Chunk as chunk
+use Rattle.lent.specs.Chunk.{operandAt, names, folds}
+use Rattle.lent.specs.Check.{checkOf, readyOf}
+use Rattle.lent.specs.declared.Counts.{Counts}
+use Rattle.fold.specs.Plan.{kindOf}
+use Rattle.fold.specs.Pass.{foldAll}
+use Rattle.optimizer.specs.Fold.{Buffers, outcome}
+use Rattle.optimizer.specs.declared.FoldAnswer.the-variants as fold
+use Rattle.clear.specs.Unused.{AllNear, named}
+use Rattle.clear.specs.Clear as clearing
+use Rattle.refold.specs.Lendable.{Lendable}
+use Rattle.refold.specs.Left.{PoolLeft, FoldBeyond, NoneDied, asLent, tried}
+use Rattle.refold.specs.Examples.{jumping, summed, crossed, crossedCounts, crossedLens}
+use Rattle.turniploom.specs.Answers.{kindsTold, roleTold, fieldTold, truthTold, bitsTold, globalTold, pushTold, stackTold}
+use Rattle.exported.specs.Settles.{One, Settles}
+use Rattle.exported.specs.Calls.{TargetsCall, LoopsCall, EntriesBeyond, Marks, DeadCall, GenCall, MarksBeyond, Lists, KeptCall, KeptSettles, FoldCall, ClearCall, ClearBeyond}
+use Rattle.exported.specs.Told.{Truth, KeptHolds, SameLists, foldedOf, FoldsNext, ClearsNext, FoldsCleared, FoldsSame, ClearHolds, ClearedTwice}
+use Rattle.promised.specs.Marked.{Marked}
+use Rattle.promised.specs.Late.{Late}
+
+-- where a call's statement says 'the answer is x': there is one answer
+abbrev pub OneAnswer : Answer → Type 0
+OneAnswer x = One (λ r. r ≡ x)
+
+-- instruction k of w has the mark 'names a constant', and its operand is i
+pub record Naming (w : List ℕ) (i k : ℕ) : Type 0 where
+  pub there : k < chunk.count w
+  pub mark : names w k ≡ true
+  pub is : operandAt w k ≡ i
+
+pub record Promised : Type 0 where
+  -- document 01's marked examples, P1 to P13, hold as computed from the definitions
+  pub marked : Marked
+  -- ---- each call has one result; a call that writes settles every lent word, leaves all as lent where it refuses, and touches no word past a need
+
+  -- kinds has one answer
+  pub one-kinds : (w : List ℕ) (at : ℕ) → OneAnswer (kindsTold (kindsAnswer w at))
+  -- role has one answer
+  pub one-role : (w : List ℕ) (at : ℕ) → OneAnswer (roleTold (roleAnswer w at))
+  -- field has one answer
+  pub one-field : (w : List ℕ) (at f : ℕ) → OneAnswer (fieldTold (fieldAnswer w at f))
+  -- writes has one answer
+  pub one-writes : (w : List ℕ) (at r : ℕ) → OneAnswer (truthTold (writesAnswer w at r))
+  -- pure has one answer
+  pub one-pure : (w : List ℕ) → OneAnswer (truthTold (pureAnswer w))
+  -- flat has one answer
+  pub one-flat : (w : List ℕ) → OneAnswer (truthTold (flatAnswer w))
+  -- guarded has one answer
+  pub one-guarded : (w : List ℕ) → OneAnswer (truthTold (guardedAnswer w))
+  -- returns has one answer
+  pub one-returns : (w : List ℕ) (at : ℕ) → OneAnswer (truthTold (returnsAnswer w at))
+  -- params_written has one answer
+  pub one-written : (w : List ℕ) (arity : ℕ) → OneAnswer (bitsTold (writtenAnswer w arity))
+  -- passed has one answer
+  pub one-passed : (w : List ℕ) (at arity : ℕ) → OneAnswer (bitsTold (passedAnswer w at arity))
+  -- global_of has one answer
+  pub one-global : (w : List ℕ) (at : ℕ) → OneAnswer (globalTold (globalAnswer w at))
+  -- pushed_back has one answer
+  pub one-push : (w : List ℕ) (at r : ℕ) → OneAnswer (pushTold (pushAnswer w at r))
+  -- stack_callee has one answer
+  pub one-stack : (w : List ℕ) (at count : ℕ) → OneAnswer (stackTold (stackAnswer w at count))
+  -- targets settles its n + 1 entries
+  pub targets : (w tries : List ℕ) → Settles (TargetsCall w tries) (EntriesBeyond w)
+  -- loops_around settles its n + 1 entries
+  pub loops : (w : List ℕ) → Settles (LoopsCall w) (EntriesBeyond w)
+  -- dead_phi settles both its buffers
+  pub dead : (w : List ℕ) (at r : ℕ) → Settles (DeadCall w at r) (MarksBeyond w)
+  -- gen_pure settles both its buffers
+  pub gen : (w : List ℕ) → Settles (GenCall w) (MarksBeyond w)
+  -- kept settles its three buffers; refusal 5 for the list is the one refusal that changes a buffer, the scratch, which then holds the rows
+  pub kept : (w : List ℕ) (regs : ℕ) (tries : List ℕ) (wide : Bool) → KeptSettles w regs tries wide
+  -- fold settles its nine buffers
+  pub folding : (strict : Bool) (c : Counts) → Settles (FoldCall strict c) (FoldBeyond c)
+  -- clear settles its four buffers
+  pub clear : (m : ℕ) → Settles (ClearCall m) (ClearBeyond m)
+  -- ---- the walks
+
+  -- dead_phi answers 1 exactly when no path from k + 1, over instructions that do not stop it, comes to one that reads r
+  pub dead-truth : (w : List ℕ) (k q : ℕ) (b : Marks) (r : Answer) (a : Marks) → DeadCall w k q b r a → r .refusal ≡ 0 → Truth (Dead w k q) r
+  -- gen_pure answers 1 exactly when the code is pure as a generator's
+  pub gen-truth : (w : List ℕ) (b : Marks) (r : Answer) (a : Marks) → GenCall w b r a → r .refusal ≡ 0 → Truth (GenPure w) r
+  -- bit r of a mask, as params_written and passed answer it, says what it is to say of r
+  pub mask-bit : (f : ℕ → Bool) (n r : ℕ) → r < n → mask f n / 2 ^ r % 2 ≡ boolByte (f r)
+  -- the callee trace goes back instruction by instruction
+  pub by-step : (w : List ℕ) (a d : ℕ) → 0 < d → traced w a d ≡ heard (stepAt w (d - 1) a) (d - 1) (tracedBy w a (d - 1))
+  -- and starts again before the push it found
+  pub left-out : (w : List ℕ) (a d p : ℕ) → p ≤ d → tracedBy w a d p ≡ traced w a p
+  -- ---- liveness, from refusal 0
+
+  -- rows are the least solution, few sweeps find them, and each kept list is enough, with nothing idle, nothing to spare and nothing twice
+  pub kept-holds : (w : List ℕ) (regs : ℕ) (tries : List ℕ) (wide : Bool) (b : Lists) (r : Answer) (a : Lists)
+      → KeptCall w regs tries wide b r a → r .refusal ≡ 0 → KeptHolds w regs tries wide r a
+  -- the forced wide route, and whatever is lent, give the same lists and offsets
+  pub routes-same : (w : List ℕ) (regs : ℕ) (tries : List ℕ) (wide wide′ : Bool) (b b′ : Lists) (r r′ : Answer) (a a′ : Lists)
+      → KeptCall w regs tries wide b r a → r .refusal ≡ 0 → KeptCall w regs tries wide′ b′ r′ a′ → r′ .refusal ≡ 0 → SameLists w r r′ a a′
+  -- row equations have one least solution
+  pub least-one : (f : Flow) (start : ℕ) (R S : ℕ → ℕ) → Least f start R → Least f start S → (k : ℕ) → start ≤ k → R k ≡ S k
+  -- ---- Python's numbers
+
+  -- quotient and remainder are as Python's law asks
+  pub divides : (a d : ℤ) → (d ≡ pos 0 → ⊥) → Divides a d (floorDiv a d) (floorMod a d)
+  -- and no other pair is
+  pub one-pair : (a d q r q′ r′ : ℤ) → Divides a d q r → Divides a d q′ r′ → (q ≡ q′) × (r ≡ r′)
+  -- each digit of a & b is 1 where both are
+  pub and-law : (a b : ℤ) → Digitwise both a b (andZ a b)
+  -- each digit of a | b is 1 where one or both are
+  pub or-law : (a b : ℤ) → Digitwise some a b (orZ a b)
+  -- each digit of a ^ b is 1 where just one is
+  pub xor-law : (a b : ℤ) → Digitwise one a b (xorZ a b)
+  -- numbers with equal digits are equal
+  pub one-digits : (f : ℕ → ℕ → ℕ) (a b z z′ : ℤ) → Digitwise f a b z → Digitwise f a b z′ → z ≡ z′
+  -- the test of equal ints says that they are equal
+  pub eqZ-true : (a b : ℤ) → eqZ a b ≡ true → a ≡ b
+  -- and that an int equals itself
+  pub eqZ-same : (a : ℤ) → eqZ a a ≡ true
+  -- two ints in range compare through their floats as ints do
+  pub lt-ints : (a b : ℤ) → Small a → Small b → lt (ofInt binary64 a) (ofInt binary64 b) ≡ ltZ a b
+  pub le-ints : (a b : ℤ) → Small a → Small b → le (ofInt binary64 a) (ofInt binary64 b) ≡ leZ a b
+  pub eq-ints : (a b : ℤ) → Small a → Small b → eq (ofInt binary64 a) (ofInt binary64 b) ≡ eqZ a b
+  pub ne-ints : (a b : ℤ) → Small a → Small b → ne (ofInt binary64 a) (ofInt binary64 b) ≡ not (eqZ a b)
+  -- an int in range becomes a float exactly
+  pub exact-int : (a : ℤ) → Small a → HasValue (ofInt binary64 a) (sign a) (natAbs a) 1
+  -- an int beside a finite float, ±n * 2 ^ d, compares as the numbers do, both times the power of two below the line
+  pub lt-mixed : (a : ℤ) → Small a → (t : Bool) (n : ℕ) (d : ℤ) → lt (ofInt binary64 a) (fin t n d) ≡ ltZ (a *ℤ pos (down d)) (signed t (n * up d))
+  pub gt-mixed : (a : ℤ) → Small a → (t : Bool) (n : ℕ) (d : ℤ) → lt (fin t n d) (ofInt binary64 a) ≡ ltZ (signed t (n * up d)) (a *ℤ pos (down d))
+  pub eq-mixed : (a : ℤ) → Small a → (t : Bool) (n : ℕ) (d : ℤ) → eq (ofInt binary64 a) (fin t n d) ≡ eqZ (a *ℤ pos (down d)) (signed t (n * up d))
+  -- the single NaN has the bits 0x7FF8_0000_0000_0000
+  pub the-nan : toBits binary64 nan ≡ 0x7ff8_0000_0000_0000
+  -- any lent float whose word is above infinity's, its sign apart, is read as the single NaN
+  pub nan-read : (w : ℕ) → 0x7ff0_0000_0000_0000 < w % 2 ^ 63 → toVal 2 w ≡ Is (Real nan)
+  -- a result that is NaN is kept as a float of those bits: found where a float has them, else pushed with them
+  pub nan-kept : (kinds words : List ℕ) (n : ℕ) → findOrPushConst kinds words n (Real nan) ≡ findOrPush kinds words n 2 0x7ff8_0000_0000_0000
+  -- ---- folding, from refusal 0
+
+  -- the operators that room is counted for are the operators that are tried
+  pub operators-same : (o : ℕ) → folds o ≡ tried (kindOf o)
+  -- in plain mode the jump before the first operand forbids the fold if it lands between, the operator included, and not past it or on the first operand
+  pub jumped : (foldAll false (jumping 1) ≡ summed 1)
+      × (foldAll false (jumping 2) ≡ jumping 2)
+      × (foldAll false (jumping 3) ≡ jumping 3)
+      × (foldAll false (jumping 4) ≡ summed 4)
+  -- constants below the old count stay, and so do entries past the new one
+  pub fold-pool : (strict : Bool) (c : Counts) (b : Buffers) (r : Answer) (a : Buffers) → FoldCall strict c b r a → r .refusal ≡ 0 → PoolLeft b c (foldedOf r) a
+  -- the code that is left keeps the record rules, every table its rule, and there is room for the next fold
+  pub fold-tables : (strict : Bool) (c : Counts) (b : Buffers) (r : Answer) (a : Buffers) → FoldCall strict c b r a → r .refusal ≡ 0 → Lendable (foldedOf r) c a
+  -- with the words past it, which are 0, it keeps them too
+  pub fold-code : (strict : Bool) (c : Counts) (b : Buffers) (r : Answer) (a : Buffers) → FoldCall strict c b r a → r .refusal ≡ 0
+      → (n : ℕ) → checkOf (b .code) ≡ stage.Count n → checkOf (a .code) ≡ stage.Count n
+  -- if nothing died, code, constants and every table stay as lent, and the dead marks are 0
+  pub fold-idle : (strict : Bool) (c : Counts) (b : Buffers) (r : Answer) (a : Buffers) → FoldCall strict c b r a → r .refusal ≡ 0
+      → NoneDied b a → outcome (fold.Is (foldedOf r)) a ≡ asLent b c
+  -- ---- fold, clear, fold
+
+  -- a folded chunk, its code cut at the answered count and the counts as answered, is folded again and not refused
+  pub folds-next : (strict : Bool) (c : Counts) (b : Buffers) (r : Answer) (a : Buffers) → FoldCall strict c b r a → r .refusal ≡ 0 → FoldsNext c r a
+  -- it is cleared, with a scratch as long as it has constants, and then folded, and neither is refused
+  pub clears-next : (strict : Bool) (c : Counts) (b : Buffers) (r : Answer) (a : Buffers) → FoldCall strict c b r a → r .refusal ≡ 0 → ClearsNext c r a
+  -- uncut it may be refused: so is what is left of three Phis, with 7 for table 2
+  pub uncut : readyOf crossed [] [] crossedCounts crossedLens ≡ stage.No (Table 2)
+  -- what the folding call accepts it accepts after clearing too, with the same buffers
+  pub folds-cleared : (strict : Bool) (c : Counts) (b : Buffers) (r : Answer) (a : Buffers) → FoldCall strict c b r a → r .refusal ≡ 0 → FoldsCleared b c
+  -- and folds to the same counts, tables, marks and remap, and instruction by instruction the same opcode, marks and load, if the fold ends below
+  -- 65,535 constants and each operand with the mark is below the count, or at or past the count that the uncleared fold ends with
+  pub folds-same : (strict : Bool) (c : Counts) (b : Buffers) (r : Answer) (a : Buffers) → FoldCall strict c b r a → r .refusal ≡ 0
+      → r .second < 65535 → AllNear (b .code) (c .constants) (r .second) → FoldsSame strict b c r a
+  -- why the last is asked: an operand between the two may come to load what a fold pushes; and P13 ships one constant
+  pub late : Late
+  -- ---- wish 1: clear unused constants
+
+  -- an instruction with the mark names the constant that its operand says
+  pub named-by : (w : List ℕ) (i k : ℕ) → Naming w i k → named w i ≡ true
+  -- and a named constant is named by one
+  pub naming : (w : List ℕ) (i : ℕ) → named w i ≡ true → (k : ℕ) × Naming w i k
+  -- exactly the named constants are left, in their order, freed entries are 0, and every instruction loads what it loaded
+  pub clear-holds : (m : ℕ) (b : clearing.Buffers) (r : Answer) (a : clearing.Buffers) → ClearCall m b r a → r .refusal ≡ 0 → ClearHolds m b r a
+  -- asked again, clear is not refused and changes nothing more but its scratch, which counts the constants that are left
+  pub cleared-twice : (m : ℕ) (b : clearing.Buffers) (r : Answer) (a : clearing.Buffers) → ClearCall m b r a → r .refusal ≡ 0
+      → (s : Answer) (x : clearing.Buffers) → ClearCall (r .first) a s x → ClearedTwice r a s x

@@ -1,0 +1,62 @@
+-- Fold, clear, fold: what each call leaves is accepted by the next, the code cut at the answered count. Assumes nothing.
+use Prim.Native.Nat.{ℕ, _≤_}
+use mathlib.Core.Path.{_≡_, refl, sym, ap, _∙_}
+use mathlib.Core.Bool.{Bool}
+use mathlib.Core.List.{List}
+use lib.ListN.{length}
+use borrow.Author.Tests.{le-ltb}
+use Rattle.code.specs.declared.Checked.the-variants.{Count}
+use Rattle.lent.specs.Check.{readyOf}
+use Rattle.lent.specs.declared.Counts.{Counts}
+use Rattle.lent.specs.declared.Lens.{Lens}
+use Rattle.optimizer.specs.Fold.{Buffers, lensOf, needed, outcome, constantFold, joined, foldCall}
+use Rattle.optimizer.specs.declared.Folded.{Folded}
+use Rattle.optimizer.specs.declared.FoldAnswer.the-variants.{Is}
+use Rattle.clear.specs.Clear as clearing
+use Rattle.clear.specs.Unused.{named, before, pooled}
+use Rattle.clear.proofs.Answers.{answered-call, answered}
+use Rattle.clear.proofs.Accepts.{accepted-after}
+use Rattle.clear.proofs.Kept.{pooled-length}
+use Rattle.clear.proofs.Tested.{held-of}
+use Rattle.refold.specs.Lendable.{cutAt, countsLeft, Lendable, clearable, clearedBuffers, countsCleared, Chained}
+use Rattle.refold.proofs.Lends.{call-answered, joined-answer, lends}
+
+-- an accepted chunk is folded
+pub folds : (strict : Bool) (b : Buffers) (c : Counts) (n : ℕ) → readyOf (b .code) (b .kinds) (b .words) c (lensOf b) ≡ Count n
+    → (g : Folded) × (y : Buffers) × (foldCall strict b c ≡ outcome (Is g) y)
+folds strict b c n e =
+    let o = constantFold strict (needed b c) c in
+    (o .answer, joined b c o .after, call-answered strict b c n e ∙ ap (λ v. outcome v (joined b c o .after)) (joined-answer strict b c))
+
+module _ (f : Folded) (c : Counts) (a : Buffers) (x : Lendable f c a) (scratch : List ℕ) (h : f .constants ≤ length scratch) where
+  abbrev b : clearing.Buffers
+  b = clearable f a scratch
+
+  -- the clearing call refuses nothing but a scratch that is too short
+  pub clears-after : clearing.readyOf b (f .constants) ≡ Count (f .instructions)
+  unfolding clearing.readyOf
+  clears-after = rw (x .code, x .pool, le-ltb (length scratch) (f .constants) h)
+
+  pub chained : (strict : Bool) → Chained f c a scratch strict
+  chained strict =
+      let m = f .constants in
+      let w = b .code in
+      let e = answered-call b m (f .instructions) clears-after in
+      let y = answered b m (before w m) (clearing.cleared b m .after) e in
+      let k = held-of b m (Count (f .instructions)) (sym clears-after) (f .instructions) refl in
+      let l = accepted-after (f .instructions) w (a .kinds) (a .words) (countsLeft f c) (lensOf (cutAt f a)) (x .ready) in
+      let d = clearedBuffers a (clearing.cleared b m .after) in
+      let z : readyOf (d .code) (d .kinds) (d .words) (countsCleared f c (before w m)) (lensOf d) ≡ Count (f .instructions) =
+      rw (y .code, y .kinds, y .words, pooled-length (named w) m (a .kinds) (k .kinds), pooled-length (named w) m (a .words) (k .words)) l in
+      let (g, u, v) = folds strict d (countsCleared f c (before w m)) (f .instructions) z in
+      record { left = before w m; cleared = clearing.cleared b m .after; clears = e; folded = g; after = u; folds = v }
+
+-- one theorem for the three calls
+pub fold-clear-fold : (strict : Bool) (b : Buffers) (c : Counts) (f : Folded) (a : Buffers) → foldCall strict b c ≡ outcome (Is f) a
+    → (scratch : List ℕ) → f .constants ≤ length scratch → (strict′ : Bool) → Chained f c a scratch strict′
+fold-clear-fold strict b c f a e scratch h strict′ = chained f c a (lends strict b c f a e) scratch h strict′
+
+-- and for two folds, with nothing cleared between them
+pub fold-fold : (strict : Bool) (b : Buffers) (c : Counts) (f : Folded) (a : Buffers) → foldCall strict b c ≡ outcome (Is f) a
+    → (strict′ : Bool) → (g : Folded) × (y : Buffers) × (foldCall strict′ (cutAt f a) (countsLeft f c) ≡ outcome (Is g) y)
+fold-fold strict b c f a e strict′ = folds strict′ (cutAt f a) (countsLeft f c) (f .instructions) (lends strict b c f a e .ready)

@@ -1,0 +1,454 @@
+-- An answered fold leaves a chunk that the next call accepts, cut at the answered count. Assumes nothing.
+use Prim.Native.Nat.{ℕ, _+_, _-_, _*_, _%_, _≤_}
+use native.Mathlib.Omega.{arith}
+use mathlib.Core.Path.{_≡_, refl, sym, ap, _∙_, subst}
+use mathlib.Core.Logic.{_⊎_, inl, inr, ⊎-elim}
+use mathlib.Core.Bool.{Bool, true, false, _&&_, _||_}
+use mathlib.Core.List.{List, _++_}
+use lib.Dec.{eqb, leb, ltb}
+use lib.ListN.{length, getD, take, drop, replicate, length-append, length-drop, length-replicate, take-append-drop, List·getD-append}
+use lib.Seq.{length-take-le, getD-drop, ext-getD, drop-at}
+use borrow.Author.Tests.{eqb-true, eq-eqb, le-leb, le-ltb}
+use Rattle.laws.specs.All.{every, many}
+use Rattle.laws.specs.Table as Table
+use Rattle.laws.proofs.Branch.{and-true}
+use Rattle.laws.proofs.Many.{many-fewer}
+use Rattle.code.specs.Check.{roomOf}
+use Rattle.code.specs.Answers.{asked}
+use Rattle.code.specs.declared.Refusal.{Refusal}
+use Rattle.code.specs.declared.Refusal.the-variants.{Length, Record, Table}
+use Rattle.code.specs.declared.Checked.{Checked}
+use Rattle.code.specs.declared.Checked.the-variants.{Count, No as Refused}
+use Rattle.code.proofs.Stages.{room-before}
+use Rattle.lent.specs.Chunk.{stride, count, opAt, folds, isPhi}
+use Rattle.lent.specs.Tables.{constantKept, within, constantsKept, mapKept, pairsKept, tableOf}
+use Rattle.lent.specs.Check.{uneven, firstBad, checkOf, tablesOf, tallyOf, constantRoom, sourceRoom, roomsOf, readyOf}
+use Rattle.lent.proofs.Kept.{kinds-there, words-there}
+use Rattle.lent.specs.declared.Counts.{Counts}
+use Rattle.lent.specs.declared.Lens.{Lens}
+use Rattle.fold.specs.Plan.{Chunk, chunk}
+use Rattle.fold.specs.Pass.{foldAll, Lent}
+use Rattle.compact.specs.Remap.{alive}
+use Rattle.finish.specs.Finish.{Tables, tables, finished, Fit}
+use Rattle.optimizer.specs.Fold.{Buffers, lensOf, needed, sourcesNeeded, Outcome, outcome, foldPass, constantFold, joined, foldCall, Held, Exact}
+use Rattle.optimizer.specs.declared.Folded.{Folded}
+use Rattle.optimizer.specs.declared.FoldAnswer.{FoldAnswer}
+use Rattle.optimizer.specs.declared.FoldAnswer.the-variants.{Is, No}
+use Rattle.optimizer.proofs.Whole.{pass-kept, exact-of, fit-of}
+use Rattle.optimizer.proofs.Again.{again}
+use Rattle.optimizer.proofs.Idle.{as-lent}
+use Rattle.optimizer.proofs.Tested.{held-of}
+use Rattle.clear.proofs.Accepts.{table-on, room-on}
+use Rattle.refold.proofs.Pushes.{all-pushed, all-held as pool-few, pool-again, every-at, every-of}
+use Rattle.refold.proofs.Prefix.{prefix}
+use Rattle.refold.proofs.Spent.{waiting, all-spent}
+use Rattle.refold.proofs.Settled.{Settled, settled}
+use Rattle.refold.specs.Pushed.{Pushed}
+use Rattle.refold.specs.Left.{PoolLeft, FoldBeyond, NoneDied, asLent}
+use Rattle.refold.specs.Lendable.{cutAt, countsLeft, Lendable}
+
+never : {A : Type 0} (n : ℕ) (r : Refusal) → Refused r ≡ Count n → A
+never n r e = let z : _≡_ {A = ℕ} 0 1 = cc in absurd (omega arith)
+
+-- ---- what the tests say
+
+table-kept : (n : ℕ) (v : Checked) (t : ℕ) (kept : Bool) → tableOf v t kept ≡ Count n → (v ≡ Count n) × (kept ≡ true)
+table-kept n (Refused r) t kept e = never n r e
+table-kept n (Count m) t true e = (e, refl)
+table-kept n (Count m) t false e = never n (Table t) e
+
+-- the rules of all five tables
+pub record Kept (n k : ℕ) (v : Checked) (kinds words : List ℕ) (c : Counts) (l : Lens) : Type 0 where
+  pub before : v ≡ Count n
+  pub constants : constantsKept kinds words (c .constants) ≡ true
+  pub map : mapKept k (c .map) (l .map) ≡ true
+  pub sources : pairsKept (c .sources) (l .sources) ≡ true
+  pub stmts : pairsKept (c .stmts) (l .stmts) ≡ true
+  pub calls : pairsKept (c .calls) (l .calls) ≡ true
+
+tables-kept : (n k : ℕ) (v : Checked) (kinds words : List ℕ) (c : Counts) (l : Lens) → tablesOf v k kinds words c l ≡ Count n → Kept n k v kinds words c l
+unfolding tablesOf
+tables-kept n k v kinds words c l e =
+    let t₅ = table-kept n _ 5 (pairsKept (c .calls) (l .calls)) e in
+    let t₄ = table-kept n _ 4 (pairsKept (c .stmts) (l .stmts)) (t₅ .0) in
+    let t₃ = table-kept n _ 3 (pairsKept (c .sources) (l .sources)) (t₄ .0) in
+    let t₂ = table-kept n _ 2 (mapKept k (c .map) (l .map)) (t₃ .0) in
+    let t₁ = table-kept n v 1 (constantsKept kinds words (c .constants)) (t₂ .0) in
+    record { before = t₁ .0; constants = t₁ .1; map = t₂ .1; sources = t₃ .1; stmts = t₄ .1; calls = t₅ .1 }
+
+rooms-kept : (n : ℕ) (v : Checked) (w : List ℕ) (c : Counts) (l : Lens) → roomsOf v w c l ≡ Count n → v ≡ Count n
+unfolding roomsOf
+rooms-kept n v w c l e =
+    let r₆ = room-before n _ 6 (l .remap) (count w + 1) (sym e) in
+    let r₅ = room-before n _ 5 (l .dead) (count w) (sym r₆) in
+    let r₄ = room-before n _ 4 (l .sources) (sourceRoom (c .sources) (tallyOf w .phis)) (sym r₅) in
+    let r₃ = room-before n _ 3 (l .map) (count w) (sym r₄) in
+    let r₂ = room-before n _ 2 (l .words) (constantRoom (c .constants) (tallyOf w .folding)) (sym r₃) in
+    room-before n v 1 (l .kinds) (constantRoom (c .constants) (tallyOf w .folding)) (sym r₂)
+
+ready-kept : (n : ℕ) (w kinds words : List ℕ) (c : Counts) (l : Lens) → readyOf w kinds words c l ≡ Count n → Kept n (count w) (checkOf w) kinds words c l
+unfolding readyOf
+ready-kept n w kinds words c l e = tables-kept n (count w) (checkOf w) kinds words c l (rooms-kept n (tablesOf (checkOf w) (count w) kinds words c l) w c l e)
+
+check-count : (w : List ℕ) (n : ℕ) → checkOf w ≡ Count n → count w ≡ n
+unfolding checkOf
+check-count w n e = go (uneven w) refl (ltb (firstBad w) (count w)) refl e
+  where
+    go : (u : Bool) → uneven w ≡ u → (b : Bool) → ltb (firstBad w) (count w) ≡ b → checkOf w ≡ Count n → count w ≡ n
+    go true p b q g = never n (Length (length w)) (rw p at g)
+    go false p true q g = never n (Record (firstBad w)) (rw (p, q) at g)
+    go false p false q g = let z : Count (count w) ≡ Count n = rw (p, q) at g in cc
+
+-- ---- and what they ask for
+
+tables-on : (n k : ℕ) (v : Checked) (kinds words : List ℕ) (c : Counts) (l : Lens) → Kept n k v kinds words c l → tablesOf v k kinds words c l ≡ Count n
+unfolding tablesOf
+tables-on n k v kinds words c l x =
+    table-on n _ 5 (pairsKept (c .calls) (l .calls))
+    (table-on n _ 4 (pairsKept (c .stmts) (l .stmts))
+    (table-on n _ 3 (pairsKept (c .sources) (l .sources))
+    (table-on n _ 2 (mapKept k (c .map) (l .map))
+    (table-on n v 1 (constantsKept kinds words (c .constants)) (x .before) (x .constants))
+    (x .map)) (x .sources)) (x .stmts)) (x .calls)
+
+record Roomy (w : List ℕ) (c : Counts) (l : Lens) : Type 0 where
+  kinds : constantRoom (c .constants) (tallyOf w .folding) ≤ l .kinds
+  words : constantRoom (c .constants) (tallyOf w .folding) ≤ l .words
+  map : count w ≤ l .map
+  sources : sourceRoom (c .sources) (tallyOf w .phis) ≤ l .sources
+  dead : count w ≤ l .dead
+  remap : count w + 1 ≤ l .remap
+
+rooms-on : (n : ℕ) (v : Checked) (w : List ℕ) (c : Counts) (l : Lens) → v ≡ Count n → Roomy w c l → roomsOf v w c l ≡ Count n
+unfolding roomsOf
+rooms-on n v w c l e r =
+    room-on n _ 6 (l .remap) (count w + 1)
+    (room-on n _ 5 (l .dead) (count w)
+    (room-on n _ 4 (l .sources) (sourceRoom (c .sources) (tallyOf w .phis))
+    (room-on n _ 3 (l .map) (count w)
+    (room-on n _ 2 (l .words) (constantRoom (c .constants) (tallyOf w .folding))
+    (room-on n v 1 (l .kinds) (constantRoom (c .constants) (tallyOf w .folding)) e (r .kinds))
+    (r .words)) (r .map)) (r .sources)) (r .dead)) (r .remap)
+
+ready-on : (n : ℕ) (w kinds words : List ℕ) (c : Counts) (l : Lens) → Kept n (count w) (checkOf w) kinds words c l → Roomy w c l → readyOf w kinds words c l ≡ Count n
+unfolding readyOf
+ready-on n w kinds words c l x r = rooms-on n (tablesOf (checkOf w) (count w) kinds words c l) w c l (tables-on n (count w) (checkOf w) kinds words c l x) r
+
+map-on : (n entries len : ℕ) → (entries ≡ 0) ⊎ (entries ≡ n) → entries ≤ len → mapKept n entries len ≡ true
+map-on n entries len e h = ⊎-elim (λ q. rw (eq-eqb entries 0 q, le-leb entries len h)) (λ q. rw (eq-eqb entries n q, le-leb entries len h) (or-yes (eqb entries 0))) e
+  where
+    or-yes : (b : Bool) → (b || true) && true ≡ true
+    or-yes true = refl
+    or-yes false = refl
+
+either : (a b : Bool) → a || b ≡ true → (a ≡ true) ⊎ (b ≡ true)
+either true b e = inl refl
+either false b e = inr e
+
+map-is : (n entries len : ℕ) → mapKept n entries len ≡ true → (entries ≡ 0) ⊎ (entries ≡ n)
+map-is n entries len e =
+    ⊎-elim (λ q. inl (eqb-true entries 0 q)) (λ q. inr (eqb-true entries n q)) (either (eqb entries 0) (eqb entries n) (and-true (eqb entries 0 || eqb entries n) (leb entries len) e .0))
+
+pairs-on : (words len : ℕ) → words % 2 ≡ 0 → words ≤ len → pairsKept words len ≡ true
+pairs-on words len e h = rw (eq-eqb (words % 2) 0 e, le-leb words len h)
+
+pairs-is : (words len : ℕ) → pairsKept words len ≡ true → words % 2 ≡ 0
+pairs-is words len e = eqb-true (words % 2) 0 (and-true (eqb (words % 2) 0) (leb words len) e .0)
+
+-- ---- a buffer that keeps its length and its tail
+
+front-held : (m : ℕ) (front l : List ℕ) → length front ≡ m → m ≤ length l → Table.Held m l (front ++ drop m l)
+front-held m front l e h = record { same = length-append front (drop m l) ∙ omega (arith, length-drop m l); tail = drop-at front (drop m l) m e }
+
+past-held : (m : ℕ) (l l′ : List ℕ) → length l′ ≡ length l → ((i : ℕ) → m ≤ i → getD l′ i 0 ≡ getD l i 0) → Table.Held m l l′
+past-held m l l′ e h =
+    record {
+      same = e;
+      tail =
+          ext-getD 0 (drop m l′) (drop m l) (length-drop m l′ ∙ ap (λ (x : ℕ). x - m) e ∙ sym (length-drop m l))
+          (λ i q. getD-drop m l′ i 0 ∙ h (m + i) (omega arith) ∙ sym (getD-drop m l i 0));
+    }
+
+-- ---- the parts of an answer
+
+module _ (strict : Bool) (b : Buffers) (c : Counts) where
+  abbrev pub o : Outcome Folded
+  o = constantFold strict (needed b c) c
+
+  pub call-refused : (r : Refusal) → readyOf (b .code) (b .kinds) (b .words) c (lensOf b) ≡ Refused r → foldCall strict b c ≡ outcome (No r) b
+  unfolding foldCall
+  call-refused r e = rw e
+
+  pub call-answered : (m : ℕ) → readyOf (b .code) (b .kinds) (b .words) c (lensOf b) ≡ Count m → foldCall strict b c ≡ joined b c o
+  unfolding foldCall
+  call-answered m e = rw e
+
+  pub joined-answer : joined b c o .answer ≡ Is (o .answer)
+  unfolding joined
+  joined-answer = refl
+
+  -- the chunk that the pass begins with, and ends with
+  abbrev pub clean : Chunk
+  clean = chunk (b .code) (replicate (length (take (count (b .code)) (b .dead))) 0) (b .kinds) (b .words) (c .constants)
+
+  abbrev pub end : Chunk
+  end = foldPass strict (chunk (b .code) (take (count (b .code)) (b .dead)) (b .kinds) (b .words) (c .constants))
+
+  abbrev pub before : Tables
+  before =
+      tables (end .code) (needed b c .map) (needed b c .sources) (needed b c .stmts) (needed b c .calls) (end .dead) (needed b c .remap)
+      (record { instructions = length (needed b c .dead); map = c .map; sources = c .sources })
+
+  abbrev pub after : Tables
+  after = finished before
+
+  end-is : end ≡ foldAll strict clean
+  unfolding foldPass
+  end-is = refl
+
+  module _ (m : ℕ) (q : readyOf (b .code) (b .kinds) (b .words) c (lensOf b) ≡ Count m) where
+    pub rules : Kept m (count (b .code)) (checkOf (b .code)) (b .kinds) (b .words) c (lensOf b)
+    rules = ready-kept m (b .code) (b .kinds) (b .words) c (lensOf b) q
+
+    held : Held b c
+    held = held-of b c m (Count m) (sym q) refl
+
+    n-is : count (b .code) ≡ m
+    n-is = check-count (b .code) m (rules .before)
+
+    marks : length (take (count (b .code)) (b .dead)) ≡ count (b .code)
+    marks = length-take-le (count (b .code)) (b .dead) (held .dead)
+
+    exact : Exact (needed b c) c
+    exact = exact-of (b .code) (b .kinds) (b .words) (b .map) (b .sources) (b .stmts) (b .calls) (b .dead) (b .remap) c (sourcesNeeded b c) refl held
+
+    fit : Fit before
+    fit =
+        fit-of (b .code) (b .kinds) (b .words) (needed b c .map) (needed b c .sources) (needed b c .stmts) (needed b c .calls) (needed b c .dead) (needed b c .remap) c
+        strict (end .code) (end .dead) (end .kinds) (end .words) (end .constants) exact refl
+
+    pub lent-clean : Lent clean
+    unfolding tallyOf
+    lent-clean =
+        record { few = held .constants; marks = omega (arith, marks, length-replicate {A = ℕ} (length (take (count (b .code)) (b .dead))) 0); kinds-room = held .kinds; words-room = held .words }
+
+    pushed : Pushed clean end
+    pushed = rw end-is (all-pushed strict clean)
+
+    pub pool-left : PoolLeft b c (o .answer) (joined b c o .after)
+    unfolding constantFold joined
+    pool-left =
+        let p = pushed in
+        record {
+          more = p .more;
+          kinds-below = p .kinds-below;
+          words-below = p .words-below;
+          kinds-past = p .kinds-past;
+          words-past = p .words-past;
+          kinds-long = p .kinds-long;
+          words-long = p .words-long;
+        }
+
+    end-marks : length (end .dead) ≡ count (b .code)
+    end-marks = pushed .dead-long ∙ length-replicate (length (take (count (b .code)) (b .dead))) 0 ∙ marks
+
+    all-settled : Settled before after
+    all-settled =
+        settled before fit (marks ∙ sym end-marks)
+        (rw end-marks (map-is (count (b .code)) (c .map) (length (b .map)) (rules .map)))
+        (pairs-is (c .sources) (length (b .sources)) (rules .sources))
+
+    abbrev r : ℕ
+    r = after .left .instructions
+
+    abbrev short : List ℕ
+    short = take (stride * r) (after .code)
+
+    after-code : checkOf (after .code) ≡ Count m
+    unfolding constantFold joined
+    after-code = sym (ap (λ (x : Outcome FoldAnswer). checkOf (x .after .code)) (call-answered m q)) ∙ again strict b c m (rules .before)
+
+    few : r ≤ m
+    few = omega (arith, all-settled .few, end-marks, n-is)
+
+    code-again : checkOf short ≡ Count r
+    code-again = prefix (after .code) m r after-code few
+
+    pool-kept : constantsKept (end .kinds) (end .words) (end .constants) ≡ true
+    pool-kept = rw end-is (pool-again strict clean lent-clean (rules .constants))
+
+    short-count : count short ≡ r
+    short-count = check-count short r code-again
+
+    -- the operators that are left, with the constants, ask for no more room
+    spent : many (λ k. folds (opAt short k)) r + end .constants ≤ tallyOf (b .code) .folding + c .constants
+    unfolding tallyOf
+    spent =
+        let n = count (b .code) in
+        let s : many (waiting (end .code) (end .dead)) n + end .constants ≤ many (waiting (clean .code) (clean .dead)) n + c .constants =
+        rw end-is (all-spent strict clean (lent-clean .marks)) in
+        let u : many (waiting (clean .code) (clean .dead)) n ≤ many (λ k. folds (opAt (b .code) k)) n =
+        many-fewer (waiting (clean .code) (clean .dead)) (λ k. folds (opAt (b .code) k)) (λ k h. and-true (folds (opAt (b .code) k)) (alive (clean .dead) k) h .0) n in
+        let v : many (waiting (end .code) (end .dead)) (length (end .dead)) ≡ many (waiting (end .code) (end .dead)) n = ap (many (waiting (end .code) (end .dead))) end-marks in
+        omega (arith, all-settled .operators)
+
+    phis-few : many (isPhi short) r ≤ tallyOf (b .code) .phis
+    unfolding tallyOf
+    phis-few =
+        let p = pass-kept strict (chunk (b .code) (needed b c .dead) (b .kinds) (b .words) (c .constants)) end (omega (arith, marks)) refl in
+        let u = many-fewer (isPhi (end .code)) (isPhi (b .code)) (λ k h. sym (p .phis k) ∙ h) (count (b .code)) in
+        let v : many (isPhi (end .code)) (length (end .dead)) ≡ many (isPhi (end .code)) (count (b .code)) = ap (many (isPhi (end .code))) end-marks in
+        omega (arith, all-settled .phis)
+
+    rules-left : Kept r (count short) (checkOf short) (end .kinds) (end .words) (countsLeft (o .answer) c) (lensOf (cutAt (o .answer) (joined b c o .after)))
+    unfolding constantFold joined
+    rules-left =
+        record {
+          before = code-again;
+          constants = pool-kept;
+          map =
+              rw short-count
+              (map-on r (after .left .map) (length (after .map ++ drop (count (b .code)) (b .map))) (all-settled .entries)
+              (⊎-elim
+              (λ z. omega (arith, z))
+              (λ z. omega (arith, z, few, n-is, length-append (after .map) (drop (count (b .code)) (b .map)), all-settled .map, fit .map, end-marks)) (all-settled .entries)));
+          sources =
+              pairs-on (after .left .sources) (length (after .sources ++ drop (sourcesNeeded b c) (b .sources))) (all-settled .even)
+              (omega (arith, all-settled .pairs, length-append (after .sources) (drop (sourcesNeeded b c) (b .sources))));
+          stmts =
+              pairs-on (c .stmts) (length (after .stmts ++ drop (c .stmts) (b .stmts))) (held .stmt-pairs)
+              (omega (arith, all-settled .stmts, length-take-le (c .stmts) (b .stmts) (held .stmts), length-append (after .stmts) (drop (c .stmts) (b .stmts))));
+          calls =
+              pairs-on (c .calls) (length (after .calls ++ drop (c .calls) (b .calls))) (held .call-pairs)
+              (omega (arith, all-settled .calls, length-take-le (c .calls) (b .calls) (held .calls), length-append (after .calls) (drop (c .calls) (b .calls))));
+        }
+
+    room-of : (len : ℕ) → constantRoom (c .constants) (tallyOf (b .code) .folding) ≤ len → end .constants ≤ len → constantRoom (end .constants) (tallyOf short .folding) ≤ len
+    unfolding tallyOf
+    room-of len h k = let e : many (λ j. folds (opAt short j)) (count short) ≡ many (λ j. folds (opAt short j)) r = ap (many (λ j. folds (opAt short j))) short-count in omega (arith, spent)
+
+    phi-room : (len : ℕ) → sourcesNeeded b c ≤ len → after .left .sources ≤ len → sourceRoom (after .left .sources) (tallyOf short .phis) ≤ len
+    unfolding tallyOf
+    phi-room len h k = let e : many (isPhi short) (count short) ≡ many (isPhi short) r = ap (many (isPhi short)) short-count in omega (arith, phis-few, all-settled .even)
+
+    pool-within : (end .constants ≤ length (end .kinds)) × (end .constants ≤ length (end .words))
+    pool-within =
+        let w = and-true (within (end .constants) (length (end .kinds)) (length (end .words))) (every (constantKept (end .kinds) (end .words)) (end .constants)) pool-kept .0 in
+        (kinds-there (end .constants) (length (end .kinds)) (length (end .words)) w, words-there (end .constants) (length (end .kinds)) (length (end .words)) w)
+
+    room-left : Roomy short (countsLeft (o .answer) c) (lensOf (cutAt (o .answer) (joined b c o .after)))
+    unfolding constantFold joined
+    room-left =
+        record {
+          kinds = room-of (length (end .kinds)) (rw (pushed .kinds-long) (held .kinds)) (pool-within .0);
+          words = room-of (length (end .words)) (rw (pushed .words-long) (held .words)) (pool-within .1);
+          map = rw short-count (omega (arith, few, n-is, length-append (after .map) (drop (count (b .code)) (b .map)), all-settled .map, fit .map, end-marks));
+          sources =
+              phi-room (length (after .sources ++ drop (sourcesNeeded b c) (b .sources)))
+              (omega (arith, all-settled .sources, length-take-le (sourcesNeeded b c) (b .sources) (held .sources), length-append (after .sources) (drop (sourcesNeeded b c) (b .sources))))
+              (omega (arith, all-settled .pairs, length-append (after .sources) (drop (sourcesNeeded b c) (b .sources))));
+          dead = rw short-count (omega (arith, few, n-is, length-append (after .dead) (drop (count (b .code)) (b .dead)), all-settled .dead, end-marks));
+          remap =
+              rw short-count
+              (omega (arith, few, n-is, length-append (after .remap) (drop (count (b .code) + 1) (b .remap)), all-settled .remap, length-take-le (count (b .code) + 1) (b .remap) (held .remap)));
+        }
+
+    lendable : Lendable (o .answer) c (joined b c o .after)
+    unfolding constantFold joined
+    lendable =
+        record {
+          code = code-again;
+          pool = pool-kept;
+          ready = ready-on r short (end .kinds) (end .words) (countsLeft (o .answer) c) (lensOf (cutAt (o .answer) (joined b c o .after))) rules-left room-left;
+        }
+
+    -- ---- words past a need
+
+    fold-beyond : FoldBeyond c b (joined b c o .after)
+    unfolding constantFold joined tallyOf
+    fold-beyond =
+        let n = count (b .code) in
+        let room = constantRoom (c .constants) (tallyOf (b .code) .folding) in
+        let few : end .constants ≤ room = rw end-is (pool-few strict clean lent-clean) in
+        let p = pushed in
+        record {
+          code = all-settled .long ∙ p .code-long;
+          kinds = past-held room (b .kinds) (end .kinds) (p .kinds-long) (λ i h. p .kinds-past i (omega arith));
+          words = past-held room (b .words) (end .words) (p .words-long) (λ i h. p .words-past i (omega arith));
+          map = front-held n (after .map) (b .map) (all-settled .map ∙ length-take-le n (b .map) (held .map)) (held .map);
+          sources =
+              front-held (sourcesNeeded b c) (after .sources) (b .sources) (all-settled .sources ∙ length-take-le (sourcesNeeded b c) (b .sources) (held .sources)) (held .sources);
+          stmts = front-held (c .stmts) (after .stmts) (b .stmts) (all-settled .stmts ∙ length-take-le (c .stmts) (b .stmts) (held .stmts)) (held .stmts);
+          calls = front-held (c .calls) (after .calls) (b .calls) (all-settled .calls ∙ length-take-le (c .calls) (b .calls) (held .calls)) (held .calls);
+          dead = front-held n (after .dead) (b .dead) (all-settled .dead ∙ end-marks) (held .dead);
+          remap = front-held (n + 1) (after .remap) (b .remap) (all-settled .remap ∙ length-take-le (n + 1) (b .remap) (held .remap)) (held .remap);
+        }
+
+  -- what holds of the answer holds of any answered call
+  pub by-call : (P : Folded → Buffers → Type 0) → ((m : ℕ) → readyOf (b .code) (b .kinds) (b .words) c (lensOf b) ≡ Count m → P (o .answer) (joined b c o .after))
+      → (f : Folded) (a : Buffers) → foldCall strict b c ≡ outcome (Is f) a → P f a
+  by-call P h f a e = go (readyOf (b .code) (b .kinds) (b .words) c (lensOf b)) refl
+    where
+      go : (v : Checked) → readyOf (b .code) (b .kinds) (b .words) c (lensOf b) ≡ v → P f a
+      go (Refused r) q =
+          let y : No r ≡ Is f = ap (λ (x : Outcome FoldAnswer). x .answer) (sym (call-refused r q) ∙ e) in
+          absurd (let z : _≡_ {A = ℕ} 0 1 = cc in omega arith)
+      go (Count m) q =
+          let y : joined b c o ≡ outcome (Is f) a = sym (call-answered m q) ∙ e in
+          let i : Is (o .answer) ≡ Is f = sym joined-answer ∙ ap (λ (x : Outcome FoldAnswer). x .answer) y in
+          let j : o .answer ≡ f = cc in
+          let k : joined b c o .after ≡ a = ap (λ (x : Outcome FoldAnswer). x .after) y in
+          subst (λ (x : Buffers). P f x) k (subst (λ (x : Folded). P x (joined b c o .after)) j (h m q))
+
+  -- what an answered call leaves can be lent to the next
+  pub lends : (f : Folded) (a : Buffers) → foldCall strict b c ≡ outcome (Is f) a → Lendable f c a
+  lends = by-call (λ f a. Lendable f c a) lendable
+
+  -- and of the pool it changes nothing that was there
+  pub pool-stays : (f : Folded) (a : Buffers) → foldCall strict b c ≡ outcome (Is f) a → PoolLeft b c f a
+  pool-stays = by-call (λ f a. PoolLeft b c f a) pool-left
+
+  -- words past a needed length are never touched
+  pub stays-beyond : (f : Folded) (a : Buffers) → foldCall strict b c ≡ outcome (Is f) a → FoldBeyond c b a
+  stays-beyond = by-call (λ f a. FoldBeyond c b a) fold-beyond
+
+  -- a refusal leaves every buffer as lent
+  pub refusal-leaves : (r : Refusal) (a : Buffers) → foldCall strict b c ≡ outcome (No r) a → a ≡ b
+  refusal-leaves r a e = go (readyOf (b .code) (b .kinds) (b .words) c (lensOf b)) refl
+    where
+      go : (v : Checked) → readyOf (b .code) (b .kinds) (b .words) c (lensOf b) ≡ v → a ≡ b
+      go (Refused s) q = ap (λ (x : Outcome FoldAnswer). x .after) (sym e ∙ call-refused s q)
+      go (Count m) q =
+          let y : Is (o .answer) ≡ No r = sym joined-answer ∙ ap (λ (x : Outcome FoldAnswer). x .answer) (sym (call-answered m q) ∙ e) in
+          absurd (let z : _≡_ {A = ℕ} 0 1 = cc in omega arith)
+
+  -- ---- if nothing died
+
+  module _ (m : ℕ) (q : readyOf (b .code) (b .kinds) (b .words) c (lensOf b) ≡ Count m) where
+    all-alive : NoneDied b (joined b c o .after) → every (alive (o .after .dead)) (length (o .after .dead)) ≡ true
+    unfolding joined constantFold
+    all-alive e =
+        let n = count (b .code) in
+        let l : length (after .dead) ≡ n = all-settled m q .dead ∙ end-marks m q in
+        every-of (alive (after .dead)) (length (after .dead))
+        (λ k h.
+        let z : getD (after .dead ++ drop n (b .dead)) k 0 ≡ getD (after .dead) k 0 = List·getD-append (after .dead) (drop n (b .dead)) 0 k h in
+        sym (ap (λ (x : ℕ). eqb x 0) z) ∙ every-at (alive (after .dead ++ drop n (b .dead))) n k e (rw l at h))
+
+    idle : NoneDied b (joined b c o .after) → joined b c o ≡ asLent b c
+    unfolding joined
+    idle e =
+        let h : count (b .code) ≤ length (needed b c .dead) = omega (arith, marks m q) in
+        rw (
+          as-lent strict (needed b c) c h (all-alive e),
+          marks m q,
+          take-append-drop (count (b .code)) (b .map),
+          take-append-drop (sourcesNeeded b c) (b .sources),
+          take-append-drop (c .stmts) (b .stmts),
+          take-append-drop (c .calls) (b .calls),
+          take-append-drop (count (b .code) + 1) (b .remap),
+        )
+
+  -- then code, constants and every table stay as lent, and the dead marks are 0
+  pub idle-call : (f : Folded) (a : Buffers) → foldCall strict b c ≡ outcome (Is f) a → NoneDied b a → foldCall strict b c ≡ asLent b c
+  idle-call = by-call (λ f a. NoneDied b a → foldCall strict b c ≡ asLent b c) (λ m q e. call-answered m q ∙ idle m q e)

@@ -1,0 +1,11 @@
+pub mod Pushes
+pub mod Prefix
+pub mod Relent
+pub mod Jumped
+pub mod Spent
+pub mod Settled
+pub mod Lends
+pub mod Chain
+pub mod Beside
+pub mod Refolds
+pub mod Operators

@@ -1,0 +1,213 @@
+-- Folding a chunk that was cleared first gives what folding it uncleared gives, through the whole call. Assumes nothing.
+use Prim.Native.Nat.{ℕ, _+_, _≤_, _<_}
+use native.Mathlib.Omega.{arith}
+use mathlib.Core.Path.{_≡_, refl, sym, ap, _∙_}
+use mathlib.Core.Logic.{⊎-elim}
+use mathlib.Core.Bool.{Bool, true}
+use mathlib.Core.List.{List, [], _∷_, _++_}
+use lib.ListN.{length, getD, take, drop, replicate}
+use borrow.Author.Tests.{lt-ltb, le-ltb}
+use Rattle.code.specs.declared.Checked.the-variants.{Count}
+use Rattle.lent.specs.Chunk.{count, operandAt}
+use Rattle.lent.specs.Tables.{constantKept, within}
+use Rattle.lent.specs.Check.{sourceRoom, tallyOf, readyOf}
+use Rattle.lent.proofs.Kept.{kinds-there, words-there}
+use Rattle.laws.specs.All.{every}
+use Rattle.laws.proofs.Branch.{and-true}
+use Rattle.lent.specs.declared.Counts.{Counts}
+use Rattle.lent.specs.declared.Tally.{Tally}
+use Rattle.fold.specs.Plan.{Chunk}
+use Rattle.fold.specs.Pass.{foldAll}
+use Rattle.finish.specs.Finish.{Tables, tables, finished}
+use Rattle.optimizer.specs.Fold.{Buffers, buffers, lensOf, needed, sourcesNeeded, outcome, foldPass, constantFold, joined, foldCall}
+use Rattle.optimizer.specs.declared.Folded.{Folded}
+use Rattle.optimizer.specs.declared.FoldAnswer.the-variants.{Is}
+use Rattle.clear.specs.Unused.{AllNear, named, before as number, pooled, recoded, loaded}
+use Rattle.clear.specs.Clear as clearing
+use Rattle.clear.proofs.Answers.{answered-call, answered}
+use Rattle.clear.proofs.Accepts.{tally-same, countsAfter, accepted-after}
+use Rattle.clear.proofs.Kept.{pooled-length}
+use Rattle.clear.proofs.Tested.{held-of}
+use Rattle.clear.proofs.Loads.{recoded-count}
+use Rattle.clear.proofs.Room.{clearedChunk}
+use Rattle.clear.proofs.Alike.{SameLoad, Loads, Alike}
+use Rattle.clear.proofs.Refold.{refold, refold-fewer}
+use Rattle.refold.specs.Lendable.{clearedBuffers}
+use Rattle.refold.specs.Refolded.{Refolded, Refolds}
+use Rattle.refold.proofs.Lends.{o, clean, end, before, after, rules, lent-clean, call-answered, joined-answer, by-call}
+use Rattle.refold.proofs.Chain.{folds}
+use Rattle.refold.proofs.Beside.{Beside, finished-beside}
+
+-- what is loaded in both
+module _ (s t : Chunk) (fewer : t .constants ≤ s .constants) (v u : ℕ) (x : Loads (s .constants) s t v u) where
+  load-in : (l : List ℕ) (m i : ℕ) → i < m → loaded l m i ≡ getD l i 0 ∷ []
+  unfolding loaded
+  load-in l m i h = rw (lt-ltb i m h)
+
+  load-out : (l : List ℕ) (m i : ℕ) → m ≤ i → loaded l m i ≡ []
+  unfolding loaded
+  load-out l m i h = rw (le-ltb i m h)
+
+  load-same : (k l : List ℕ) → (SameLoad s t v u → getD k v 0 ≡ getD l u 0) → loaded l (t .constants) u ≡ loaded k (s .constants) v
+  load-same k l e =
+      ⊎-elim
+      (λ y. load-in l (t .constants) u (y .here) ∙ ap (λ (z : ℕ). z ∷ []) (sym (e y)) ∙ sym (load-in k (s .constants) v (y .there)))
+      (λ y. load-out l (t .constants) u (omega (arith, y .same, y .past)) ∙ sym (load-out k (s .constants) v (y .past))) x
+
+-- two buffers that differ in front alone
+tail-same : {x y : List ℕ} {i j : ℕ} (l : List ℕ) → x ≡ y → i ≡ j → x ++ drop i l ≡ y ++ drop j l
+tail-same l e f = rw (e, f)
+
+module _ (strict : Bool) (b : Buffers) (c : Counts) (n : ℕ) (q : readyOf (b .code) (b .kinds) (b .words) c (lensOf b) ≡ Count n)
+    (near : AllNear (b .code) (c .constants) (foldAll strict (clean strict b c) .constants)) (few : foldAll strict (clean strict b c) .constants < 65535) where
+  abbrev w : List ℕ
+  w = b .code
+
+  abbrev m : ℕ
+  m = c .constants
+
+  -- the chunk after clearing
+  abbrev b′ : Buffers
+  b′ =
+      buffers (recoded (number w) m w) (pooled (named w) m (b .kinds)) (pooled (named w) m (b .words)) (b .map) (b .sources) (b .stmts) (b .calls) (b .dead) (b .remap)
+
+  abbrev c′ : Counts
+  c′ = countsAfter w c
+
+  abbrev s : Chunk
+  s = foldAll strict (clean strict b c)
+
+  abbrev t : Chunk
+  t = foldAll strict (clearedChunk (clean strict b c))
+
+  same-count : count (recoded (number w) m w) ≡ count w
+  same-count = recoded-count (number w) m w
+
+  same-need : sourcesNeeded b′ c′ ≡ sourcesNeeded b c
+  same-need = ap (λ (x : Tally). sourceRoom (c .sources) (x .phis)) (tally-same (number w) m w)
+
+  end-first : end strict b c ≡ s
+  unfolding foldPass
+  end-first = refl
+
+  end-second : end strict b′ c′ ≡ t
+  unfolding foldPass
+  end-second = rw same-count
+
+  alike : Alike (s .constants) s t
+  alike = refold n (clean strict b c) (rules strict b c n q .before) strict near (lent-clean strict b c n q) few
+
+  fewer : t .constants ≤ s .constants
+  fewer = refold-fewer n (clean strict b c) (rules strict b c n q .before) strict near (lent-clean strict b c n q) few
+
+  abbrev besides : List ℕ → List ℕ → Tables
+  besides code dead =
+      tables code (needed b c .map) (needed b c .sources) (needed b c .stmts) (needed b c .calls) dead (needed b c .remap)
+      (record { instructions = length (needed b c .dead); map = c .map; sources = c .sources })
+
+  before-first : before strict b c ≡ besides (s .code) (s .dead)
+  before-first = rw end-first
+
+  before-second : before strict b′ c′ ≡ besides (t .code) (s .dead)
+  before-second = rw (end-second, same-count, same-need, ← alike .dead)
+
+  beside : Beside (s .constants) s t (after strict b c) (after strict b′ c′)
+  beside =
+      rw (before-first, before-second)
+      (finished-beside alike (needed b c .map) (needed b c .sources) (needed b c .stmts) (needed b c .calls) (s .dead) (needed b c .remap)
+      (record { instructions = length (needed b c .dead); map = c .map; sources = c .sources }))
+
+  refolded : Refolded (o strict b c .answer) (joined b c (o strict b c) .after) (o strict b′ c′ .answer) (joined b′ c′ (o strict b′ c′) .after)
+  unfolding constantFold joined foldPass
+  refolded =
+      let x = beside in
+      let v : ℕ → ℕ = λ k. operandAt (after strict b c .code) k in
+      let u : ℕ → ℕ = λ k. operandAt (after strict b′ c′ .code) k in
+      record {
+        instructions = sym (ap (λ l. l .instructions) (x .left));
+        entries = sym (ap (λ l. l .map) (x .left));
+        pairs = sym (ap (λ l. l .sources) (x .left));
+        fewer = rw end-second fewer;
+        map = tail-same (b .map) (sym (x .map)) same-count;
+        sources = tail-same (b .sources) (sym (x .sources)) same-need;
+        stmts = tail-same {i = c .stmts} (b .stmts) (sym (x .stmts)) refl;
+        calls = tail-same {i = c .calls} (b .calls) (sym (x .calls)) refl;
+        dead = tail-same (b .dead) (sym (x .dead)) same-count;
+        remap = tail-same (b .remap) (sym (x .remap)) (ap (λ (i : ℕ). i + 1) same-count);
+        long = sym (x .long);
+        ops = λ k. sym (x .code k .op);
+        marks = λ k. sym (x .code k .mark);
+        plain = λ k e. sym (x .code k .plain e);
+        kind = λ k e. ap (λ (z : Chunk). loaded (z .kinds) (z .constants) (u k)) end-second ∙ load-same s t fewer (v k) (u k) (x .code k .load e) (s .kinds) (t .kinds) (λ y. y .kind);
+        word = λ k e. ap (λ (z : Chunk). loaded (z .words) (z .constants) (u k)) end-second ∙ load-same s t fewer (v k) (u k) (x .code k .load e) (s .words) (t .words) (λ y. y .word);
+      }
+
+  module _ (scratch : List ℕ) (room : m ≤ length scratch) where
+    abbrev lent : clearing.Buffers
+    lent = clearing.buffers (b .code) (b .kinds) (b .words) scratch
+
+    clear-ready : clearing.readyOf lent m ≡ Count n
+    unfolding clearing.readyOf
+    clear-ready = rw (rules strict b c n q .before, rules strict b c n q .constants, le-ltb (length scratch) m room)
+
+    refolds : Refolds strict b c (o strict b c .answer) (joined b c (o strict b c) .after) scratch
+    refolds =
+        let e = answered-call lent m n clear-ready in
+        let y = answered lent m (number w m) (clearing.cleared lent m .after) e in
+        let k = held-of lent m (Count n) (sym clear-ready) n refl in
+        let z : readyOf (b′ .code) (b′ .kinds) (b′ .words) c′ (lensOf b′) ≡ Count n =
+        rw (pooled-length (named w) m (b .kinds) (k .kinds), pooled-length (named w) m (b .words) (k .words)) (accepted-after n w (b .kinds) (b .words) c (lensOf b) q) in
+        record {
+          left = number w m;
+          cleared = clearing.cleared lent m .after;
+          clears = e;
+          folded = o strict b′ c′ .answer;
+          after = joined b′ c′ (o strict b′ c′) .after;
+          folds =
+              rw (y .code, y .kinds, y .words)
+              (call-answered strict b′ c′ n z ∙ ap (λ v. outcome v (joined b′ c′ (o strict b′ c′) .after)) (joined-answer strict b′ c′));
+          same = refolded;
+        }
+
+constants-left : (strict : Bool) (b : Buffers) (c : Counts) → o strict b c .answer .constants ≡ foldAll strict (clean strict b c) .constants
+unfolding constantFold foldPass
+constants-left strict b c = refl
+
+-- asked: each operand with the mark is below the count, or at or past the count that the uncleared fold ends with, and that is below 65,535
+pub refold-call : (strict : Bool) (b : Buffers) (c : Counts) (f : Folded) (a : Buffers) → foldCall strict b c ≡ outcome (Is f) a → f .constants < 65535
+    → AllNear (b .code) (c .constants) (f .constants) → (scratch : List ℕ) → c .constants ≤ length scratch → Refolds strict b c f a scratch
+refold-call strict b c f a e few near scratch room =
+    by-call strict b c (λ g y. g .constants < 65535 → AllNear (b .code) (c .constants) (g .constants) → Refolds strict b c g y scratch)
+    (λ n q l h. refolds strict b c n q (rw (constants-left strict b c) at h) (rw (constants-left strict b c) at l) scratch room) f a e few near
+
+-- ---- whatever the operands: a chunk that is accepted is accepted after clearing too
+
+pub accepted-again : (strict : Bool) (b : Buffers) (c : Counts) (f : Folded) (a : Buffers) → foldCall strict b c ≡ outcome (Is f) a
+    → (left : ℕ) (x : clearing.Buffers) → left ≡ number (b .code) (c .constants) → x .code ≡ recoded (number (b .code)) (c .constants) (b .code)
+    → x .kinds ≡ pooled (named (b .code)) (c .constants) (b .kinds) → x .words ≡ pooled (named (b .code)) (c .constants) (b .words)
+    → (strict′ : Bool) → (g : Folded) × (y : Buffers)
+    × (foldCall strict′ (clearedBuffers b x) (record { constants = left; map = c .map; sources = c .sources; stmts = c .stmts; calls = c .calls }) ≡ outcome (Is g) y)
+accepted-again strict b c f a e left x l code kinds words strict′ =
+    by-call strict b c
+    (λ _ _. (g : Folded) × (y : Buffers)
+    × (foldCall strict′ (clearedBuffers b x) (record { constants = left; map = c .map; sources = c .sources; stmts = c .stmts; calls = c .calls }) ≡ outcome (Is g) y))
+    (λ n q. by n q) f a e
+  where
+    by : (n : ℕ) → readyOf (b .code) (b .kinds) (b .words) c (lensOf b) ≡ Count n → (g : Folded) × (y : Buffers)
+        × (foldCall strict′ (clearedBuffers b x) (record { constants = left; map = c .map; sources = c .sources; stmts = c .stmts; calls = c .calls }) ≡ outcome (Is g) y)
+    by n q =
+        let w = b .code in
+        let m = c .constants in
+        let h = rules strict b c n q in
+        let d = clearedBuffers b x in
+        let i = and-true (within m (length (b .kinds)) (length (b .words))) (every (constantKept (b .kinds) (b .words)) m) (h .constants) .0 in
+        let z : readyOf (d .code) (d .kinds) (d .words) (record { constants = left; map = c .map; sources = c .sources; stmts = c .stmts; calls = c .calls }) (lensOf d) ≡ Count n =
+        rw (
+          code,
+          kinds,
+          words,
+          l,
+          pooled-length (named w) m (b .kinds) (kinds-there m (length (b .kinds)) (length (b .words)) i),
+          pooled-length (named w) m (b .words) (words-there m (length (b .kinds)) (length (b .words)) i),
+        ) (accepted-after n w (b .kinds) (b .words) c (lensOf b) q) in
+        folds strict′ d (record { constants = left; map = c .map; sources = c .sources; stmts = c .stmts; calls = c .calls }) n z

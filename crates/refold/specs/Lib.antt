@@ -1,0 +1,5 @@
+pub mod Pushed
+pub mod Lendable
+pub mod Refolded
+pub mod Left
+pub mod Examples

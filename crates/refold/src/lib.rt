@@ -1,0 +1,1 @@
+// The chunk calls one after the other: fold, clear, fold. No code.

@@ -71,7 +71,13 @@ module _ (m : ℕ) (b : Buffers) where
         go (Is n) y = cleared-beyond n a (sym y)
         go (No q) y =
             rw (refusal-keeps b m q a (sym y))
-            (record { code = refl; kinds = held-same m (b .kinds) (b .kinds) refl; words = held-same m (b .words) (b .words) refl; scratch = held-same m (b .scratch) (b .scratch) refl })
+            (record {
+              code = refl;
+              kinds = held-same m (b .kinds) (b .kinds) refl;
+              words = held-same m (b .words) (b .words) refl;
+              scratch = held-same m
+                  (b .scratch) (b .scratch) refl;
+            })
 
     -- with refusal 0: what is left
     pub clear-holds : r .refusal ≡ 0 → ClearHolds m b r a

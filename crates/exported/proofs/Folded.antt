@@ -20,7 +20,7 @@ use Rattle.clear.specs.declared.ClearAnswer.{ClearAnswer}
 use Rattle.clear.specs.declared.ClearAnswer.the-variants as clear
 use Rattle.optimizer.proofs.Again.{again}
 use Rattle.clear.proofs.Answers.{answered}
-use Rattle.refold.specs.Lendable.{cutAt, countsLeft, Lendable, clearable, clearedBuffers, countsCleared, Chained}
+use Rattle.refold.specs.Lendable.{cutAt, countsLeft, Lendable, clearable, clearedBuffers, withConstants, countsCleared, Chained}
 use Rattle.refold.specs.Refolded.{Refolded, Refolds}
 use Rattle.refold.specs.Left.{PoolLeft, FoldBeyond, NoneDied, asLent}
 use Rattle.refold.proofs.Lends.{lends, pool-stays, stays-beyond, refusal-leaves, idle-call}
@@ -133,7 +133,8 @@ module _ (strict : Bool) (c : Counts) (b : Buffers) (r : Answer) (a : Buffers) (
       let i = clear-answers (r .second) (clearable f a scratch) s x′ u (k .left) (k .cleared) (k .clears) in
       (ap (λ (w : Answer). w .refusal) (i .0), λ strict′ t y v. next strict′ (go strict′) t y v)
     where
-      next : (strict′ : Bool) → Chained f c a scratch strict′ → (t : Answer) (y : Buffers) → FoldCall strict′ (countsCleared f c (s .first)) (clearedBuffers a x′) t y → t .refusal ≡ 0
+      next : (strict′ : Bool) → Chained f c a scratch strict′ → (t : Answer) (y : Buffers)
+          → FoldCall strict′ (countsCleared f c (s .first)) (clearedBuffers a x′) t y → t .refusal ≡ 0
       next strict′ k t y v =
           let i = clear-answers (r .second) (clearable f a scratch) s x′ u (k .left) (k .cleared) (k .clears) in
           let e : s .first ≡ k .left = ap (λ (w : Answer). w .first) (i .0) in
@@ -146,7 +147,7 @@ module _ (strict : Bool) (c : Counts) (b : Buffers) (r : Answer) (a : Buffers) (
       let k = refold-call strict b c f a answer few near scratch h in
       let i = clear-answers (c .constants) (clearing.buffers (b .code) (b .kinds) (b .words) scratch) s x′ u (k .left) (k .cleared) (k .clears) in
       let e : s .first ≡ k .left = ap (λ (w : Answer). w .first) (i .0) in
-      let d : Counts = record { constants = s .first; map = c .map; sources = c .sources; stmts = c .stmts; calls = c .calls } in
+      let d = withConstants (s .first) c in
       let w : foldCall strict (clearedBuffers b x′) d ≡ outcome (Is (k .folded)) (k .after) = rw (e, i .1) (k .folds) in
       let j = fold-answers strict d (clearedBuffers b x′) t y v (k .folded) (k .after) w in
       (ap (λ (w : Answer). w .refusal) (i .0), j .0, rw (j .1, j .2) (k .same))
@@ -159,7 +160,7 @@ module _ (strict : Bool) (c : Counts) (b : Buffers) (r : Answer) (a : Buffers) (
       let lent = clearing.buffers (b .code) (b .kinds) (b .words) scratch in
       let e = answered-clear m lent s x′ u zs in
       let h = answered lent m (s .first) x′ e in
-      let d : Counts = record { constants = s .first; map = c .map; sources = c .sources; stmts = c .stmts; calls = c .calls } in
+      let d = withConstants (s .first) c in
       let (g, k, i) = accepted-again strict b c f a answer (s .first) x′ (h .count) (h .code) (h .kinds) (h .words) strict′ in
       fold-answers strict′ d (clearedBuffers b x′) t y v g k i .0
 

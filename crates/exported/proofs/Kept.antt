@@ -52,7 +52,8 @@ module _ (w : List ℕ) (regs : ℕ) (tries : List ℕ) (wide : Bool) (rows offs
   out-offsets (refused p) = held-same (suc (count w)) offsets offsets refl
   out-offsets (short p q l) = held-same (suc (count w)) offsets offsets refl
   out-offsets (told {new = new} p q l) =
-      over-held (suc (count w)) (offsetsTo regs w tries (rowsIn regs w new) (suc (count w))) offsets (offsets-long regs w tries (rowsIn regs w new) (suc (count w)))
+      over-held (suc (count w)) (offsetsTo regs w tries (rowsIn regs w new) (suc (count w))) offsets
+      (offsets-long regs w tries (rowsIn regs w new) (suc (count w)))
       (accepted-offsets w regs tries (length rows) (length offsets) (count w) p)
 
   out-list : {a b c : List ℕ} {v : KeptAnswer} → Outcome w regs tries wide rows offsets list a b c v → keptTold v .refusal ≡ 0 → Held (keptTold v .first) list c
@@ -69,10 +70,12 @@ pub kept-settles : (w : List ℕ) (regs : ℕ) (tries : List ℕ) (wide : Bool) 
 kept-settles w regs tries wide =
     record {
       one = λ b r r′ a a′ x y.
-          let (e, p, q, t) = one-kept w regs tries wide (b .rows) (b .offsets) (b .list) r r′ (a .rows) (a′ .rows) (a .offsets) (a′ .offsets) (a .list) (a′ .list) (x .words) (y .words) (x .told) (y .told) in
+          let (e, p, q, t) = one-kept w regs tries wide (b .rows) (b .offsets) (b .list) r r′ (a .rows) (a′ .rows) (a .offsets) (a′ .offsets) (a .list)
+          (a′ .list) (x .words) (y .words) (x .told) (y .told) in
           (e, all-three p q t);
       refusal = λ b r a x h.
-          subst (λ (v : Answer). settles.Refusal v → (a .offsets ≡ b .offsets) × (a .list ≡ b .list) × ((a .rows ≡ b .rows) ⊎ ((v .refusal ≡ 5) × (v .first ≡ 3))))
+          subst (λ (v : Answer). settles.Refusal v → (a .offsets ≡ b .offsets) × (a .list ≡ b .list)
+          × ((a .rows ≡ b .rows) ⊎ ((v .refusal ≡ 5) × (v .first ≡ 3))))
           (sym (x .told .is)) (out-refusal w regs tries wide (b .rows) (b .offsets) (b .list) (x .told .allowed)) h;
       rows-beyond = λ b r a x. out-rows w regs tries wide (b .rows) (b .offsets) (b .list) (x .told .allowed);
       offsets-beyond = λ b r a x. out-offsets w regs tries wide (b .rows) (b .offsets) (b .list) (x .told .allowed);
@@ -87,14 +90,17 @@ kept-settles w regs tries wide =
 record Told (w : List ℕ) (regs : ℕ) (tries : List ℕ) (wide : Bool) (b : Lists) (r : Answer) (a : Lists) : Type 0 where
   out : Outcome w regs tries wide (b .rows) (b .offsets) (b .list) (a .rows) (a .offsets) (a .list) (Is (r .first) (r .second) (r .third))
 
-told-of : (w : List ℕ) (regs : ℕ) (tries : List ℕ) (wide : Bool) (b : Lists) (r : Answer) (a : Lists) → KeptCall w regs tries wide b r a → r .refusal ≡ 0 → Told w regs tries wide b r a
+told-of : (w : List ℕ) (regs : ℕ) (tries : List ℕ) (wide : Bool) (b : Lists) (r : Answer) (a : Lists) → KeptCall w regs tries wide b r a → r .refusal ≡ 0
+    → Told w regs tries wide b r a
 told-of w regs tries wide b r a x z = go (x .told .told) (x .told .is) (x .told .allowed)
   where
-    go : (v : KeptAnswer) → r ≡ keptTold v → Outcome w regs tries wide (b .rows) (b .offsets) (b .list) (a .rows) (a .offsets) (a .list) v → Told w regs tries wide b r a
+    go : (v : KeptAnswer) → r ≡ keptTold v → Outcome w regs tries wide (b .rows) (b .offsets) (b .list) (a .rows) (a .offsets) (a .list) v
+        → Told w regs tries wide b r a
     go (Is n f g) e o = rw e (record { out = o })
     go (No q) e o = absurd (refused-not q (sym (ap (λ (s : Answer). s .refusal) e) ∙ z))
 
-module _ (w : List ℕ) (regs : ℕ) (tries : List ℕ) (wide : Bool) (b : Lists) (r : Answer) (a : Lists) (x : KeptCall w regs tries wide b r a) (z : r .refusal ≡ 0) where
+module _ (w : List ℕ) (regs : ℕ) (tries : List ℕ) (wide : Bool) (b : Lists) (r : Answer) (a : Lists) (x : KeptCall w regs tries wide b r a)
+    (z : r .refusal ≡ 0) where
   out : Outcome w regs tries wide (b .rows) (b .offsets) (b .list) (a .rows) (a .offsets) (a .list) (Is (r .first) (r .second) (r .third))
   out = told-of w regs tries wide b r a x z .out
 
@@ -111,10 +117,14 @@ module _ (w : List ℕ) (regs : ℕ) (tries : List ℕ) (wide : Bool) (b : Lists
         last = row-last wide regs w (a .rows) (r .second) (r .third) found;
         within = rows-regs wide regs w (a .rows) (r .second) (r .third) found;
         few = rows-few wide regs w (a .rows) (r .second) (r .third) found;
-        keeps = λ k h e. demand-3 w regs tries wide (b .rows) (b .offsets) (b .list) (a .rows) (a .offsets) (a .list) (r .first) (r .second) (r .third) out k h e;
-        spare = λ k h e. none-to-spare w regs tries wide (b .rows) (b .offsets) (b .list) (a .rows) (a .offsets) (a .list) (r .first) (r .second) (r .third) out k h e;
-        once = λ k h e. kept-each-once w regs tries wide (b .rows) (b .offsets) (b .list) (a .rows) (a .offsets) (a .list) (r .first) (r .second) (r .third) out k h e;
-        empty = λ k h e. no-level w regs tries wide (b .rows) (b .offsets) (b .list) (a .rows) (a .offsets) (a .list) (r .first) (r .second) (r .third) out k h e;
+        keeps = λ k h e. demand-3 w regs tries wide (b .rows) (b .offsets) (b .list) (a .rows) (a .offsets) (a .list) (r .first) (r .second) (r .third)
+            out k h e;
+        spare = λ k h e. none-to-spare w regs tries wide (b .rows) (b .offsets) (b .list) (a .rows) (a .offsets) (a .list) (r .first) (r .second) (r .third)
+            out k h e;
+        once = λ k h e. kept-each-once w regs tries wide (b .rows) (b .offsets) (b .list) (a .rows) (a .offsets) (a .list) (r .first) (r .second) (r .third)
+            out k h e;
+        empty = λ k h e. no-level w regs tries wide (b .rows) (b .offsets) (b .list) (a .rows) (a .offsets) (a .list) (r .first) (r .second) (r .third)
+            out k h e;
       }
 
 -- ---- two routes
@@ -126,12 +136,15 @@ routes-same w regs tries wide wide′ b b′ r r′ a a′ x z x′ z′ =
     let q = out w regs tries wide′ b′ r′ a′ x′ z′ in
     record {
       total =
-          totals-one w regs tries wide wide′ (b .rows) (b .offsets) (b .list) (b′ .rows) (b′ .offsets) (b′ .list) (a .rows) (a .offsets) (a .list) (a′ .rows) (a′ .offsets) (a′ .list)
+          totals-one w regs tries wide wide′ (b .rows) (b .offsets) (b .list) (b′ .rows) (b′ .offsets) (b′ .list) (a .rows) (a .offsets) (a .list) (a′ .rows)
+          (a′ .offsets) (a′ .list)
           (r .first) (r .second) (r .third) (r′ .first) (r′ .second) (r′ .third) p q;
       list =
-          lists-one w regs tries wide wide′ (b .rows) (b .offsets) (b .list) (b′ .rows) (b′ .offsets) (b′ .list) (a .rows) (a .offsets) (a .list) (a′ .rows) (a′ .offsets) (a′ .list)
+          lists-one w regs tries wide wide′ (b .rows) (b .offsets) (b .list) (b′ .rows) (b′ .offsets) (b′ .list) (a .rows) (a .offsets) (a .list) (a′ .rows)
+          (a′ .offsets) (a′ .list)
           (r .first) (r .second) (r .third) (r′ .first) (r′ .second) (r′ .third) p q;
       offsets =
-          offsets-one w regs tries wide wide′ (b .rows) (b .offsets) (b .list) (b′ .rows) (b′ .offsets) (b′ .list) (a .rows) (a .offsets) (a .list) (a′ .rows) (a′ .offsets) (a′ .list)
+          offsets-one w regs tries wide wide′ (b .rows) (b .offsets) (b .list) (b′ .rows) (b′ .offsets) (b′ .list) (a .rows) (a .offsets) (a .list)
+          (a′ .rows) (a′ .offsets) (a′ .list)
           (r .first) (r .second) (r .third) (r′ .first) (r′ .second) (r′ .third) p q;
     }

@@ -44,7 +44,8 @@ held-front m front b e h = record { same = length-append front (drop m b) ∙ om
 
 -- ---- one buffer is filled
 
-module _ (v : Checked) (m : ℕ) (f : ℕ → ℕ) (b : List ℕ) (room : (n : ℕ) → v ≡ Count n → m ≤ length b) (r : Answer) (a : List ℕ) (x : By filledTold (λ t. Fills v m f b t a) r) where
+module _ (v : Checked) (m : ℕ) (f : ℕ → ℕ) (b : List ℕ) (room : (n : ℕ) → v ≡ Count n → m ≤ length b) (r : Answer) (a : List ℕ)
+    (x : By filledTold (λ t. Fills v m f b t a) r) where
   filled-refusal : settles.Refusal r → a ≡ b
   filled-refusal h = go v refl
     where
@@ -66,7 +67,8 @@ pub targets-settles : (w tries : List ℕ) → Settles (TargetsCall w tries) (En
 targets-settles w tries =
     record {
       one = λ b r r′ a a′ x y. one-targets w tries b r r′ a a′ x y;
-      refusal = λ b r a x h. filled-refusal (roomOf (triedOf (checkOf w) tries) 1 (length b) (count w + 1)) (count w + 1) (targetMark w tries) b (room b) r a x h;
+      refusal = λ b r a x h. filled-refusal (roomOf (triedOf (checkOf w) tries) 1 (length b) (count w + 1)) (count w + 1) (targetMark w tries) b (room b) r a
+          x h;
       beyond = λ b r a x. filled-beyond (roomOf (triedOf (checkOf w) tries) 1 (length b) (count w + 1)) (count w + 1) (targetMark w tries) b (room b) r a x;
     }
   where

@@ -22,7 +22,7 @@ use Rattle.optimizer.specs.Fold.{Buffers}
 use Rattle.optimizer.specs.declared.Folded.{Folded}
 use Rattle.clear.specs.Unused.{named, before, numbered, loaded}
 use Rattle.clear.specs.Clear as clearing
-use Rattle.refold.specs.Lendable.{cutAt, countsLeft, clearable, clearedBuffers, countsCleared}
+use Rattle.refold.specs.Lendable.{cutAt, countsLeft, clearable, clearedBuffers, withConstants, countsCleared}
 use Rattle.refold.specs.Refolded.{Refolded}
 use Rattle.exported.specs.Calls.{Lists, FoldCall, ClearCall}
 
@@ -99,15 +99,16 @@ FoldsSame strict b c r a =
     (scratch : List ℕ) → c .constants ≤ length scratch
     → (s : Answer) (x : clearing.Buffers) → ClearCall (c .constants) (clearing.buffers (b .code) (b .kinds) (b .words) scratch) s x
     → (t : Answer) (y : Buffers)
-    → FoldCall strict (record { constants = s .first; map = c .map; sources = c .sources; stmts = c .stmts; calls = c .calls }) (clearedBuffers b x) t y
+    → FoldCall strict (withConstants (s .first) c) (clearedBuffers b x) t y
     → (s .refusal ≡ 0) × (t .refusal ≡ 0) × Refolded (foldedOf r) a (foldedOf t) y
 
 -- a chunk that the folding call accepts is accepted after clearing too, with the same buffers
 abbrev pub FoldsCleared : Buffers → Counts → Type 0
 FoldsCleared b c =
-    (scratch : List ℕ) (s : Answer) (x : clearing.Buffers) → ClearCall (c .constants) (clearing.buffers (b .code) (b .kinds) (b .words) scratch) s x → s .refusal ≡ 0
+    (scratch : List ℕ) (s : Answer) (x : clearing.Buffers) → ClearCall (c .constants) (clearing.buffers (b .code) (b .kinds) (b .words) scratch) s x
+    → s .refusal ≡ 0
     → (strict : Bool) (t : Answer) (y : Buffers)
-    → FoldCall strict (record { constants = s .first; map = c .map; sources = c .sources; stmts = c .stmts; calls = c .calls }) (clearedBuffers b x) t y → t .refusal ≡ 0
+    → FoldCall strict (withConstants (s .first) c) (clearedBuffers b x) t y → t .refusal ≡ 0
 
 -- ---- clear
 

@@ -107,6 +107,8 @@ module _ (w : List ℕ) (regs : ℕ) (tries : List ℕ) (wide wide′ : Bool) (r
 
   pub offsets-one : take (suc (count w)) b ≡ take (suc (count w)) b′
   offsets-one =
-      ap (take (suc (count w))) (one .begins) ∙ front (offsetsTo regs w tries (rowsIn regs w a) (suc (count w))) offsets (suc (count w)) (offsets-long regs w tries (rowsIn regs w a) (suc (count w)))
+      ap (take (suc (count w))) (one .begins) ∙ front (offsetsTo regs w tries (rowsIn regs w a) (suc (count w))) offsets (suc (count w))
+      (offsets-long regs w tries (rowsIn regs w a) (suc (count w)))
       ∙ offsets-same w regs tries (one .valid) wide wide′ a a′ f g f′ g′ (one .scratch .found) (other .scratch .found) (suc (count w)) (le-refl (suc (count w)))
-      ∙ sym (ap (take (suc (count w))) (other .begins) ∙ front (offsetsTo regs w tries (rowsIn regs w a′) (suc (count w))) offsets′ (suc (count w)) (offsets-long regs w tries (rowsIn regs w a′) (suc (count w))))
+      ∙ sym (ap (take (suc (count w))) (other .begins) ∙ front (offsetsTo regs w tries (rowsIn regs w a′) (suc (count w))) offsets′ (suc (count w))
+      (offsets-long regs w tries (rowsIn regs w a′) (suc (count w))))

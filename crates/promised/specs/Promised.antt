@@ -40,7 +40,8 @@ use Rattle.refold.specs.Left.{PoolLeft, FoldBeyond, NoneDied, asLent, tried}
 use Rattle.refold.specs.Examples.{jumping, summed, crossed, crossedCounts, crossedLens}
 use Rattle.turniploom.specs.Answers.{kindsTold, roleTold, fieldTold, truthTold, bitsTold, globalTold, pushTold, stackTold}
 use Rattle.exported.specs.Settles.{One, Settles}
-use Rattle.exported.specs.Calls.{TargetsCall, LoopsCall, EntriesBeyond, Marks, DeadCall, GenCall, MarksBeyond, Lists, KeptCall, KeptSettles, FoldCall, ClearCall, ClearBeyond}
+use Rattle.exported.specs.Calls.{TargetsCall, LoopsCall, EntriesBeyond, Marks, DeadCall, GenCall, MarksBeyond, Lists, KeptCall, KeptSettles}
+use Rattle.exported.specs.Calls.{FoldCall, ClearCall, ClearBeyond}
 use Rattle.exported.specs.Told.{Truth, KeptHolds, SameLists, foldedOf, FoldsNext, ClearsNext, FoldsCleared, FoldsSame, ClearHolds, ClearedTwice}
 use Rattle.promised.specs.Marked.{Marked}
 use Rattle.promised.specs.Late.{Late}

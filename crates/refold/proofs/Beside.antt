@@ -153,20 +153,23 @@ module _ {limit : ℕ} {s t : Chunk} (a : Alike limit s t) where
         → Like limit s t (cond b (opAt w k ∷ markAt w k ∷ operandOf dead w k ∷ []) []) (cond b (opAt v k ∷ markAt v k ∷ operandOf dead v k ∷ []) [])
     one-like k true zero = operand-like k
     one-like k true (suc i) =
-        like-past limit s t (opAt w k ∷ markAt w k ∷ operandOf dead w k ∷ []) (opAt v k ∷ markAt v k ∷ operandOf dead v k ∷ []) (suc i) (omega arith) (omega arith)
+        like-past limit s t (opAt w k ∷ markAt w k ∷ operandOf dead w k ∷ []) (opAt v k ∷ markAt v k ∷ operandOf dead v k ∷ []) (suc i) (omega arith)
+        (omega arith)
     one-like k false i = like-past limit s t [] [] i (omega arith) (omega arith)
 
     some-like : (k : ℕ) → Like limit s t (each (leftAt dead w) k) (each (leftAt dead v) k)
     unfolding each
     some-like zero = λ i. like-past limit s t [] [] i (omega arith) (omega arith)
     some-like (suc k) =
-        append-like limit s t (each (leftAt dead w) k) (each (leftAt dead v) k) (leftAt dead w k) (leftAt dead v k) (live dead k) (packed-long dead w k) (packed-long dead v k) (some-like k)
+        append-like limit s t (each (leftAt dead w) k) (each (leftAt dead v) k) (leftAt dead w k) (leftAt dead v k) (live dead k) (packed-long dead w k)
+        (packed-long dead v k) (some-like k)
         (one-like k (alive dead k))
 
     compacted-like : Like limit s t (compacted dead w) (compacted dead v)
     unfolding compacted left
     compacted-like =
-        append-like limit s t (left dead w) (left dead v) (replicate (length w - length (left dead w)) 0) (replicate (length v - length (left dead v)) 0) (live dead (length dead))
+        append-like limit s t (left dead w) (left dead v) (replicate (length w - length (left dead w)) 0) (replicate (length v - length (left dead v)) 0)
+        (live dead (length dead))
         (packed-long dead w (length dead)) (packed-long dead v (length dead)) (some-like (length dead))
         (zeros-like limit s t (length w - length (left dead w)) (length v - length (left dead v)))
 
@@ -176,7 +179,14 @@ module _ {limit : ℕ} {s t : Chunk} (a : Alike limit s t) where
         let l = left dead w in
         let r = left dead v in
         length-append l (replicate (length w - length l) 0)
-        ∙ omega (arith, length-replicate {A = ℕ} (length w - length l) 0, length-replicate {A = ℕ} (length v - length r) 0, packed-long dead w (length dead), packed-long dead v (length dead), a .long)
+        ∙ omega (
+          arith,
+          length-replicate {A = ℕ} (length w - length l) 0,
+          length-replicate {A = ℕ} (length v - length r) 0,
+          packed-long dead w (length dead),
+          packed-long dead v (length dead),
+          a .long,
+        )
         ∙ sym (length-append r (replicate (length v - length r) 0))
 
   -- ---- the Phi pass
@@ -234,7 +244,8 @@ module _ {limit : ℕ} {s t : Chunk} (a : Alike limit s t) (map sources stmts ca
   new-phis : (d : List ℕ) (k : ℕ) → isPhi (compacted d (s .code)) k ≡ isPhi (compacted d (t .code)) k
   new-phis d k = ap (λ (o : ℕ). eqb o Phi) (compacted-like a d k .op)
 
-  new-count : (d : List ℕ) → many (isPhi (compacted d (s .code))) (count (compacted d (s .code))) ≡ many (isPhi (compacted d (t .code))) (count (compacted d (t .code)))
+  new-count : (d : List ℕ) → many (isPhi (compacted d (s .code))) (count (compacted d (s .code))) ≡ many (isPhi (compacted d (t .code)))
+      (count (compacted d (t .code)))
   new-count d =
       ap (λ (x : ℕ). many (isPhi (compacted d (s .code))) (x / stride)) (compacted-long a d)
       ∙ many-ext (isPhi (compacted d (s .code))) (isPhi (compacted d (t .code))) (count (compacted d (t .code))) (λ k h. new-phis d k)
@@ -261,7 +272,8 @@ module _ {limit : ℕ} {s t : Chunk} (a : Alike limit s t) (map sources stmts ca
       d : List ℕ
       d = marked (s .code) entries words dead
 
-      go : (b : Bool) → Beside limit s t (cond b (with-code (s .code) d) (renewed (with-code (s .code) d))) (cond b (with-code (t .code) d) (renewed (with-code (t .code) d)))
+      go : (b : Bool) → Beside limit s t (cond b (with-code (s .code) d) (renewed (with-code (s .code) d)))
+          (cond b (with-code (t .code) d) (renewed (with-code (t .code) d)))
       go true =
           record { code = alike-like a; long = a .long; map = refl; sources = refl; stmts = refl; calls = refl; dead = refl; remap = refl; left = refl }
       go false = renewed-beside d

@@ -130,12 +130,14 @@ rooms-on n v w c l e r =
     (room-on n v 1 (l .kinds) (constantRoom (c .constants) (tallyOf w .folding)) e (r .kinds))
     (r .words)) (r .map)) (r .sources)) (r .dead)) (r .remap)
 
-ready-on : (n : ℕ) (w kinds words : List ℕ) (c : Counts) (l : Lens) → Kept n (count w) (checkOf w) kinds words c l → Roomy w c l → readyOf w kinds words c l ≡ Count n
+ready-on : (n : ℕ) (w kinds words : List ℕ) (c : Counts) (l : Lens) → Kept n (count w) (checkOf w) kinds words c l → Roomy w c l
+    → readyOf w kinds words c l ≡ Count n
 unfolding readyOf
 ready-on n w kinds words c l x r = rooms-on n (tablesOf (checkOf w) (count w) kinds words c l) w c l (tables-on n (count w) (checkOf w) kinds words c l x) r
 
 map-on : (n entries len : ℕ) → (entries ≡ 0) ⊎ (entries ≡ n) → entries ≤ len → mapKept n entries len ≡ true
-map-on n entries len e h = ⊎-elim (λ q. rw (eq-eqb entries 0 q, le-leb entries len h)) (λ q. rw (eq-eqb entries n q, le-leb entries len h) (or-yes (eqb entries 0))) e
+map-on n entries len e h = ⊎-elim (λ q. rw (eq-eqb entries 0 q, le-leb entries len h))
+    (λ q. rw (eq-eqb entries n q, le-leb entries len h) (or-yes (eqb entries 0))) e
   where
     or-yes : (b : Bool) → (b || true) && true ≡ true
     or-yes true = refl
@@ -147,7 +149,8 @@ either false b e = inr e
 
 map-is : (n entries len : ℕ) → mapKept n entries len ≡ true → (entries ≡ 0) ⊎ (entries ≡ n)
 map-is n entries len e =
-    ⊎-elim (λ q. inl (eqb-true entries 0 q)) (λ q. inr (eqb-true entries n q)) (either (eqb entries 0) (eqb entries n) (and-true (eqb entries 0 || eqb entries n) (leb entries len) e .0))
+    ⊎-elim (λ q. inl (eqb-true entries 0 q)) (λ q. inr (eqb-true entries n q))
+    (either (eqb entries 0) (eqb entries n) (and-true (eqb entries 0 || eqb entries n) (leb entries len) e .0))
 
 pairs-on : (words len : ℕ) → words % 2 ≡ 0 → words ≤ len → pairsKept words len ≡ true
 pairs-on words len e h = rw (eq-eqb (words % 2) 0 e, le-leb words len h)
@@ -224,13 +227,19 @@ module _ (strict : Bool) (b : Buffers) (c : Counts) where
 
     fit : Fit before
     fit =
-        fit-of (b .code) (b .kinds) (b .words) (needed b c .map) (needed b c .sources) (needed b c .stmts) (needed b c .calls) (needed b c .dead) (needed b c .remap) c
+        fit-of (b .code) (b .kinds) (b .words) (needed b c .map) (needed b c .sources) (needed b c .stmts) (needed b c .calls) (needed b c .dead)
+        (needed b c .remap) c
         strict (end .code) (end .dead) (end .kinds) (end .words) (end .constants) exact refl
 
     pub lent-clean : Lent clean
     unfolding tallyOf
     lent-clean =
-        record { few = held .constants; marks = omega (arith, marks, length-replicate {A = ℕ} (length (take (count (b .code)) (b .dead))) 0); kinds-room = held .kinds; words-room = held .words }
+        record {
+          few = held .constants;
+          marks = omega (arith, marks, length-replicate {A = ℕ} (length (take (count (b .code)) (b .dead))) 0);
+          kinds-room = held .kinds;
+          words-room = held .words;
+        }
 
     pushed : Pushed clean end
     pushed = rw end-is (all-pushed strict clean)
@@ -288,8 +297,10 @@ module _ (strict : Bool) (b : Buffers) (c : Counts) where
         let s : many (waiting (end .code) (end .dead)) n + end .constants ≤ many (waiting (clean .code) (clean .dead)) n + c .constants =
         rw end-is (all-spent strict clean (lent-clean .marks)) in
         let u : many (waiting (clean .code) (clean .dead)) n ≤ many (λ k. folds (opAt (b .code) k)) n =
-        many-fewer (waiting (clean .code) (clean .dead)) (λ k. folds (opAt (b .code) k)) (λ k h. and-true (folds (opAt (b .code) k)) (alive (clean .dead) k) h .0) n in
-        let v : many (waiting (end .code) (end .dead)) (length (end .dead)) ≡ many (waiting (end .code) (end .dead)) n = ap (many (waiting (end .code) (end .dead))) end-marks in
+        many-fewer (waiting (clean .code) (clean .dead)) (λ k. folds (opAt (b .code) k))
+        (λ k h. and-true (folds (opAt (b .code) k)) (alive (clean .dead) k) h .0) n in
+        let v : many (waiting (end .code) (end .dead)) (length (end .dead)) ≡ many (waiting (end .code) (end .dead)) n = ap
+        (many (waiting (end .code) (end .dead))) end-marks in
         omega (arith, all-settled .operators)
 
     phis-few : many (isPhi short) r ≤ tallyOf (b .code) .phis
@@ -311,29 +322,46 @@ module _ (strict : Bool) (b : Buffers) (c : Counts) where
               (map-on r (after .left .map) (length (after .map ++ drop (count (b .code)) (b .map))) (all-settled .entries)
               (⊎-elim
               (λ z. omega (arith, z))
-              (λ z. omega (arith, z, few, n-is, length-append (after .map) (drop (count (b .code)) (b .map)), all-settled .map, fit .map, end-marks)) (all-settled .entries)));
+              (λ z. omega (arith, z, few, n-is, length-append (after .map) (drop (count (b .code)) (b .map)), all-settled .map, fit .map, end-marks))
+              (all-settled .entries)));
           sources =
               pairs-on (after .left .sources) (length (after .sources ++ drop (sourcesNeeded b c) (b .sources))) (all-settled .even)
               (omega (arith, all-settled .pairs, length-append (after .sources) (drop (sourcesNeeded b c) (b .sources))));
           stmts =
               pairs-on (c .stmts) (length (after .stmts ++ drop (c .stmts) (b .stmts))) (held .stmt-pairs)
-              (omega (arith, all-settled .stmts, length-take-le (c .stmts) (b .stmts) (held .stmts), length-append (after .stmts) (drop (c .stmts) (b .stmts))));
+              (omega (
+                arith,
+                all-settled .stmts,
+                length-take-le (c .stmts) (b .stmts) (held .stmts),
+                length-append (after .stmts)
+                    (drop (c .stmts) (b .stmts)),
+              ));
           calls =
               pairs-on (c .calls) (length (after .calls ++ drop (c .calls) (b .calls))) (held .call-pairs)
-              (omega (arith, all-settled .calls, length-take-le (c .calls) (b .calls) (held .calls), length-append (after .calls) (drop (c .calls) (b .calls))));
+              (omega (
+                arith,
+                all-settled .calls,
+                length-take-le (c .calls) (b .calls) (held .calls),
+                length-append (after .calls)
+                    (drop (c .calls) (b .calls)),
+              ));
         }
 
-    room-of : (len : ℕ) → constantRoom (c .constants) (tallyOf (b .code) .folding) ≤ len → end .constants ≤ len → constantRoom (end .constants) (tallyOf short .folding) ≤ len
+    room-of : (len : ℕ) → constantRoom (c .constants) (tallyOf (b .code) .folding) ≤ len → end .constants ≤ len
+        → constantRoom (end .constants) (tallyOf short .folding) ≤ len
     unfolding tallyOf
-    room-of len h k = let e : many (λ j. folds (opAt short j)) (count short) ≡ many (λ j. folds (opAt short j)) r = ap (many (λ j. folds (opAt short j))) short-count in omega (arith, spent)
+    room-of len h k = let e : many (λ j. folds (opAt short j)) (count short) ≡ many (λ j. folds (opAt short j)) r = ap (many (λ j. folds (opAt short j)))
+        short-count in omega (arith, spent)
 
     phi-room : (len : ℕ) → sourcesNeeded b c ≤ len → after .left .sources ≤ len → sourceRoom (after .left .sources) (tallyOf short .phis) ≤ len
     unfolding tallyOf
-    phi-room len h k = let e : many (isPhi short) (count short) ≡ many (isPhi short) r = ap (many (isPhi short)) short-count in omega (arith, phis-few, all-settled .even)
+    phi-room len h k = let e : many (isPhi short) (count short) ≡ many (isPhi short) r = ap (many (isPhi short)) short-count in omega
+        (arith, phis-few, all-settled .even)
 
     pool-within : (end .constants ≤ length (end .kinds)) × (end .constants ≤ length (end .words))
     pool-within =
-        let w = and-true (within (end .constants) (length (end .kinds)) (length (end .words))) (every (constantKept (end .kinds) (end .words)) (end .constants)) pool-kept .0 in
+        let w = and-true (within (end .constants) (length (end .kinds)) (length (end .words)))
+        (every (constantKept (end .kinds) (end .words)) (end .constants)) pool-kept .0 in
         (kinds-there (end .constants) (length (end .kinds)) (length (end .words)) w, words-there (end .constants) (length (end .kinds)) (length (end .words)) w)
 
     room-left : Roomy short (countsLeft (o .answer) c) (lensOf (cutAt (o .answer) (joined b c o .after)))
@@ -345,12 +373,26 @@ module _ (strict : Bool) (b : Buffers) (c : Counts) where
           map = rw short-count (omega (arith, few, n-is, length-append (after .map) (drop (count (b .code)) (b .map)), all-settled .map, fit .map, end-marks));
           sources =
               phi-room (length (after .sources ++ drop (sourcesNeeded b c) (b .sources)))
-              (omega (arith, all-settled .sources, length-take-le (sourcesNeeded b c) (b .sources) (held .sources), length-append (after .sources) (drop (sourcesNeeded b c) (b .sources))))
+              (omega (
+                arith,
+                all-settled .sources,
+                length-take-le (sourcesNeeded b c) (b .sources) (held .sources),
+                length-append (after .sources)
+                    (drop (sourcesNeeded b c) (b .sources)),
+              ))
               (omega (arith, all-settled .pairs, length-append (after .sources) (drop (sourcesNeeded b c) (b .sources))));
           dead = rw short-count (omega (arith, few, n-is, length-append (after .dead) (drop (count (b .code)) (b .dead)), all-settled .dead, end-marks));
           remap =
               rw short-count
-              (omega (arith, few, n-is, length-append (after .remap) (drop (count (b .code) + 1) (b .remap)), all-settled .remap, length-take-le (count (b .code) + 1) (b .remap) (held .remap)));
+              (omega (
+                arith,
+                few,
+                n-is,
+                length-append (after .remap) (drop (count (b .code) + 1) (b .remap)),
+                all-settled .remap,
+                length-take-le
+                    (count (b .code) + 1) (b .remap) (held .remap),
+              ));
         }
 
     lendable : Lendable (o .answer) c (joined b c o .after)
@@ -377,7 +419,8 @@ module _ (strict : Bool) (b : Buffers) (c : Counts) where
           words = past-held room (b .words) (end .words) (p .words-long) (λ i h. p .words-past i (omega arith));
           map = front-held n (after .map) (b .map) (all-settled .map ∙ length-take-le n (b .map) (held .map)) (held .map);
           sources =
-              front-held (sourcesNeeded b c) (after .sources) (b .sources) (all-settled .sources ∙ length-take-le (sourcesNeeded b c) (b .sources) (held .sources)) (held .sources);
+              front-held (sourcesNeeded b c) (after .sources) (b .sources)
+              (all-settled .sources ∙ length-take-le (sourcesNeeded b c) (b .sources) (held .sources)) (held .sources);
           stmts = front-held (c .stmts) (after .stmts) (b .stmts) (all-settled .stmts ∙ length-take-le (c .stmts) (b .stmts) (held .stmts)) (held .stmts);
           calls = front-held (c .calls) (after .calls) (b .calls) (all-settled .calls ∙ length-take-le (c .calls) (b .calls) (held .calls)) (held .calls);
           dead = front-held n (after .dead) (b .dead) (all-settled .dead ∙ end-marks) (held .dead);
@@ -385,7 +428,8 @@ module _ (strict : Bool) (b : Buffers) (c : Counts) where
         }
 
   -- what holds of the answer holds of any answered call
-  pub by-call : (P : Folded → Buffers → Type 0) → ((m : ℕ) → readyOf (b .code) (b .kinds) (b .words) c (lensOf b) ≡ Count m → P (o .answer) (joined b c o .after))
+  pub by-call : (P : Folded → Buffers → Type 0) → ((m : ℕ) → readyOf (b .code) (b .kinds) (b .words) c (lensOf b) ≡ Count m
+      → P (o .answer) (joined b c o .after))
       → (f : Folded) (a : Buffers) → foldCall strict b c ≡ outcome (Is f) a → P f a
   by-call P h f a e = go (readyOf (b .code) (b .kinds) (b .words) c (lensOf b)) refl
     where

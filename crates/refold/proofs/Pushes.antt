@@ -31,7 +31,8 @@ use Rattle.fold.specs.declared.Plan.{Plan}
 use Rattle.fold.specs.declared.Plan.the-variants.{Stay, Put}
 use Rattle.refold.specs.Pushed.{Pushed}
 
-idle : (s : Chunk) (code dead : List ℕ) → length code ≡ length (s .code) → length dead ≡ length (s .dead) → Pushed s (chunk code dead (s .kinds) (s .words) (s .constants))
+idle : (s : Chunk) (code dead : List ℕ) → length code ≡ length (s .code) → length dead ≡ length (s .dead)
+    → Pushed s (chunk code dead (s .kinds) (s .words) (s .constants))
 idle s code dead lc ld =
     record {
       code-long = lc;
@@ -124,16 +125,20 @@ module _ (p q i : ℕ) (s : Chunk) where
           (settled
           (cond a (stored (At (position (s .kinds) (s .words) m k w) m) (s .kinds) (s .words))
           (cond b (stored (At m (m + 1)) (set (s .kinds) m k) (set (s .words) m w)) (stored Full (s .kinds) (s .words)))))
-      go true b = idle s (put (s .code) p LoadConst (position (s .kinds) (s .words) m k w)) (set (set (s .dead) q 1) i 1) (put-long (s .code) p LoadConst (position (s .kinds) (s .words) m k w)) (length-set (set (s .dead) q 1) i 1 ∙ length-set (s .dead) q 1)
-      go false true = pushed s (put (s .code) p LoadConst m) (set (set (s .dead) q 1) i 1) (put-long (s .code) p LoadConst m) (length-set (set (s .dead) q 1) i 1 ∙ length-set (s .dead) q 1) k w f
+      go true b = idle s (put (s .code) p LoadConst (position (s .kinds) (s .words) m k w)) (set (set (s .dead) q 1) i 1)
+          (put-long (s .code) p LoadConst (position (s .kinds) (s .words) m k w)) (length-set (set (s .dead) q 1) i 1 ∙ length-set (s .dead) q 1)
+      go false true = pushed s (put (s .code) p LoadConst m) (set (set (s .dead) q 1) i 1) (put-long (s .code) p LoadConst m)
+          (length-set (set (s .dead) q 1) i 1 ∙ length-set (s .dead) q 1) k w f
       go false false = same s
 
   put-pushed : (v : Val) → Pushed s (applied (Put p q v) i s)
   unfolding applied landed constLoad findOrPushConst
   put-pushed (Int x) = pool 1 (ofZ w64 x) (λ y. refl)
   put-pushed (Real x) = pool 2 (toBits binary64 x) (λ y. refl)
-  put-pushed (Truth true) = idle s (put (s .code) p LoadTrue 0) (set (set (s .dead) q 1) i 1) (put-long (s .code) p LoadTrue 0) (length-set (set (s .dead) q 1) i 1 ∙ length-set (s .dead) q 1)
-  put-pushed (Truth false) = idle s (put (s .code) p LoadFalse 0) (set (set (s .dead) q 1) i 1) (put-long (s .code) p LoadFalse 0) (length-set (set (s .dead) q 1) i 1 ∙ length-set (s .dead) q 1)
+  put-pushed (Truth true) = idle s (put (s .code) p LoadTrue 0) (set (set (s .dead) q 1) i 1) (put-long (s .code) p LoadTrue 0)
+      (length-set (set (s .dead) q 1) i 1 ∙ length-set (s .dead) q 1)
+  put-pushed (Truth false) = idle s (put (s .code) p LoadFalse 0) (set (set (s .dead) q 1) i 1) (put-long (s .code) p LoadFalse 0)
+      (length-set (set (s .dead) q 1) i 1 ∙ length-set (s .dead) q 1)
 
 by-plan : (plan : Plan) (i : ℕ) (s : Chunk) → Pushed s (applied plan i s)
 unfolding applied

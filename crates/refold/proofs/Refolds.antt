@@ -32,7 +32,7 @@ use Rattle.clear.proofs.Loads.{recoded-count}
 use Rattle.clear.proofs.Room.{clearedChunk}
 use Rattle.clear.proofs.Alike.{SameLoad, Loads, Alike}
 use Rattle.clear.proofs.Refold.{refold, refold-fewer}
-use Rattle.refold.specs.Lendable.{clearedBuffers}
+use Rattle.refold.specs.Lendable.{clearedBuffers, withConstants}
 use Rattle.refold.specs.Refolded.{Refolded, Refolds}
 use Rattle.refold.proofs.Lends.{o, clean, end, before, after, rules, lent-clean, call-answered, joined-answer, by-call}
 use Rattle.refold.proofs.Chain.{folds}
@@ -69,7 +69,8 @@ module _ (strict : Bool) (b : Buffers) (c : Counts) (n : ℕ) (q : readyOf (b .c
   -- the chunk after clearing
   abbrev b′ : Buffers
   b′ =
-      buffers (recoded (number w) m w) (pooled (named w) m (b .kinds)) (pooled (named w) m (b .words)) (b .map) (b .sources) (b .stmts) (b .calls) (b .dead) (b .remap)
+      buffers (recoded (number w) m w) (pooled (named w) m (b .kinds)) (pooled (named w) m (b .words)) (b .map) (b .sources) (b .stmts) (b .calls) (b .dead)
+      (b .remap)
 
   abbrev c′ : Counts
   c′ = countsAfter w c
@@ -138,8 +139,10 @@ module _ (strict : Bool) (b : Buffers) (c : Counts) (n : ℕ) (q : readyOf (b .c
         ops = λ k. sym (x .code k .op);
         marks = λ k. sym (x .code k .mark);
         plain = λ k e. sym (x .code k .plain e);
-        kind = λ k e. ap (λ (z : Chunk). loaded (z .kinds) (z .constants) (u k)) end-second ∙ load-same s t fewer (v k) (u k) (x .code k .load e) (s .kinds) (t .kinds) (λ y. y .kind);
-        word = λ k e. ap (λ (z : Chunk). loaded (z .words) (z .constants) (u k)) end-second ∙ load-same s t fewer (v k) (u k) (x .code k .load e) (s .words) (t .words) (λ y. y .word);
+        kind = λ k e. ap (λ (z : Chunk). loaded (z .kinds) (z .constants) (u k)) end-second
+            ∙ load-same s t fewer (v k) (u k) (x .code k .load e) (s .kinds) (t .kinds) (λ y. y .kind);
+        word = λ k e. ap (λ (z : Chunk). loaded (z .words) (z .constants) (u k)) end-second
+            ∙ load-same s t fewer (v k) (u k) (x .code k .load e) (s .words) (t .words) (λ y. y .word);
       }
 
   module _ (scratch : List ℕ) (room : m ≤ length scratch) where
@@ -156,7 +159,8 @@ module _ (strict : Bool) (b : Buffers) (c : Counts) (n : ℕ) (q : readyOf (b .c
         let y = answered lent m (number w m) (clearing.cleared lent m .after) e in
         let k = held-of lent m (Count n) (sym clear-ready) n refl in
         let z : readyOf (b′ .code) (b′ .kinds) (b′ .words) c′ (lensOf b′) ≡ Count n =
-        rw (pooled-length (named w) m (b .kinds) (k .kinds), pooled-length (named w) m (b .words) (k .words)) (accepted-after n w (b .kinds) (b .words) c (lensOf b) q) in
+        rw (pooled-length (named w) m (b .kinds) (k .kinds), pooled-length (named w) m (b .words) (k .words))
+        (accepted-after n w (b .kinds) (b .words) c (lensOf b) q) in
         record {
           left = number w m;
           cleared = clearing.cleared lent m .after;
@@ -186,22 +190,22 @@ pub accepted-again : (strict : Bool) (b : Buffers) (c : Counts) (f : Folded) (a 
     → (left : ℕ) (x : clearing.Buffers) → left ≡ number (b .code) (c .constants) → x .code ≡ recoded (number (b .code)) (c .constants) (b .code)
     → x .kinds ≡ pooled (named (b .code)) (c .constants) (b .kinds) → x .words ≡ pooled (named (b .code)) (c .constants) (b .words)
     → (strict′ : Bool) → (g : Folded) × (y : Buffers)
-    × (foldCall strict′ (clearedBuffers b x) (record { constants = left; map = c .map; sources = c .sources; stmts = c .stmts; calls = c .calls }) ≡ outcome (Is g) y)
+    × (foldCall strict′ (clearedBuffers b x) (withConstants left c) ≡ outcome (Is g) y)
 accepted-again strict b c f a e left x l code kinds words strict′ =
     by-call strict b c
     (λ _ _. (g : Folded) × (y : Buffers)
-    × (foldCall strict′ (clearedBuffers b x) (record { constants = left; map = c .map; sources = c .sources; stmts = c .stmts; calls = c .calls }) ≡ outcome (Is g) y))
+    × (foldCall strict′ (clearedBuffers b x) (withConstants left c) ≡ outcome (Is g) y))
     (λ n q. by n q) f a e
   where
     by : (n : ℕ) → readyOf (b .code) (b .kinds) (b .words) c (lensOf b) ≡ Count n → (g : Folded) × (y : Buffers)
-        × (foldCall strict′ (clearedBuffers b x) (record { constants = left; map = c .map; sources = c .sources; stmts = c .stmts; calls = c .calls }) ≡ outcome (Is g) y)
+        × (foldCall strict′ (clearedBuffers b x) (withConstants left c) ≡ outcome (Is g) y)
     by n q =
         let w = b .code in
         let m = c .constants in
         let h = rules strict b c n q in
         let d = clearedBuffers b x in
         let i = and-true (within m (length (b .kinds)) (length (b .words))) (every (constantKept (b .kinds) (b .words)) m) (h .constants) .0 in
-        let z : readyOf (d .code) (d .kinds) (d .words) (record { constants = left; map = c .map; sources = c .sources; stmts = c .stmts; calls = c .calls }) (lensOf d) ≡ Count n =
+        let z : readyOf (d .code) (d .kinds) (d .words) (withConstants left c) (lensOf d) ≡ Count n =
         rw (
           code,
           kinds,
@@ -210,4 +214,4 @@ accepted-again strict b c f a e left x l code kinds words strict′ =
           pooled-length (named w) m (b .kinds) (kinds-there m (length (b .kinds)) (length (b .words)) i),
           pooled-length (named w) m (b .words) (words-there m (length (b .kinds)) (length (b .words)) i),
         ) (accepted-after n w (b .kinds) (b .words) c (lensOf b) q) in
-        folds strict′ d (record { constants = left; map = c .map; sources = c .sources; stmts = c .stmts; calls = c .calls }) n z
+        folds strict′ d (withConstants left c) n z

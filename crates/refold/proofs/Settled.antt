@@ -1,4 +1,5 @@
--- What is left of the tables after a fold: counts that keep the table rules, buffers as long as lent, no more Phis and no operator that was dead. Assumes nothing.
+-- What is left of the tables after a fold: counts that keep the table rules, buffers as long as lent, no more Phis, no operator that was dead.
+-- Assumes nothing.
 use Prim.Native.Nat.{ℕ, zero, suc, _+_, _-_, _*_, _%_, _/_, _≤_, _<_}
 use native.Mathlib.Nat.{eq-or-lt-of-le}
 use native.Mathlib.Omega.{arith}
@@ -77,7 +78,8 @@ module _ (g : ℕ → Bool) (dead w : List ℕ) where
           ap (λ (i : ℕ). getD (p ++ (o ∷ m ∷ v ∷ [])) i 0) e ∙ getD-append-add p (o ∷ m ∷ v ∷ []) 0 0
 
       go : (t : Bool) → many (λ i. g (opAt p i)) r ≡ many lived k
-          → many (λ i. g (opAt (p ++ cond t (opAt w k ∷ markAt w k ∷ operandOf dead w k ∷ []) []) i)) (r + boolByte t) ≡ many lived k + boolByte (g (opAt w k) && t)
+          → many (λ i. g (opAt (p ++ cond t (opAt w k ∷ markAt w k ∷ operandOf dead w k ∷ []) []) i)) (r + boolByte t) ≡ many lived k + boolByte
+          (g (opAt w k) && t)
       go false ih =
           let z : r + 0 ≡ r = omega arith in
           ap (many (λ i. g (opAt (p ++ []) i))) z ∙ same [] ih ∙ rw (and-no (g (opAt w k))) (omega arith)
@@ -101,7 +103,8 @@ alive-marked w map sources dead k e = go (ltb k (length dead)) refl (alive dead 
     go true l true q = q
     go true l false q =
         let x : getD dead k 0 ≡ phiMark w map sources dead k = dead-stays w map sources k dead (eqb-false (getD dead k 0) 0 q) in
-        let y : getD (each (λ i. phiMark w map sources dead i ∷ []) (length dead)) k 0 ≡ phiMark w map sources dead k = each-at (phiMark w map sources dead) (length dead) k (ltb-true k (length dead) l) in
+        let y : getD (each (λ i. phiMark w map sources dead i ∷ []) (length dead)) k 0 ≡ phiMark w map sources dead k = each-at (phiMark w map sources dead)
+        (length dead) k (ltb-true k (length dead) l) in
         let z : getD (marked w map sources dead) k 0 ≡ getD dead k 0 = y ∙ sym x in
         sym (ap (λ (v : ℕ). eqb v 0) z) ∙ e
 
@@ -119,7 +122,8 @@ module _ (w map sources dead : List ℕ) where
       let e = length-append (each (pairLeft w map sources dead) n) (pairLeft w map sources dead n) in
       omega (arith, e, some-even n, pair-even n (alive dead n && paired w map sources n))
 
-  pair-few : (k : ℕ) (t : Bool) → (t ≡ true → isPhi w k ≡ true) → length (cond t (firstOf map sources k ∷ secondOf map sources k ∷ []) []) ≤ 2 * boolByte (isPhi w k)
+  pair-few : (k : ℕ) (t : Bool) → (t ≡ true → isPhi w k ≡ true)
+      → length (cond t (firstOf map sources k ∷ secondOf map sources k ∷ []) []) ≤ 2 * boolByte (isPhi w k)
   pair-few k true h = let e = h refl in rw e (omega arith)
   pair-few k false h = omega arith
 
@@ -163,10 +167,12 @@ pub record Settled (t u : Tables) : Type 0 where
   pub dead : length (u .dead) ≡ length (t .dead)
   pub remap : length (u .remap) ≡ length (t .remap)
   pub long : length (u .code) ≡ length (t .code)
-  pub operators : many (λ k. folds (opAt (take (stride * u .left .instructions) (u .code)) k)) (u .left .instructions) ≤ many (waiting (t .code) (t .dead)) (length (t .dead))
+  pub operators : many (λ k. folds (opAt (take (stride * u .left .instructions) (u .code)) k)) (u .left .instructions) ≤ many (waiting (t .code) (t .dead))
+      (length (t .dead))
   pub phis : many (isPhi (take (stride * u .left .instructions) (u .code))) (u .left .instructions) ≤ many (isPhi (t .code)) (length (t .dead))
 
-module _ (t : Tables) (fit : Fit t) (all : t .left .instructions ≡ length (t .dead)) (entries : (t .left .map ≡ 0) ⊎ (t .left .map ≡ length (t .dead))) (even : t .left .sources % 2 ≡ 0) where
+module _ (t : Tables) (fit : Fit t) (all : t .left .instructions ≡ length (t .dead)) (entries : (t .left .map ≡ 0) ⊎ (t .left .map ≡ length (t .dead)))
+    (even : t .left .sources % 2 ≡ 0) where
   abbrev d : List ℕ
   d = marked (t .code) (mapOf t) (sourcesOf t) (t .dead)
 
@@ -258,7 +264,8 @@ module _ (t : Tables) (fit : Fit t) (all : t .left .instructions ≡ length (t .
 
   after-length : length (sourcesAfter (t .code) (mapOf t) (sourcesOf t) d (length (t .sources))) ≡ length l + (length (t .sources) - length l)
   unfolding sourcesAfter
-  after-length = length-append l (replicate (length (t .sources) - length l) 0) ∙ ap (λ (x : ℕ). length l + x) (length-replicate (length (t .sources) - length l) 0)
+  after-length = length-append l (replicate (length (t .sources) - length l) 0)
+      ∙ ap (λ (x : ℕ). length l + x) (length-replicate (length (t .sources) - length l) 0)
 
   phis-of : many (isPhi (t .code)) (length d) ≡ many (isPhi (t .code)) (length (t .dead))
   phis-of = ap (many (isPhi (t .code))) d-long

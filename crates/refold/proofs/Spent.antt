@@ -132,7 +132,8 @@ module _ (n i : ℕ) (s : Chunk) (l : i < n) (c : i < count (s .code)) (d : i < 
         omega (
           arith,
           h .1,
-          many-less (waiting (put (s .code) p o x) (set (set (s .dead) q 1) i 1)) (waiting (s .code) (s .dead)) (λ k. narrower o x k (h .0)) i n l (gone (put (s .code) p o x)) here,
+          many-less (waiting (put (s .code) p o x) (set (set (s .dead) q 1) i 1)) (waiting (s .code) (s .dead)) (λ k. narrower o x k (h .0)) i n l
+              (gone (put (s .code) p o x)) here,
         )
     landed-spent No kinds words h = omega arith
 

@@ -41,8 +41,12 @@ clearable f a scratch = clearing.buffers (take (stride * f .instructions) (a .co
 abbrev pub clearedBuffers : Buffers → clearing.Buffers → Buffers
 clearedBuffers a x = buffers (x .code) (x .kinds) (x .words) (a .map) (a .sources) (a .stmts) (a .calls) (a .dead) (a .remap)
 
+-- the same counts, but of so many constants
+abbrev pub withConstants : ℕ → Counts → Counts
+withConstants left c = record { constants = left; map = c .map; sources = c .sources; stmts = c .stmts; calls = c .calls }
+
 abbrev pub countsCleared : Folded → Counts → ℕ → Counts
-countsCleared f c left = record { constants = left; map = f .map; sources = f .sources; stmts = c .stmts; calls = c .calls }
+countsCleared f c left = withConstants left (countsLeft f c)
 
 -- fold, clear, fold: the second call and the third are answered, whatever the mode
 pub record Chained (f : Folded) (c : Counts) (a : Buffers) (scratch : List ℕ) (strict : Bool) : Type 0 where

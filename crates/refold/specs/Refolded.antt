@@ -13,7 +13,7 @@ use Rattle.clear.specs.Unused.{loaded}
 use Rattle.clear.specs.Clear as clearing
 use Rattle.clear.specs.Clear.{clearCall}
 use Rattle.clear.specs.declared.ClearAnswer.the-variants as clear
-use Rattle.refold.specs.Lendable.{clearedBuffers}
+use Rattle.refold.specs.Lendable.{clearedBuffers, withConstants}
 
 -- two answered folds, f that leaves a and g that leaves y: the same but for where constants stand
 pub record Refolded (f : Folded) (a : Buffers) (g : Folded) (y : Buffers) : Type 0 where
@@ -47,5 +47,6 @@ pub record Refolds (strict : Bool) (b : Buffers) (c : Counts) (f : Folded) (a : 
   pub clears : clearCall (clearing.buffers (b .code) (b .kinds) (b .words) scratch) (c .constants) ≡ clearing.outcome (clear.Is left) cleared
   pub folded : Folded
   pub after : Buffers
-  pub folds : foldCall strict (clearedBuffers b cleared) (record { constants = left; map = c .map; sources = c .sources; stmts = c .stmts; calls = c .calls }) ≡ outcome (Is folded) after
+  pub folds : foldCall strict (clearedBuffers b cleared) (record
+      { constants = left; map = c .map; sources = c .sources; stmts = c .stmts; calls = c .calls }) ≡ outcome (Is folded) after
   pub same : Refolded f a folded after

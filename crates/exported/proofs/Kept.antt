@@ -21,7 +21,7 @@ use Rattle.kept.specs.declared.KeptAnswer.{KeptAnswer}
 use Rattle.kept.specs.declared.KeptAnswer.the-variants.{Is, No}
 use Rattle.kept.proofs.Tests.{accepted-offsets}
 use Rattle.kept.proofs.Passes.{offsets-long}
-use Rattle.kept.proofs.Demand.{left, no-level, demand-3, none-to-spare, kept-each-once}
+use Rattle.kept.proofs.Demand.{left, stands, no-level, demand-3, none-to-spare, kept-each-once}
 use Rattle.kept.proofs.Widths.{totals-one, lists-one, offsets-one}
 use Rattle.turniploom.specs.Answers.{keptTold, KeptTold}
 use Rattle.turniploom.proofs.Alone.{one-kept}
@@ -117,6 +117,8 @@ module _ (w : List ℕ) (regs : ℕ) (tries : List ℕ) (wide : Bool) (b : Lists
         last = row-last wide regs w (a .rows) (r .second) (r .third) found;
         within = rows-regs wide regs w (a .rows) (r .second) (r .third) found;
         few = rows-few wide regs w (a .rows) (r .second) (r .third) found;
+        stands = λ k h.
+            stands w regs tries wide (b .rows) (b .offsets) (b .list) (a .rows) (a .offsets) (a .list) (r .first) (r .second) (r .third) out k h;
         keeps = λ k h e. demand-3 w regs tries wide (b .rows) (b .offsets) (b .list) (a .rows) (a .offsets) (a .list) (r .first) (r .second) (r .third)
             out k h e;
         spare = λ k h e. none-to-spare w regs tries wide (b .rows) (b .offsets) (b .list) (a .rows) (a .offsets) (a .list) (r .first) (r .second) (r .third)

@@ -10,3 +10,4 @@ pub mod Calls
 pub mod Parts
 pub mod Demand
 pub mod Alone
+pub mod Widths

@@ -2,7 +2,7 @@
 use mathlib.Core.Path.{_≡_, ap}
 use mathlib.Core.Bool.{Bool}
 use mathlib.Core.List.{List}
-use Prim.Native.Nat.{ℕ, suc, _<_}
+use Prim.Native.Nat.{ℕ, suc, _+_, _≤_, _<_}
 use native.Mathlib.Omega.{arith}
 use lib.ListN.{take}
 use Rattle.code.specs.Ins.{count}
@@ -10,10 +10,12 @@ use Rattle.code.specs.Answers.{refusedOf}
 use Rattle.code.specs.declared.Answer.{Answer}
 use Rattle.code.specs.declared.Refusal.{Refusal}
 use Rattle.code.specs.declared.Refusal.the-variants.{Length, Record, Registers, Try, Short, Position, Table}
+use Rattle.steps.specs.Code.{jumpsBack}
 use Rattle.kept.specs.Answers.{Outcome}
 use Rattle.kept.specs.declared.KeptAnswer.{KeptAnswer}
 use Rattle.kept.specs.declared.KeptAnswer.the-variants.{Is, No}
 use Rattle.kept.proofs.Widths as widths
+use Rattle.kept.proofs.Counts as counts
 use Rattle.turniploom.specs.Answers.{keptTold, KeptTold}
 
 -- every refusal has a number above 0
@@ -36,6 +38,10 @@ module _ (bits : ℕ) (w : List ℕ) (regs : ℕ) (tries : List ℕ) (wide : Boo
           → Outcome bits w regs tries wide rows offsets list a b c (Is (r .first) (r .second) (r .third))
       go (Is t f g) e out = rw e out
       go (No x) e out = absurd (omega (arith, refused-some x, ap (λ (z : Answer). z .refusal) e))
+
+  -- Wish 5: full sweeps are at most the jumps to their own position or back, and two more; at most one is abandoned
+  pub sweeps-few : (r .second ≤ jumpsBack w + 2) × (r .third ≤ 1)
+  sweeps-few = counts.sweeps-few bits w regs tries wide rows offsets list a b c (r .first) (r .second) (r .third) answered
 
 -- Wish 13: two answers for the same code, registers and tries, of either width, by either route, have the same lists
 module _ (w : List ℕ) (regs : ℕ) (tries : List ℕ) (bits bits′ : ℕ) (wide wide′ : Bool) (rows offsets list rows′ offsets′ list′ : List ℕ)

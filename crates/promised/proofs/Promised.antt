@@ -1,4 +1,5 @@
 -- The one value: every promise, by the theorem that proves it. Assumes nothing.
+use native.Mathlib.Omega.{arith}
 use Rattle.laws.proofs.Mask.{mask-bit}
 use Rattle.flow.proofs.Rows.{least-one}
 use Rattle.callee.proofs.Tracing.{by-step, left-out}
@@ -45,7 +46,8 @@ promised =
       loops = loops-settles;
       dead = dead-settles;
       gen = gen-settles;
-      kept = kept-settles;
+      kept = kept-settles 64 (omega arith);
+      kept32 = kept-settles 32 (omega arith);
       folding = fold-settles;
       clear = clear-settles;
       dead-truth = dead-truth;

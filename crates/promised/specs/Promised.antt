@@ -96,7 +96,9 @@ pub record Promised : Type 0 where
   -- gen_pure settles both its buffers
   pub gen : (w : List ℕ) → Settles (GenCall w) (MarksBeyond w)
   -- kept settles its three buffers; refusal 5 for the list is the one refusal that changes a buffer, the scratch, which then holds the rows
-  pub kept : (w : List ℕ) (regs : ℕ) (tries : List ℕ) (wide : Bool) → KeptSettles w regs tries wide
+  pub kept : (w : List ℕ) (regs : ℕ) (tries : List ℕ) (wide : Bool) → KeptSettles 64 w regs tries wide
+  -- kept32 does the same with words of 32 bits
+  pub kept32 : (w : List ℕ) (regs : ℕ) (tries : List ℕ) (wide : Bool) → KeptSettles 32 w regs tries wide
   -- fold settles its nine buffers
   pub folding : (strict : Bool) (c : Counts) → Settles (FoldCall strict c) (FoldBeyond c)
   -- clear settles its four buffers
@@ -116,11 +118,11 @@ pub record Promised : Type 0 where
   -- ---- liveness, from refusal 0
 
   -- rows are the least solution, few sweeps find them, and each kept list is enough, with nothing idle, nothing to spare and nothing twice
-  pub kept-holds : (w : List ℕ) (regs : ℕ) (tries : List ℕ) (wide : Bool) (b : Lists) (r : Answer) (a : Lists)
-      → KeptCall w regs tries wide b r a → r .refusal ≡ 0 → KeptHolds w regs tries wide r a
-  -- the forced wide route, and whatever is lent, give the same lists and offsets
-  pub routes-same : (w : List ℕ) (regs : ℕ) (tries : List ℕ) (wide wide′ : Bool) (b b′ : Lists) (r r′ : Answer) (a a′ : Lists)
-      → KeptCall w regs tries wide b r a → r .refusal ≡ 0 → KeptCall w regs tries wide′ b′ r′ a′ → r′ .refusal ≡ 0 → SameLists w r r′ a a′
+  pub kept-holds : (bits : ℕ) (w : List ℕ) (regs : ℕ) (tries : List ℕ) (wide : Bool) (b : Lists) (r : Answer) (a : Lists)
+      → KeptCall bits w regs tries wide b r a → r .refusal ≡ 0 → KeptHolds bits w regs tries wide r a
+  -- either width, the forced wide route, and whatever is lent, give the same lists and offsets
+  pub routes-same : (bits bits′ : ℕ) (w : List ℕ) (regs : ℕ) (tries : List ℕ) (wide wide′ : Bool) (b b′ : Lists) (r r′ : Answer) (a a′ : Lists)
+      → KeptCall bits w regs tries wide b r a → r .refusal ≡ 0 → KeptCall bits′ w regs tries wide′ b′ r′ a′ → r′ .refusal ≡ 0 → SameLists w r r′ a a′
   -- row equations have one least solution
   pub least-one : (f : Flow) (start : ℕ) (R S : ℕ → ℕ) → Least f start R → Least f start S → (k : ℕ) → start ≤ k → R k ≡ S k
   -- ---- Python's numbers

@@ -3,7 +3,7 @@
 use mathlib.Core.Path.{_≡_, sym, ap, _∙_}
 use mathlib.Core.Bool.{Bool}
 use mathlib.Core.List.{List}
-use Prim.Native.Nat.{ℕ, _+_}
+use Prim.Native.Nat.{ℕ, _+_, _<_}
 use lib.ListN.{length}
 use Rattle.code.specs.Ins.{count}
 use Rattle.code.specs.Check.{checkOf, insideOf, triedOf, roomOf}
@@ -48,11 +48,11 @@ one-gen w seen todo r r′ a a′ b b′ x y =
     let (e, z, t) = one-answer (roomBoth (checkOf w) w seen todo) (GenPure w) (count w + 1) seen todo (x .told) (y .told) a a′ b b′ (x .allowed) (y .allowed) in
     (by-one truthTold x y e, z, t)
 
--- the scratch is words of 64 bits, as every lent u64 is
-pub one-kept : (w : List ℕ) (regs : ℕ) (tries : List ℕ) (wide : Bool) (rows offsets list : List ℕ) (r r′ : Answer) (a a′ b b′ c c′ : List ℕ) → Small 64 a → Small 64 a′
-    → KeptTold w regs tries wide rows offsets list a b c r → KeptTold w regs tries wide rows offsets list a′ b′ c′ r′ → (r ≡ r′) × (a ≡ a′) × (b ≡ b′) × (c ≡ c′)
-one-kept w regs tries wide rows offsets list r r′ a a′ b b′ c c′ s s′ x y =
-    let (p, q, t, e) = outcome-one w regs tries wide rows offsets list s s′ (x .allowed) (y .allowed) in
+-- the scratch is words of so many bits, as every lent u64 or u32 is
+pub one-kept : (bits : ℕ) → 0 < bits → (w : List ℕ) (regs : ℕ) (tries : List ℕ) (wide : Bool) (rows offsets list : List ℕ) (r r′ : Answer) (a a′ b b′ c c′ : List ℕ) → Small bits a → Small bits a′
+    → KeptTold bits w regs tries wide rows offsets list a b c r → KeptTold bits w regs tries wide rows offsets list a′ b′ c′ r′ → (r ≡ r′) × (a ≡ a′) × (b ≡ b′) × (c ≡ c′)
+one-kept bits some w regs tries wide rows offsets list r r′ a a′ b b′ c c′ s s′ x y =
+    let (p, q, t, e) = outcome-one bits some w regs tries wide rows offsets list s s′ (x .allowed) (y .allowed) in
     (by-one keptTold x y e, p, q, t)
 
 pub one-fold : (strict : Bool) (b : Buffers) (c : Counts) (r r′ : Answer) (a a′ : Buffers) → FoldTold strict b c r a → FoldTold strict b c r′ a′ → (r ≡ r′) × (a ≡ a′)

@@ -110,8 +110,8 @@ abbrev pub keptTold : KeptAnswer → Answer
 keptTold (kept.Is n full abandoned) = answerOf n full abandoned 0
 keptTold (kept.No r) = refusedOf r
 
-abbrev pub KeptTold : List ℕ → ℕ → List ℕ → Bool → List ℕ → List ℕ → List ℕ → List ℕ → List ℕ → List ℕ → Answer → Type 0
-KeptTold w regs tries wide rows offsets list rows′ offsets′ list′ r = By keptTold (λ v. Outcome w regs tries wide rows offsets list rows′ offsets′ list′ v) r
+abbrev pub KeptTold : ℕ → List ℕ → ℕ → List ℕ → Bool → List ℕ → List ℕ → List ℕ → List ℕ → List ℕ → List ℕ → Answer → Type 0
+KeptTold bits w regs tries wide rows offsets list rows′ offsets′ list′ r = By keptTold (λ v. Outcome bits w regs tries wide rows offsets list rows′ offsets′ list′ v) r
 
 -- instructions, constants, phi_map count, phi_sources count
 abbrev pub foldTold : FoldAnswer → Answer

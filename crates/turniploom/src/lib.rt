@@ -248,9 +248,24 @@ pub extern "C" fn turniploom_kept(
     offsets: &mut [u32],
     list: &mut [u16],
 ) -> Answer
-    ensures { λ r. ⌜ KeptTold (now (code .entry)) regs (now (tries .entry)) wide (now (rows .entry)) (now (offsets .entry)) (now (list .entry)) (now (rows .exit)) (now (offsets .exit)) (now (list .exit)) r ⌝ }
+    ensures { λ r. ⌜ KeptTold 64 (now (code .entry)) regs (now (tries .entry)) wide (now (rows .entry)) (now (offsets .entry)) (now (list .entry)) (now (rows .exit)) (now (offsets .exit)) (now (list .exit)) r ⌝ }
 {
     kept_told(kept::kept(code, regs, tries, wide, rows, offsets, list))
+}
+
+#[no_mangle]
+pub extern "C" fn turniploom_kept32(
+    code: &[u16],
+    regs: usize,
+    tries: &[u32],
+    wide: bool,
+    rows: &mut [u32],
+    offsets: &mut [u32],
+    list: &mut [u16],
+) -> Answer
+    ensures { λ r. ⌜ KeptTold 32 (now (code .entry)) regs (now (tries .entry)) wide (now (rows .entry)) (now (offsets .entry)) (now (list .entry)) (now (rows .exit)) (now (offsets .exit)) (now (list .exit)) r ⌝ }
+{
+    kept_told(kept32::kept32(code, regs, tries, wide, rows, offsets, list))
 }
 
 #[no_mangle]

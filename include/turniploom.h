@@ -57,11 +57,11 @@ enum turniploom_refusal {
 
 /* Marks of an instruction: six words, opcode, marks, a, b, c, x. They stand for the Rust's `lower::wide`, `lower::dunder_op` and
  * `is_register`, and answers hang on them: a wide call without its mark seems to resume at its ArgsR, and an opcode that a dunder may run
- * is no level without its mark, so a register that must be kept is lost. turniploom_mark, below, sets them. */
+ * is no level without its mark, so a register that must be kept is lost. turniploom_set_marks, below, sets them. */
 enum turniploom_mark { TURNIPLOOM_WIDE = 1, TURNIPLOOM_DUNDER = 2, TURNIPLOOM_IS_REGISTER = 4 };
 
 /* The marks of a chunk's instruction: three words, opcode, marks, operand. Every LoadConst names a constant; a jump, a Phi and a
- * folding operator never do. A jump without its mark keeps its old target when the code shrinks; turniploom_mark_chunk sets both. */
+ * folding operator never do. A jump without its mark keeps its old target when the code shrinks; turniploom_set_chunk_marks sets both. */
 enum turniploom_chunk_mark { TURNIPLOOM_IS_JUMP = 1, TURNIPLOOM_NAMES_CONSTANT = 2 };
 
 /* The kind of a constant. */
@@ -236,7 +236,7 @@ static inline bool turniploom_is_jump(uint16_t op) {
 
 /* Sets the marks of code as the Rust's tests have them: register by the opcode, wide on one of the four calls right before an ArgsR, and
  * dunder where dunder_op, the host's own test, says so. */
-static inline void turniploom_mark(uint16_t *code, size_t code_len, bool (*dunder_op)(uint16_t op)) {
+static inline void turniploom_set_marks(uint16_t *code, size_t code_len, bool (*dunder_op)(uint16_t op)) {
     size_t k;
     for (k = 0; k + 6 <= code_len; k += 6) {
         uint16_t op = code[k];
@@ -248,7 +248,7 @@ static inline void turniploom_mark(uint16_t *code, size_t code_len, bool (*dunde
 }
 
 /* Sets the marks of a chunk: jump by the opcode, and that a LoadConst names a constant. What other opcodes name is for the host to add. */
-static inline void turniploom_mark_chunk(uint16_t *code, size_t code_len) {
+static inline void turniploom_set_chunk_marks(uint16_t *code, size_t code_len) {
     size_t k;
     for (k = 0; k + 3 <= code_len; k += 3)
         code[k + 1] = turniploom_is_jump(code[k]) ? TURNIPLOOM_IS_JUMP : code[k] == TURNIPLOOM_LoadConst ? TURNIPLOOM_NAMES_CONSTANT : 0;

@@ -31,7 +31,7 @@ static turniploom_answer kept(size_t regs) {
 int main(void) {
     size_t k, r;
     turniploom_answer answer;
-    turniploom_mark(code, sizeof code / sizeof code[0], dunder_op);
+    turniploom_set_marks(code, sizeof code / sizeof code[0], dunder_op);
     answer = kept(REGS);
     if (answer.refusal != 0) return 1;
     printf("turniploom %s: %d kept, in %d full sweeps\n", TURNIPLOOM_VERSION, (int)answer.first, (int)answer.second);

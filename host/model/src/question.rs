@@ -35,9 +35,6 @@ impl Call {
     pub fn stride(self) -> usize { if self.of_a_chunk() { 3 } else { 6 } }
 }
 
-/// Whether a parameter is lent to be written.
-pub fn lent(p: &Param) -> bool { matches!(p.kind, Kind::Buffer(_)) }
-
 /// A number or a slice.
 #[derive(Clone, Debug, PartialEq, Eq)]
 pub enum Arg {
@@ -57,12 +54,12 @@ impl Arg {
 
     /// No number or an empty slice.
     fn none(kind: Kind) -> Arg {
-        match kind {
-            Kind::Slice(Width::U8) | Kind::Buffer(Width::U8) => Arg::U8(vec![]),
-            Kind::Slice(Width::U16) | Kind::Buffer(Width::U16) => Arg::U16(vec![]),
-            Kind::Slice(Width::U32) | Kind::Buffer(Width::U32) => Arg::U32(vec![]),
-            Kind::Slice(Width::U64) | Kind::Buffer(Width::U64) => Arg::U64(vec![]),
-            _ => Arg::N(0),
+        match kind.width() {
+            None => Arg::N(0),
+            Some(Width::U8) => Arg::U8(vec![]),
+            Some(Width::U16) => Arg::U16(vec![]),
+            Some(Width::U32) => Arg::U32(vec![]),
+            Some(Width::U64) => Arg::U64(vec![]),
         }
     }
 
@@ -110,7 +107,7 @@ impl Question {
 
     /// The buffers that are lent to be written, as they are lent.
     pub fn lent(&self) -> Lent {
-        let buffers = self.call.params().iter().zip(&self.args).filter(|(p, _)| lent(p)).map(|(_, a)| a.clone()).collect();
+        let buffers = self.call.params().iter().zip(&self.args).filter(|(p, _)| p.kind.is_lent()).map(|(_, a)| a.clone()).collect();
         Lent { call: self.call, buffers }
     }
 }
@@ -124,7 +121,7 @@ pub struct Lent {
 
 impl Lent {
     pub fn get(&mut self, name: &str) -> &mut Arg {
-        let at = self.call.params().iter().filter(|p| lent(p)).position(|p| p.name == name).unwrap_or_else(|| panic!("no {name}"));
+        let at = self.call.params().iter().filter(|p| p.kind.is_lent()).position(|p| p.name == name).unwrap_or_else(|| panic!("no {name}"));
         &mut self.buffers[at]
     }
     pub fn u8(&mut self, name: &str) -> &mut Vec<u8> { self.get(name).u8() }

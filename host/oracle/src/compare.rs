@@ -2,7 +2,10 @@
 
 use crate::{chunks, original, question::*, questions, rng::Rng, shrink::shrink};
 use listing::notation;
-use std::{collections::BTreeMap, panic::{AssertUnwindSafe, catch_unwind}, sync::{Mutex, atomic::{AtomicUsize, Ordering}}, thread, time::{Duration, Instant}};
+use std::{
+    cell::Cell, collections::BTreeMap, panic::{AssertUnwindSafe, catch_unwind, set_hook, take_hook}, sync::{Mutex, atomic::{AtomicUsize, Ordering}}, thread,
+    time::{Duration, Instant},
+};
 
 /// What a row counts.
 #[derive(Clone, Copy, Default)]
@@ -151,23 +154,25 @@ impl Comparison {
 
     /// Asks all three.
     fn judged(&self, q: &Question) -> Judged {
-        let model = match catch_unwind(|| (self.model)(q)) {
+        let model = match caught(|| (self.model)(q)) {
             Ok(model) => model,
-            Err(e) => return Judged { model: None, rust: false, listed: false, wrong: vec![("the model", panicked(e))] },
+            Err(says) => return Judged { model: None, rust: false, listed: false, wrong: vec![("the model", says)] },
         };
         let (mut rust, mut listed, mut wrong) = (false, false, vec![]);
-        match self.port.map(|port| catch_unwind(|| port(q))) {
+        match self.port.map(|port| caught(|| port(q))) {
             None => {}
             Some(Ok(port)) if port == model => {}
             Some(Ok(port)) => wrong.push(("the port", shown(&port))),
-            Some(Err(e)) => wrong.push(("the port", panicked(e))),
+            Some(Err(says)) => wrong.push(("the port", says)),
         }
-        match catch_unwind(AssertUnwindSafe(|| original::ask(q, &model))) {
+        // The Rust's reply, and whether it differs as it is listed to.
+        let told = |r: Reply| (r != model && original::listed(q, &model, &r).is_some(), r);
+        match caught(|| original::ask(q, &model).map(told)) {
             Ok(None) => {}
-            Ok(Some(r)) if r == model => rust = true,
-            Ok(Some(r)) if original::listed(q, &model, &r).is_some() => (rust, listed) = (true, true),
-            Ok(Some(r)) => wrong.push(("the Rust", shown(&r))),
-            Err(e) => wrong.push(("the Rust", panicked(e))),
+            Ok(Some((true, _))) => (rust, listed) = (true, true),
+            Ok(Some((false, r))) if r == model => rust = true,
+            Ok(Some((false, r))) => wrong.push(("the Rust", shown(&r))),
+            Err(says) => wrong.push(("the Rust", says)),
         }
         Judged { model: Some(model), rust, listed, wrong }
     }
@@ -252,9 +257,26 @@ impl Row {
     }
 }
 
-fn panicked(e: Box<dyn std::any::Any + Send>) -> String {
-    let text = e.downcast_ref::<String>().cloned().or(e.downcast_ref::<&str>().map(|s| s.to_string()));
-    format!("panicked: {}", text.unwrap_or_default())
+thread_local! {
+    /// Whether a panic of this thread is caught, and told with its question.
+    static CAUGHT: Cell<bool> = const { Cell::new(false) };
+}
+
+/// Lets panics that are caught pass in silence; any other is told as ever.
+pub fn quiet() {
+    let hook = take_hook();
+    set_hook(Box::new(move |info| if !CAUGHT.get() { hook(info) }));
+}
+
+/// What a question came to, or what it panicked with.
+fn caught<T>(ask: impl FnOnce() -> T) -> Result<T, String> {
+    CAUGHT.set(true);
+    let found = catch_unwind(AssertUnwindSafe(ask));
+    CAUGHT.set(false);
+    found.map_err(|e| {
+        let text = e.downcast_ref::<String>().cloned().or(e.downcast_ref::<&str>().map(|s| s.to_string()));
+        format!("panicked: {}", text.unwrap_or_default())
+    })
 }
 
 /// The first words of a slice.

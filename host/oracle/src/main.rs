@@ -1,6 +1,6 @@
 //! The command of the comparison.
 
-use oracle::{compare::{Comparison, Until}, hostile, model, port, question::Call, record};
+use oracle::{compare::{self, Comparison, Until}, hostile, model, port, question::Call, record};
 use std::{env, process::ExitCode, thread};
 
 const USE: &str = "oracle [--seed S] [--rounds R | --minutes M] [--threads T]         compare the port with the Rust and the model
@@ -58,8 +58,7 @@ fn run() -> Result<bool, String> {
     let words: Vec<&str> = o.words.iter().map(String::as_str).collect();
     let calls: Vec<Call> = if o.calls.is_empty() { Call::ALL.to_vec() } else { o.calls.clone() };
     let compared = |alone: bool, constants: bool| {
-        // A panic is told with its question.
-        std::panic::set_hook(Box::new(|_| {}));
+        compare::quiet();
         let comparison = Comparison::of((!alone).then_some(port::ask), model::ask, &calls);
         let report = if constants {
             comparison.constants(o.threads);

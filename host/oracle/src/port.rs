@@ -1,6 +1,6 @@
 //! Asks the port, through the safe crate's table of calls, with every slice that it is lent in a house of our choice.
 
-use crate::{house::{self, House, Room}, question::{self, Arg, Lent, Question, Reply}};
+use crate::{house::{self, House, Room}, question::{Arg, Lent, Question, Reply}};
 use turniploom::abi;
 
 /// An argument in its place.
@@ -56,7 +56,7 @@ pub fn ask_in<H: House>(house: &mut H, q: &Question) -> Reply {
     let mut buffers = vec![];
     for ((p, before), room) in q.call.params().iter().zip(&q.args).zip(rooms) {
         let after = room.open();
-        if question::lent(p) { buffers.push(after) } else { assert!(after == *before, "{} was written", p.name) }
+        if p.kind.is_lent() { buffers.push(after) } else { assert!(after == *before, "{} was written", p.name) }
     }
     Reply { answer, lent: Lent { call: q.call, buffers } }
 }

@@ -79,12 +79,11 @@ fn place(rng: &mut Rng, call: Call, code: &[Ins], n: usize) -> u64 {
 
 /// A buffer of that kind, mostly long enough.
 fn buffer(rng: &mut Rng, kind: Kind, needed: usize) -> Arg {
-    match kind {
-        Kind::Buffer(Width::U8) => Arg::U8(lend(rng, needed)),
-        Kind::Buffer(Width::U16) => Arg::U16(lend(rng, needed)),
-        Kind::Buffer(Width::U32) => Arg::U32(lend(rng, needed)),
-        Kind::Buffer(Width::U64) => Arg::U64(lend(rng, needed)),
-        other => panic!("{other:?} is no buffer"),
+    match kind.width().expect("a buffer") {
+        Width::U8 => Arg::U8(lend(rng, needed)),
+        Width::U16 => Arg::U16(lend(rng, needed)),
+        Width::U32 => Arg::U32(lend(rng, needed)),
+        Width::U64 => Arg::U64(lend(rng, needed)),
     }
 }
 

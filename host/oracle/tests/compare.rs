@@ -1,10 +1,13 @@
 //! The comparison cannot pass by accident: a wrong model or port is told with its question, and so is what was left out.
 
-use oracle::{chunks, compare::{Comparison, Until}, model, original, port, question::*};
+use oracle::{chunks, compare::{self, Comparison, Until}, model, original, port, question::*};
+use std::sync::Once;
+
+static QUIET: Once = Once::new();
 
 /// What a short run over these calls says.
 fn compared(port: Option<fn(&Question) -> Reply>, model: fn(&Question) -> Reply, calls: &[Call], rounds: u64) -> (bool, String) {
-    std::panic::set_hook(Box::new(|_| {}));
+    QUIET.call_once(compare::quiet);
     let comparison = Comparison::of(port, model, calls);
     comparison.run(1, Until::Rounds(rounds), 2);
     let report = comparison.report();

@@ -67,12 +67,32 @@ pub enum Kind {
     U8,
     /// A number of 16 bits.
     U16,
+    /// A number of 64 bits.
+    U64,
     /// A number as wide as a pointer.
     Size,
     /// A slice that is read.
     Slice(Width),
     /// A slice that is lent to be written.
     Buffer(Width),
+    /// So many words of 64 bits that are read; C passes one pointer.
+    Array(usize),
+    /// So many words of 64 bits that are lent to be written; C passes one pointer.
+    ArrayBuffer(usize),
+}
+
+impl Kind {
+    /// Whether the parameter is lent to be written.
+    pub const fn is_lent(self) -> bool { matches!(self, Kind::Buffer(_) | Kind::ArrayBuffer(_)) }
+
+    /// The width of the elements, unless it is a number.
+    pub const fn width(self) -> Option<Width> {
+        match self {
+            Kind::Slice(width) | Kind::Buffer(width) => Some(width),
+            Kind::Array(_) | Kind::ArrayBuffer(_) => Some(Width::U64),
+            _ => None,
+        }
+    }
 }
 
 /// The width of a slice's elements.
@@ -125,6 +145,7 @@ numbers! {
     bool, Bool, v => v != 0;
     u8, U8, v => v.try_into().expect("a number of 8 bits");
     u16, U16, v => v.try_into().expect("a number of 16 bits");
+    u64, U64, v => v;
     usize, Size, v => v.try_into().expect("a number as wide as a pointer");
 }
 
@@ -147,8 +168,25 @@ macro_rules! slices {
 
 slices! { u8, U8; u16, U16; u32, U32; u64, U64; }
 
-/// A call: the extern function takes each slice as a pointer and a length, and anything else as it is.
+impl<'a, const N: usize> Taken<'a> for &'a mut [u64; N] {
+    const KIND: Kind = Kind::ArrayBuffer(N);
+    fn taken(arg: &'a mut Arg<'_>) -> &'a mut [u64; N] { <&mut [u64]>::taken(arg).try_into().expect("as many words as the array has") }
+}
+
+impl<'a, const N: usize> Taken<'a> for &'a [u64; N] {
+    const KIND: Kind = Kind::Array(N);
+    fn taken(arg: &'a mut Arg<'_>) -> &'a [u64; N] { <&mut [u64; N]>::taken(arg) }
+}
+
+/// A call: the extern function takes each slice as a pointer and a length, an array as a pointer, and anything else as it is.
 macro_rules! call {
+    ($head:tt $out:tt $c:tt $arg:tt ,) => { call! { $head $out $c $arg } };
+    ($head:tt [$($out:tt)*] [$($c:tt)*] [$($arg:tt)*] $p:ident: &[$t:ty; $n:literal], $($rest:tt)*) => {
+        call! { $head [$($out)* $p: &[$t; $n],] [$($c)* _: *const $t,] [$($arg)* $p.as_ptr(),] $($rest)* }
+    };
+    ($head:tt [$($out:tt)*] [$($c:tt)*] [$($arg:tt)*] $p:ident: &mut [$t:ty; $n:literal], $($rest:tt)*) => {
+        call! { $head [$($out)* $p: &mut [$t; $n],] [$($c)* _: *mut $t,] [$($arg)* $p.as_mut_ptr(),] $($rest)* }
+    };
     ($head:tt [$($out:tt)*] [$($c:tt)*] [$($arg:tt)*] $p:ident: &[$t:ty], $($rest:tt)*) => {
         call! { $head [$($out)* $p: &[$t],] [$($c)* _: *const $t, _: usize,] [$($arg)* $p.as_ptr(), $p.len(),] $($rest)* }
     };
@@ -201,3 +239,36 @@ macro_rules! calls {
 }
 
 include!("table.rs");
+
+/// A call of every kind of parameter, in place of the archive's.
+#[cfg(test)]
+mod tests {
+    use super::*;
+
+    #[unsafe(no_mangle)]
+    extern "C" fn turniploom_trial(head: *mut u64, file: *const u64, code: *const u16, length: usize, value: u64, all: bool) -> Answer {
+        // SAFETY: the test passes an array of 2, one of 3 and a slice.
+        let (head, file, code) = unsafe { (&mut *head.cast::<[u64; 2]>(), &*file.cast::<[u64; 3]>(), core::slice::from_raw_parts(code, length)) };
+        head[1] = file[2] + u64::from(code[1]);
+        Answer { refusal: 0, first: value, second: length as u64, third: all.into(), fourth: 0 }
+    }
+
+    #[unsafe(no_mangle)]
+    extern "C" fn turniploom_trifle() -> Answer { Answer { first: 7, ..Answer::default() } }
+
+    call! { [trifle] [] [] [] , }
+    call! { [trial] [] [] [] head: &mut [u64; 2], file: &[u64; 3], code: &[u16], value: u64, all: bool, }
+
+    #[test]
+    fn every_kind_of_parameter() {
+        let entry = entry! { trial [] [head: &mut [u64; 2], file: &[u64; 3], code: &[u16], value: u64, all: bool] [] };
+        let kinds = [Kind::ArrayBuffer(2), Kind::Array(3), Kind::Slice(Width::U16), Kind::U64, Kind::Bool];
+        assert!(entry.params.iter().map(|p| p.kind).eq(kinds) && kinds.map(Kind::is_lent) == [true, false, false, false, false]);
+        let (mut head, mut file, mut code) = ([1, 2], [3, 4, 5], [6, 7]);
+        let mut args = [Arg::U64(&mut head), Arg::U64(&mut file), Arg::U16(&mut code), Arg::Number(u64::MAX), Arg::Number(1)];
+        let answer = (entry.ask)(&mut args);
+        assert_eq!((answer.first, answer.second, answer.third, head), (u64::MAX, 2, 1, [1, 12]));
+        let none = entry! { trifle [] [] [] };
+        assert_eq!((none.params, (none.ask)(&mut []).first), (&[][..], 7));
+    }
+}

@@ -41,7 +41,8 @@ fn without_rt(folder: &Folder) -> OsString {
         if !dir.join("rt").exists() { return dir }
         let links = folder.join(format!("path-{k}"));
         if fs::create_dir(&links).is_ok() {
-            for file in fs::read_dir(&dir).unwrap().map(|f| f.unwrap()).filter(|f| f.file_name() != "rt") { symlink(file.path(), links.join(file.file_name())).unwrap() }
+            let others = fs::read_dir(&dir).unwrap().map(|f| f.unwrap()).filter(|f| f.file_name() != "rt");
+            for file in others { symlink(file.path(), links.join(file.file_name())).unwrap() }
         }
         links
     };

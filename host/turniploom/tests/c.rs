@@ -87,7 +87,7 @@ fn the_archive_leans_on_nothing() {
     assert!(undefined.iter().all(|s| defined(s)), "{undefined:?}");
 }
 
-/// A parameter as C has it: a slice is a pointer and a length.
+/// A parameter as C has it: a slice is a pointer and a length, an array a pointer.
 fn parameter(p: &Param) -> String {
     let word = |w: Width| ["uint8_t", "uint16_t", "uint32_t", "uint64_t"][w as usize];
     let name = p.name;
@@ -97,6 +97,9 @@ fn parameter(p: &Param) -> String {
         Kind::U16 => format!("uint16_t {name}"),
         Kind::Slice(w) => format!("const {} *{name}, size_t {name}_len", word(w)),
         Kind::Buffer(w) => format!("{} *{name}, size_t {name}_len", word(w)),
+        Kind::Array(_) => format!("const uint64_t *{name}"),
+        Kind::ArrayBuffer(_) => format!("uint64_t *{name}"),
+        Kind::U64 => format!("uint64_t {name}"),
         _ => format!("size_t {name}"),
     }
 }
@@ -125,7 +128,7 @@ fn declared(call: &Call) -> String {
     let mut text = wrapped("/* ", " * ", words(&call.says.concat()));
     if !answer.is_empty() { text += &format!("\n{}.", wrapped(" * ", " * ", words(&answer.join("; ")))) }
     let head = format!("turniploom_answer turniploom_{}(", call.name);
-    let params = call.params.iter().map(parameter).collect::<Vec<_>>().join(", ") + ");";
+    let params = if call.params.is_empty() { "void".into() } else { call.params.iter().map(parameter).collect::<Vec<_>>().join(", ") } + ");";
     // A parameter is not broken over lines.
     let params: Vec<String> = params.split_inclusive(", ").map(|p| p.trim().to_string()).collect();
     format!("{text} */\n{}\n", wrapped(&head, &" ".repeat(head.len()), params.into_iter()))

@@ -65,3 +65,13 @@ fn instructions_are_shown_by_name() {
     assert_eq!(format!("{:?}", Instruction::new(LoadConst, 3)), "Instruction { opcode: LoadConst, marks: 2, operand: 3 }");
     assert_eq!(format!("{:?} {:?} {}", Op(191), Op::OTHER, AddR), "Op191 Other AddR");
 }
+
+/// Who reads how to use it reads that answers hang on the marks.
+#[test]
+fn it_is_said_where_it_is_read() {
+    let [readme, header, buffers] = [include_str!("../../../README.md"), include_str!("../../../include/turniploom.h"), include_str!("../../../docs/BUFFERS.md")];
+    for text in [readme, header, buffers, include_str!("../src/lib.rs")] {
+        let words: Vec<&str> = text.split(|c: char| !c.is_alphanumeric()).filter(|w| !w.is_empty()).collect();
+        assert!(words.windows(4).any(|w| w[0].eq_ignore_ascii_case("answers") && w[1..3] == ["hang", "on"] && ["the", "them"].contains(&w[3])));
+    }
+}

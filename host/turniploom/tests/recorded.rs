@@ -28,14 +28,14 @@ impl Numbers<'_> {
     }
 
     fn lent(&mut self, kind: Kind) -> Read<Lent> {
-        Ok(match kind {
-            Kind::Bool | Kind::U8 => Lent::Number(self.one::<u8>()?.into()),
-            Kind::U16 => Lent::Number(self.one::<u16>()?.into()),
-            Kind::Slice(Width::U8) | Kind::Buffer(Width::U8) => Lent::U8(self.slice()?),
-            Kind::Slice(Width::U16) | Kind::Buffer(Width::U16) => Lent::U16(self.slice()?),
-            Kind::Slice(Width::U32) | Kind::Buffer(Width::U32) => Lent::U32(self.slice()?),
-            Kind::Slice(Width::U64) | Kind::Buffer(Width::U64) => Lent::U64(self.slice()?),
-            _ => Lent::Number(self.one()?),
+        Ok(match (kind, kind.width()) {
+            (Kind::Bool | Kind::U8, _) => Lent::Number(self.one::<u8>()?.into()),
+            (Kind::U16, _) => Lent::Number(self.one::<u16>()?.into()),
+            (_, None) => Lent::Number(self.one()?),
+            (_, Some(Width::U8)) => Lent::U8(self.slice()?),
+            (_, Some(Width::U16)) => Lent::U16(self.slice()?),
+            (_, Some(Width::U32)) => Lent::U32(self.slice()?),
+            (_, Some(Width::U64)) => Lent::U64(self.slice()?),
         })
     }
 }
@@ -78,7 +78,7 @@ fn asked(call: usize, r: &mut Numbers) -> Read<(Answer, Vec<u64>)> {
     let Some(entry) = CALLS.get(call.wrapping_sub(1)) else { return Err(format!("no call has the number {call}")) };
     let mut lent: Vec<Lent> = entry.params.iter().map(|p| r.lent(p.kind)).collect::<Read<_>>()?;
     let answer = (entry.ask)(&mut lent.iter_mut().map(Lent::arg).collect::<Vec<_>>());
-    let written = entry.params.iter().zip(&lent).filter(|(p, _)| matches!(p.kind, Kind::Buffer(_)));
+    let written = entry.params.iter().zip(&lent).filter(|(p, _)| p.kind.is_lent());
     Ok((answer, written.flat_map(|(_, l)| l.numbers()).collect()))
 }
 

@@ -26,14 +26,14 @@ static void marks(void) {
     uint16_t list[4], op, one[6] = {0}, chunk[3] = {0};
     turniploom_answer kept = turniploom_kept(code, 30, 10, no_tries, 0, false, rows, 6, offsets, 6, list, 4);
     SHOW(kept.first == 2 && list[0] == 4 && list[1] == 5);
-    turniploom_mark(code, 30, no_dunder);
+    turniploom_set_marks(code, 30, no_dunder);
     SHOW(code[1] == (TURNIPLOOM_WIDE | TURNIPLOOM_IS_REGISTER));
     kept = turniploom_kept(code, 30, 10, no_tries, 0, false, rows, 6, offsets, 6, list, 4);
     SHOW(kept.first == 1 && list[0] == 9);
     for (op = 0; op <= 191; op++) {
         one[0] = chunk[0] = op;
-        turniploom_mark(one, 6, get_item);
-        turniploom_mark_chunk(chunk, 3);
+        turniploom_set_marks(one, 6, get_item);
+        turniploom_set_chunk_marks(chunk, 3);
         printf("%d %d %d\n", op, one[1], chunk[1]);
     }
 }
@@ -62,7 +62,7 @@ static void room(void) {
     uint32_t phi_map[TURNIPLOOM_MARKS_LEN(4)] = {0}, remap[TURNIPLOOM_ENDS_LEN(4)], none[1] = {0};
     uint16_t sources[TURNIPLOOM_PHI_SOURCES_LEN(4, 2)] = {1, 2};
     turniploom_answer a;
-    turniploom_mark_chunk(code, 12);
+    turniploom_set_chunk_marks(code, 12);
     a = turniploom_fold(code, 12, kinds, 5, words, 5, 1, phi_map, 4, 4, sources, TURNIPLOOM_PHI_SOURCES_LEN(4, 2), 2, none, 0, 0, none, 0, 0, dead, 4,
                         remap, TURNIPLOOM_ENDS_LEN(4), false);
     SHOW(a.refusal == 0 && a.first == 3 && a.second == 2 && words[1] == (uint64_t)-7);

@@ -16,7 +16,7 @@ use Rattle.clear.specs.declared.ClearAnswer.{ClearAnswer}
 use Rattle.clear.specs.declared.ClearAnswer.the-variants.{Is, No}
 use Rattle.clear.proofs.Answers.{refused-call, answered-call, answered, refusal-keeps}
 use Rattle.clear.proofs.Kept.{in-order, onto, pooled-kept, pooled-freed, pooled-past, pooled-length}
-use Rattle.clear.proofs.Loads.{recoded-length, recoded-op, recoded-mark, unmarked-stays, far-stays, loads-same}
+use Rattle.clear.proofs.Loads.{recoded-length, recoded-op, recoded-mark, unmarked-stays, far-stays, near-moves, loads-same}
 use Rattle.clear.proofs.Room.{no-more}
 use Rattle.clear.proofs.Tested.{held-of}
 use Rattle.clear.proofs.Twice.{clear-twice}
@@ -98,6 +98,7 @@ module _ (m : ℕ) (b : Buffers) where
           marks = λ k h. recoded-mark (before w) m w k h;
           plain = λ k h e. unmarked-stays (before w) m w k h e;
           far = λ k h e. far-stays (before w) m w k h e;
+          near = λ k h e l. near-moves (before w) m w k h e l;
           loads-kind = λ k h e. loads-same w (b .kinds) m k h e;
           loads-word = λ k h e. loads-same w (b .words) m k h e;
           scratch = refl;

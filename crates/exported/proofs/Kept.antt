@@ -21,7 +21,7 @@ use Rattle.kept.specs.declared.KeptAnswer.{KeptAnswer}
 use Rattle.kept.specs.declared.KeptAnswer.the-variants.{Is, No}
 use Rattle.kept.proofs.Tests.{accepted-offsets}
 use Rattle.kept.proofs.Passes.{offsets-long}
-use Rattle.kept.proofs.Demand.{left, no-level, demand-3, none-to-spare, kept-each-once}
+use Rattle.kept.proofs.Demand.{left, stands, no-level, demand-3, none-to-spare, kept-each-once}
 use Rattle.kept.proofs.Counts.{sweeps-few}
 use Rattle.kept.proofs.Widths.{totals-one, lists-one, offsets-one}
 use Rattle.turniploom.specs.Answers.{keptTold, KeptTold}
@@ -119,6 +119,8 @@ module _ (bits : ℕ) (w : List ℕ) (regs : ℕ) (tries : List ℕ) (wide : Boo
         within = rows-regs bits wide regs w (a .rows) (r .second) (r .third) found;
         sweeps = sweeps-few bits w regs tries wide (b .rows) (b .offsets) (b .list) (a .rows) (a .offsets) (a .list) (r .first) (r .second) (r .third) out;
         few = rows-few bits wide regs w (a .rows) (r .second) (r .third) found;
+        stands = λ k h.
+            stands bits w regs tries wide (b .rows) (b .offsets) (b .list) (a .rows) (a .offsets) (a .list) (r .first) (r .second) (r .third) out k h;
         keeps = λ k h e. demand-3 bits w regs tries wide (b .rows) (b .offsets) (b .list) (a .rows) (a .offsets) (a .list) (r .first) (r .second) (r .third)
             out k h e;
         spare = λ k h e. none-to-spare bits w regs tries wide (b .rows) (b .offsets) (b .list) (a .rows) (a .offsets) (a .list) (r .first) (r .second) (r .third)

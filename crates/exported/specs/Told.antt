@@ -13,7 +13,7 @@ use Rattle.flow.specs.Demand.{Keeps, Lost, Once}
 use Rattle.steps.specs.Level.{isLevel}
 use Rattle.steps.specs.Code.{flow, jumpsBack}
 use Rattle.rows.specs.Route.{firstOf, rowsIn}
-use Rattle.kept.specs.Level.{levelOf}
+use Rattle.kept.specs.Level.{levelOf, keptAt}
 use Rattle.kept.specs.Lists.{partAt}
 use Rattle.lent.specs.Chunk as chunk
 use Rattle.lent.specs.Chunk.{opAt, markAt, operandAt, names}
@@ -61,6 +61,8 @@ pub record KeptHolds (bits : ℕ) (w : List ℕ) (regs : ℕ) (tries : List ℕ)
   pub few : (r .second ≤ backs (flow regs w) (startAt bits wide regs w) + 2) × (r .third ≤ 1)
   -- and at most the jumps of all the code to their own position or back, plus two
   pub sweeps : (r .second ≤ jumpsBack w + 2) × (r .third ≤ 1)
+  -- from offset k to offset k + 1 stands the kept list of position k, by the rows in the scratch
+  pub stands : (k : ℕ) → k < count w → listLeft a k ≡ keptAt regs w tries (rowsIn bits regs w (a .rows)) k
   -- demand 3: what stands in the lent list at a level is enough, and nothing is kept idly
   pub keeps : (k : ℕ) → k < count w → isLevel (insAt w k) ≡ true → Keeps (flow regs w) (listLeft a k) (levelOf regs w tries k)
   -- drop any register from a list as it stands, and two files that agree on the rest are told apart
@@ -133,6 +135,9 @@ pub record ClearHolds (m : ℕ) (b : clearing.Buffers) (r : Answer) (a : clearin
   pub marks : (k : ℕ) → k < chunk.count (b .code) → markAt (a .code) k ≡ markAt (b .code) k
   pub plain : (k : ℕ) → k < chunk.count (b .code) → names (b .code) k ≡ false → operandAt (a .code) k ≡ operandAt (b .code) k
   pub far : (k : ℕ) → k < chunk.count (b .code) → m ≤ operandAt (b .code) k → operandAt (a .code) k ≡ operandAt (b .code) k
+  -- an operand with the mark, below the count, becomes its constant's new number
+  pub near : (k : ℕ) → k < chunk.count (b .code) → names (b .code) k ≡ true → operandAt (b .code) k < m
+      → operandAt (a .code) k ≡ before (b .code) (operandAt (b .code) k)
   -- an instruction with the mark loads the same kind and word as before, or still none
   pub loads-kind : (k : ℕ) → k < chunk.count (b .code) → names (b .code) k ≡ true
       → loaded (a .kinds) (r .first) (operandAt (a .code) k) ≡ loaded (b .kinds) m (operandAt (b .code) k)

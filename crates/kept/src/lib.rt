@@ -28,9 +28,9 @@ pub enum KeptAnswer {
 }
 
 // Where a level goes on, and the register of its result.
-struct Onward {
-    at: usize,
-    result: usize,
+pub struct Onward {
+    pub at: usize,
+    pub result: usize,
 }
 
 // No register.
@@ -56,7 +56,7 @@ pub fn kept(
 }
 
 // `after`.
-fn after(code: &[u16], k: usize) -> Onward
+pub fn after(code: &[u16], k: usize) -> Onward
     requires { ⌜ Valid (now code) × (k < count (now code)) ⌝ }
     ensures { λ a. ⌜ Goes (now (code .entry)) k (a .at) (a .result) ⌝ }
 {

@@ -11,8 +11,6 @@ use Rattle.code.specs.Ins.{insAt, count}
 use Rattle.code.specs.Check.{checkOf, insideOf}
 use Rattle.code.specs.Answers.{asked, answerOf, refusalOf, refusedOf}
 use Rattle.code.specs.declared.Answer.{Answer}
-use Rattle.code.specs.declared.Refusal.{Refusal}
-use Rattle.code.specs.declared.Refusal.the-variants as refusal
 use Rattle.code.specs.declared.Checked.{Checked}
 use Rattle.code.specs.declared.Checked.the-variants as stage
 use Rattle.code.proofs.Checks.{counted}
@@ -23,9 +21,6 @@ use Rattle.steps.specs.Level.{isLevel}
 use Rattle.steps.specs.Code.{flow}
 use Rattle.kept.specs.Level.{resumeOf, resultAt}
 use Rattle.kept.specs.Lists.{partAt}
-use Rattle.kept.specs.Answers.{Outcome}
-use Rattle.kept.specs.declared.KeptAnswer.{KeptAnswer}
-use Rattle.kept.specs.declared.KeptAnswer.the-variants.{Is, No}
 use Rattle.levels.specs.Answers.{levelTold, levelAnswer}
 use Rattle.saver.specs.Saver.{Saver, Ends, ends, Back, returned, thrown, regsOf, usedOf, freeOf, putIn, entered, enterOf, leaveOf}
 use Rattle.saver.specs.Frames.{fileOf, Sound, Event, Play, Matched, Open, done, enter, write, leave}
@@ -34,31 +29,11 @@ use Rattle.saver.specs.declared.SaverAnswer.{SaverAnswer}
 use Rattle.saver.specs.declared.SaverAnswer.the-variants.{Used, Registers, Listed, Full, Nothing}
 use Rattle.saver.proofs.Resumes.{answers}
 use Rattle.saver.proofs.Open.{none-open, some-open}
-use Rattle.turniploom.specs.Answers.{By, keptTold, KeptTold, EnterTold, LeaveTold}
+use Rattle.turniploom.specs.Answers.{By, KeptTold, EnterTold, LeaveTold}
+use Rattle.turniploom.proofs.Answered.{never-0, kept-answered}
 use Rattle.saved.specs.Calls.{Called}
 use Rattle.saved.specs.Calls as called
 use Rattle.saved.proofs.Saved as saved
-
--- a refusal's number is not 0
-never-0 : (q : Refusal) → refusedOf q .refusal ≢ 0
-never-0 (refusal.Length n) h = omega arith
-never-0 (refusal.Record k) h = omega arith
-never-0 (refusal.Registers n) h = omega arith
-never-0 (refusal.Try i) h = omega arith
-never-0 (refusal.Short b n) h = omega arith
-never-0 (refusal.Position k) h = omega arith
-never-0 (refusal.Table t) h = omega arith
-
--- an exported kept call with refusal 0 is an answer of the call inside
-kept-answered : (w : List ℕ) (regs : ℕ) (tries : List ℕ) (wide : Bool) (rows offsets list new o l : List ℕ) (r : Answer)
-    → KeptTold w regs tries wide rows offsets list new o l r → r .refusal ≡ 0
-    → (t : ℕ) × (f : ℕ) × (g : ℕ) × Outcome w regs tries wide rows offsets list new o l (Is t f g)
-kept-answered w regs tries wide rows offsets list new o l r told h = go (told .told) (told .allowed) (ap (λ (a : Answer). a .refusal) (sym (told .is)) ∙ h)
-  where
-    go : (v : KeptAnswer) → Outcome w regs tries wide rows offsets list new o l v → keptTold v .refusal ≡ 0
-        → (t : ℕ) × (f : ℕ) × (g : ℕ) × Outcome w regs tries wide rows offsets list new o l (Is t f g)
-    go (Is t f g) out z = (t, f, g, out)
-    go (No q) out z = absurd (never-0 q z)
 
 -- a level that was asked for and found: it stands in the code, and the answer has its resume point and its result register
 record Found (w : List ℕ) (k : ℕ) (v : Answer) : Type 0 where

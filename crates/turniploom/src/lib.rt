@@ -8,6 +8,8 @@ ghost use Rattle.turniploom.specs.Answers.{truthTold, kindsTold, roleTol
 ghost use Rattle.optimizer.specs.Fold.{buffers};
 ghost use Rattle.clear.specs.Clear.{buffers as clearable};
 ghost use Rattle.levels.specs.Answers.{levelAnswer};
+ghost use lib.ListN.{length};
+ghost use Rattle.figures.specs.Answers.{reports, addCall, joinCall};
 ghost use Rattle.saver.specs.Saver.{saver as words, returned, thrown};
 ghost use Rattle.turniploom.specs.Answers.{MadeTold, EnterTold, LeaveTold};
 use callee::GlobalAnswer;
@@ -361,4 +363,23 @@ pub extern "C" fn turniploom_saver_exception(
         (words (now (head .exit)) (now (area .entry)) (now (file .exit))) r ⌝ }
 {
     saver::told(saver::leave_by_exception(head, area, file))
+}
+
+#[no_mangle]
+pub extern "C" fn turniploom_figures_add(
+    code: &[u16],
+    offsets: &[u32],
+    list: &[u16],
+    report: &mut [u64; 7],
+) -> Answer
+    ensures { λ r. ⌜ addCall (now (code .entry)) (now (offsets .entry)) (length (now (list .entry))) (now (report .entry)) ≡ reports (now (report .exit)) r ⌝ }
+{
+    figures::add(code, offsets, list, report)
+}
+
+#[no_mangle]
+pub extern "C" fn turniploom_figures_join(later: &[u64; 7], report: &mut [u64; 7]) -> Answer
+    ensures { λ r. ⌜ joinCall (now (later .entry)) (now (report .entry)) ≡ reports (now (report .exit)) r ⌝ }
+{
+    figures::join(later, report)
 }

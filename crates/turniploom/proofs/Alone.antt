@@ -21,7 +21,9 @@ use Rattle.lent.specs.declared.Counts.{Counts}
 use Rattle.optimizer.specs.Fold.{Buffers, Outcome}
 use Rattle.optimizer.specs.declared.FoldAnswer.{FoldAnswer}
 use Rattle.clear.specs.Clear as clearing
-use Rattle.turniploom.specs.Answers.{By, filledTold, truthTold, keptTold, foldTold, TargetsTold, LoopsTold, DeadTold, GenTold, KeptTold, FoldTold, clearTold, ClearTold}
+use Rattle.turniploom.specs.Answers.{By, filledTold, truthTold, keptTold, foldTold, TargetsTold, LoopsTold, DeadTold, GenTold, KeptTold, FoldTold, clearTold, ClearTold, MadeTold, EnterTold, LeaveTold}
+use Rattle.saver.specs.Saver.{Saver, Back, Ends}
+use Rattle.saver.specs.Answers.{saverTold}
 
 -- equal cases are told alike
 by-one : {A : Type 0} (f : A → Answer) {P Q : A → Type 0} {r r′ : Answer} (x : By f P r) (y : By f Q r′) → x .told ≡ y .told → r ≡ r′
@@ -64,3 +66,16 @@ pub one-clear : (b : clearing.Buffers) (m : ℕ) (r r′ : Answer) (a a′ : cle
 one-clear b m r r′ a a′ x y =
     let e = x .allowed ∙ sym (y .allowed) in
     (by-one clearTold x y (ap (λ (o : clearing.Outcome). o .answer) e), ap (λ (o : clearing.Outcome). o .after) e)
+
+pub one-make : (regs : ℕ) (head : List ℕ) (r r′ : Answer) (a a′ : List ℕ) → MadeTold regs head a r → MadeTold regs head a′ r′ → (r ≡ r′) × (a ≡ a′)
+one-make regs head r r′ a a′ x y = (by-one saverTold x y (x .allowed .answer ∙ sym (y .allowed .answer)), x .allowed .words ∙ sym (y .allowed .words))
+
+pub one-enter : (s : Saver) (l : List ℕ) (q : ℕ) (r r′ : Answer) (a a′ : Saver) → EnterTold s l q a r → EnterTold s l q a′ r′ → (r ≡ r′) × (a ≡ a′)
+one-enter s l q r r′ a a′ x y =
+    let e = sym (x .allowed) ∙ y .allowed in
+    (by-one saverTold x y (ap (λ (o : Ends). o .answer) e), ap (λ (o : Ends). o .left) e)
+
+pub one-leave : (s : Saver) (back : Back) (r r′ : Answer) (a a′ : Saver) → LeaveTold s back a r → LeaveTold s back a′ r′ → (r ≡ r′) × (a ≡ a′)
+one-leave s back r r′ a a′ x y =
+    let e = sym (x .allowed) ∙ y .allowed in
+    (by-one saverTold x y (ap (λ (o : Ends). o .answer) e), ap (λ (o : Ends). o .left) e)

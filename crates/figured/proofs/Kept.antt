@@ -37,55 +37,55 @@ use Rattle.turniploom.specs.Answers.{keptTold, KeptTold}
 use Rattle.turniploom.proofs.Answered.{never-0}
 
 -- what an answered call leaves, as the figures read it
-record Lists (w : List ℕ) (regs : ℕ) (tries offsets a b : List ℕ) (total : ℕ) : Type 0 where
+record Lists (bits : ℕ) (w : List ℕ) (regs : ℕ) (tries offsets a b : List ℕ) (total : ℕ) : Type 0 where
   check : checkOf w ≡ stage.Count (count w)
-  begins : b ≡ over (offsetsTo regs w tries (rowsIn regs w a) (suc (count w))) offsets
-  sum : total ≡ length (listsTo regs w tries (rowsIn regs w a) (count w))
+  begins : b ≡ over (offsetsTo regs w tries (rowsIn bits regs w a) (suc (count w))) offsets
+  sum : total ≡ length (listsTo regs w tries (rowsIn bits regs w a) (count w))
 
-past : (w : List ℕ) (regs : ℕ) (tries : List ℕ) (a b n : ℕ) → stagesOf w regs tries a b ≡ stage.Count n → checkOf w ≡ stage.Count n
+past : (bits : ℕ) (w : List ℕ) (regs : ℕ) (tries : List ℕ) (a b n : ℕ) → stagesOf bits w regs tries a b ≡ stage.Count n → checkOf w ≡ stage.Count n
 unfolding stagesOf
-past w regs tries a b n h =
-    let one = room-before n (roomOf (triedOf (registersOf (checkOf w) regs) tries) 1 a (scratchFor regs w)) 2 b (suc (count w)) (sym h) in
-    let two = room-before n (triedOf (registersOf (checkOf w) regs) tries) 1 a (scratchFor regs w) (sym one) in
+past bits w regs tries a b n h =
+    let one = room-before n (roomOf (triedOf (registersOf (checkOf w) regs) tries) 1 a (scratchFor bits regs w)) 2 b (suc (count w)) (sym h) in
+    let two = room-before n (triedOf (registersOf (checkOf w) regs) tries) 1 a (scratchFor bits regs w) (sym one) in
     let three = tries-before n (registersOf (checkOf w) regs) tries (sym two) in
     regs-before n (checkOf w) regs (sym three)
 
-module _ (w : List ℕ) (regs : ℕ) (tries : List ℕ) (wide : Bool) (rows offsets list : List ℕ) where
-  lists : {a b c : List ℕ} {v : KeptAnswer} → Outcome w regs tries wide rows offsets list a b c v → keptTold v .refusal ≡ 0
-      → Lists w regs tries offsets a b (keptTold v .first)
+module _ (bits : ℕ) (w : List ℕ) (regs : ℕ) (tries : List ℕ) (wide : Bool) (rows offsets list : List ℕ) where
+  lists : {a b c : List ℕ} {v : KeptAnswer} → Outcome bits w regs tries wide rows offsets list a b c v → keptTold v .refusal ≡ 0
+      → Lists bits w regs tries offsets a b (keptTold v .first)
   lists (refused {r = q} p) h = absurd (never-0 q h)
   lists (short p q l) h = absurd (omega arith)
-  lists (told p q l) h = record { check = past w regs tries (length rows) (length offsets) (count w) p; begins = refl; sum = refl }
+  lists (told p q l) h = record { check = past bits w regs tries (length rows) (length offsets) (count w) p; begins = refl; sum = refl }
 
-module _ (w : List ℕ) (regs : ℕ) (tries offsets a b : List ℕ) (total : ℕ) (x : Lists w regs tries offsets a b total) where
+module _ (bits : ℕ) (w : List ℕ) (regs : ℕ) (tries offsets a b : List ℕ) (total : ℕ) (x : Lists bits w regs tries offsets a b total) where
   abbrev L : ℕ → List ℕ
-  L = listsTo regs w tries (rowsIn regs w a)
+  L = listsTo regs w tries (rowsIn bits regs w a)
 
   abbrev O : List ℕ
-  O = offsetsTo regs w tries (rowsIn regs w a) (suc (count w))
+  O = offsetsTo regs w tries (rowsIn bits regs w a) (suc (count w))
 
   valid : Valid w
   valid = checked w (count w) (sym (x .check))
 
   at : (j : ℕ) → j ≤ count w → getD b j 0 ≡ length (L j)
   at j h = ap (λ (y : List ℕ). getD y j 0) (x .begins)
-      ∙ List·getD-append O (drop (length O) offsets) 0 j (omega (arith, offsets-long regs w tries (rowsIn regs w a) (suc (count w))))
-      ∙ offset-at regs w tries (rowsIn regs w a) (suc (count w)) j (omega arith)
+      ∙ List·getD-append O (drop (length O) offsets) 0 j (omega (arith, offsets-long regs w tries (rowsIn bits regs w a) (suc (count w))))
+      ∙ offset-at regs w tries (rowsIn bits regs w a) (suc (count w)) j (omega arith)
 
   -- the list of one place more
-  next : (k : ℕ) → length (L (k + 1)) ≡ length (L k) + length (keptAt regs w tries (rowsIn regs w a) k)
+  next : (k : ℕ) → length (L (k + 1)) ≡ length (L k) + length (keptAt regs w tries (rowsIn bits regs w a) k)
   unfolding listsTo
-  next k = ap (λ (n : ℕ). length (L n)) (add-one k) ∙ length-append (L k) (keptAt regs w tries (rowsIn regs w a) k)
+  next k = ap (λ (n : ℕ). length (L n)) (add-one k) ∙ length-append (L k) (keptAt regs w tries (rowsIn bits regs w a) k)
 
-  none : (k : ℕ) → isLevel (insAt w k) ≡ false → length (keptAt regs w tries (rowsIn regs w a) k) ≡ 0
+  none : (k : ℕ) → isLevel (insAt w k) ≡ false → length (keptAt regs w tries (rowsIn bits regs w a) k) ≡ 0
   unfolding keptAt
-  none k e = ap (λ (t : Bool). length (cond t (kept regs (row (rowsIn regs w a)) (levelOf regs w tries k)) [])) e
+  none k e = ap (λ (t : Bool). length (cond t (kept regs (row (rowsIn bits regs w a)) (levelOf regs w tries k)) [])) e
 
   right : Right w b
   unfolding listsTo
   right = record {
     valid = valid;
-    long = omega (arith, ap length (x .begins), length-append O (drop (length O) offsets), offsets-long regs w tries (rowsIn regs w a) (suc (count w)));
+    long = omega (arith, ap length (x .begins), length-append O (drop (length O) offsets), offsets-long regs w tries (rowsIn bits regs w a) (suc (count w)));
     start = at 0 zero-le;
     rise = λ k h. omega (arith, at k (omega arith), at (k + 1) (omega arith), next k);
     idle = λ k h e. omega (arith, at k (omega arith), at (k + 1) (omega arith), next k, none k e);
@@ -117,17 +117,17 @@ sums-only f g = go (ltb (most - f .bodies) (g .bodies)) (ltb (most - f .levels) 
     go false false false false = tt
 
 -- The kept call was answered: with its offsets and so much of its list as it told,
-module _ (w : List ℕ) (regs : ℕ) (tries : List ℕ) (wide : Bool) (rows offsets list new o l : List ℕ) (r : Answer)
-    (answer : KeptTold w regs tries wide rows offsets list new o l r) (answered : r .refusal ≡ 0) where
-  found : Lists w regs tries offsets new o (r .first)
-  found = subst (λ (y : Answer). Lists w regs tries offsets new o (y .first)) (sym (answer .is))
-      (lists w regs tries wide rows offsets list (answer .allowed) (ap (λ (y : Answer). y .refusal) (sym (answer .is)) ∙ answered))
+module _ (bits : ℕ) (w : List ℕ) (regs : ℕ) (tries : List ℕ) (wide : Bool) (rows offsets list new o l : List ℕ) (r : Answer)
+    (answer : KeptTold bits w regs tries wide rows offsets list new o l r) (answered : r .refusal ≡ 0) where
+  found : Lists bits w regs tries offsets new o (r .first)
+  found = subst (λ (y : Answer). Lists bits w regs tries offsets new o (y .first)) (sym (answer .is))
+      (lists bits w regs tries wide rows offsets list (answer .allowed) (ap (λ (y : Answer). y .refusal) (sym (answer .is)) ∙ answered))
 
   -- a body is added, or refused with 13: never with 15, nor with 1, 2 or 5.
   pub kept-added : (old new′ : List ℕ) (a : Answer) → addCall w o (r .first) old ≡ reports new′ a → (a .refusal ≡ 0) ⊎ (a .refusal ≡ 13)
   unfolding addCall addedOf reportedOf
   kept-added old new′ a e = go (sumsOf (figuresIn old) (bodyFigures w o)) (sums-only (figuresIn old) (bodyFigures w o))
-      (ap (addedOf old) (sym (body-fine w regs tries offsets new o (r .first) found)) ∙ e)
+      (ap (addedOf old) (sym (body-fine bits w regs tries offsets new o (r .first) found)) ∙ e)
     where
       go : (v : FiguresAnswer) → Sum v → reportedOf (bodyFigures w o .levels) (bodyFigures w o .kept) old v ≡ reports new′ a → (a .refusal ≡ 0) ⊎ (a .refusal ≡ 13)
       go (Is f) s u = inl (ap (λ (y : Reports). y .answer .refusal) (sym u))

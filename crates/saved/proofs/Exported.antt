@@ -103,8 +103,8 @@ not-nine {s} o back t r x =
     ap (λ (a : Answer). a .refusal) (told-is (leaveOf s back) t r x ∙ ap saverTold e)
 
 -- The kept call was answered, k is a level by the level call, and the saver was made for as many registers.
-module _ (w : List ℕ) (regs : ℕ) (tries : List ℕ) (wide : Bool) (rows offsets list new o l : List ℕ) (r : Answer)
-    (kept : KeptTold w regs tries wide rows offsets list new o l r) (answered : r .refusal ≡ 0)
+module _ (bits : ℕ) (w : List ℕ) (regs : ℕ) (tries : List ℕ) (wide : Bool) (rows offsets list new o l : List ℕ) (r : Answer)
+    (kept : KeptTold bits w regs tries wide rows offsets list new o l r) (answered : r .refusal ≡ 0)
     (k : ℕ) (v : Answer) (asks : v ≡ levelAnswer w k) (heard : v .refusal ≡ 0) (one : v .first ≡ 1)
     (s : Saver) (ok : Sound s) (same : regsOf s ≡ regs) where
   f : Found w k v
@@ -117,9 +117,9 @@ module _ (w : List ℕ) (regs : ℕ) (tries : List ℕ) (wide : Bool) (rows offs
   pub no-room : freeOf (usedOf s) < 2 * length (partAt o l k) + 2 → (t : Saver) (a : Answer) → EnterTold s (partAt o l k) (v .third) t a
       → (a ≡ refusalOf 8 (freeOf (usedOf s)) 0) × (t ≡ s)
   no-room h t a x =
-      let (n, g, b, out) = kept-answered w regs tries wide rows offsets list new o l r kept answered in
+      let (n, g, b, out) = kept-answered bits w regs tries wide rows offsets list new o l r kept answered in
       let e = at (λ q. enterOf s (partAt o l k) q ≡ ends s (Full (freeOf (usedOf s))))
-      (saved.no-room w regs tries wide rows offsets list new o l n g b out k (f .inside) (f .level) s ok same h) in (
+      (saved.no-room bits w regs tries wide rows offsets list new o l n g b out k (f .inside) (f .level) s ok same h) in (
         told-is (enterOf s (partAt o l k) (v .third)) t a x ∙ ap (λ (y : Ends). saverTold (y .answer)) e,
         sym (left-is (enterOf s (partAt o l k) (v .third)) t a x) ∙ ap (λ (y : Ends). y .left) e,
       )
@@ -128,9 +128,9 @@ module _ (w : List ℕ) (regs : ℕ) (tries : List ℕ) (wide : Bool) (rows offs
   pub room : 2 * length (partAt o l k) + 2 ≤ freeOf (usedOf s) → (t : Saver) (a : Answer) → EnterTold s (partAt o l k) (v .third) t a
       → a ≡ answerOf (usedOf s + (2 * length (partAt o l k) + 2)) 0 0 0
   room h t a x =
-      let (n, g, b, out) = kept-answered w regs tries wide rows offsets list new o l r kept answered in
+      let (n, g, b, out) = kept-answered bits w regs tries wide rows offsets list new o l r kept answered in
       let e = at (λ q. enterOf s (partAt o l k) q ≡ ends (entered s (partAt o l k) q) (Used (usedOf s + (2 * length (partAt o l k) + 2))))
-      (saved.room w regs tries wide rows offsets list new o l n g b out k (f .inside) (f .level) s ok same h) in
+      (saved.room bits w regs tries wide rows offsets list new o l n g b out k (f .inside) (f .level) s ok same h) in
       told-is (enterOf s (partAt o l k) (v .third)) t a x ∙ ap (λ (y : Ends). saverTold (y .answer)) e
 
   -- Its kept list is never refused with 14.
@@ -165,18 +165,18 @@ module _ (w : List ℕ) (regs : ℕ) (tries : List ℕ) (wide : Bool) (rows offs
         → Alike (flow regs w) (v .second) (fileOf t′) (putIn regs (v .third) x (fileOf s))
     saved-return x t′ b y =
         let (u, e) = by-call (enterOf s (partAt o l k) (v .third)) s₁ a entry went in
-        let (n, g, c, out) = kept-answered w regs tries wide rows offsets list new o l r kept answered in
+        let (n, g, c, out) = kept-answered bits w regs tries wide rows offsets list new o l r kept answered in
         subst (λ (z : Saver). Alike (flow regs w) (v .second) (fileOf z) (putIn regs (v .third) x (fileOf s))) (left-is (leaveOf t (returned x)) t′ b y)
         (at (λ q. Alike (flow regs w) (v .second) (fileOf (leaveOf t (returned x) .left)) (putIn regs q x (fileOf s)))
         (subst (λ (p : ℕ). Alike (flow regs w) p (fileOf (leaveOf t (returned x) .left)) (putIn regs (resultAt w k) x (fileOf s))) (sym (f .resumes))
         (subst (λ (m : ℕ). Alike (flow regs w) (resumeOf w k) (fileOf (leaveOf t (returned x) .left)) (putIn m (resultAt w k) x (fileOf s))) same
-        (saved.saved-return w regs tries wide rows offsets list new o l n g c out k (f .inside) (f .level) s ok same u (to u e) es bracketed t from x))))
+        (saved.saved-return bits w regs tries wide rows offsets list new o l n g c out k (f .inside) (f .level) s ok same u (to u e) es bracketed t from x))))
 
     -- Left by an exception, it does in every handler of a try around the level as one whose registers nobody touched.
     pub saved-handler : (t′ : Saver) (b : Answer) → LeaveTold t thrown t′ b
         → (h : ℕ) → List·Memᴰ h (handlersOf (count w) k tries) → Alike (flow regs w) h (fileOf t′) (fileOf s)
     saved-handler t′ b y h i =
         let (u, e) = by-call (enterOf s (partAt o l k) (v .third)) s₁ a entry went in
-        let (n, g, c, out) = kept-answered w regs tries wide rows offsets list new o l r kept answered in
+        let (n, g, c, out) = kept-answered bits w regs tries wide rows offsets list new o l r kept answered in
         subst (λ (z : Saver). Alike (flow regs w) h (fileOf z) (fileOf s)) (left-is (leaveOf t thrown) t′ b y)
-        (saved.saved-handler w regs tries wide rows offsets list new o l n g c out k (f .inside) (f .level) s ok same u (to u e) es bracketed t from h i)
+        (saved.saved-handler bits w regs tries wide rows offsets list new o l n g c out k (f .inside) (f .level) s ok same u (to u e) es bracketed t from h i)

@@ -26,14 +26,14 @@ use Rattle.saver.proofs.Listed.{fine-list}
 use Rattle.saver.proofs.Resumes.{alike-return, alike-thrown}
 
 -- the kept-register call answered, and k is a level of the code
-module _ (w : List ℕ) (regs : ℕ) (tries : List ℕ) (wide : Bool) (rows offsets list : List ℕ) (new o l : List ℕ) (total full abandoned : ℕ)
-    (out : Outcome w regs tries wide rows offsets list new o l (Is total full abandoned)) (k : ℕ) (inCode : k < count w) (level : isLevel (insAt w k) ≡ true)
+module _ (bits : ℕ) (w : List ℕ) (regs : ℕ) (tries : List ℕ) (wide : Bool) (rows offsets list : List ℕ) (new o l : List ℕ) (total full abandoned : ℕ)
+    (out : Outcome bits w regs tries wide rows offsets list new o l (Is total full abandoned)) (k : ℕ) (inCode : k < count w) (level : isLevel (insAt w k) ≡ true)
     (s : Saver) (ok : Sound s) (same : regsOf s ≡ regs) where
   -- its list is never refused with 14
   pub list-fine : length (partAt o l k) ≤ firstStrange (regsOf s) (partAt o l k)
   list-fine = fine-list (regsOf s) (partAt o l k)
-      (λ r m. subst (λ (n : ℕ). r < n) (sym same) (demand-3 w regs tries wide rows offsets list new o l total full abandoned out k inCode level .below r m))
-      (kept-each-once w regs tries wide rows offsets list new o l total full abandoned out k inCode level)
+      (λ r m. subst (λ (n : ℕ). r < n) (sym same) (demand-3 bits w regs tries wide rows offsets list new o l total full abandoned out k inCode level .below r m))
+      (kept-each-once bits w regs tries wide rows offsets list new o l total full abandoned out k inCode level)
 
   -- so an entry is refused with 8 where free words are fewer than twice the list plus two ..
   pub no-room : freeOf (usedOf s) < 2 * length (partAt o l k) + 2 → enterOf s (partAt o l k) (resultAt w k) ≡ ends s (Full (freeOf (usedOf s)))
@@ -52,9 +52,9 @@ module _ (w : List ℕ) (regs : ℕ) (tries : List ℕ) (wide : Bool) (rows offs
     -- by a return: the run resumed there visits the same positions and reads the same values as one whose registers nobody touched, save for the result
     pub saved-return : (x : ℕ) → Alike (flow regs w) (resumeOf w k) (fileOf (leaveOf t (returned x) .left)) (putIn (regsOf s) (resultAt w k) x (fileOf s))
     saved-return = alike-return s ok (partAt o l k) (resultAt w k) u entry es bracketed t play (flow regs w) (levelOf regs w tries k)
-        (demand-3 w regs tries wide rows offsets list new o l total full abandoned out k inCode level) (ap (λ (n : ℕ). alone n (resultAt w k)) (sym same))
+        (demand-3 bits w regs tries wide rows offsets list new o l total full abandoned out k inCode level) (ap (λ (n : ℕ). alone n (resultAt w k)) (sym same))
 
     -- by an exception: in every handler of a try around the level likewise
     pub saved-handler : (h : ℕ) → List·Memᴰ h (handlersOf (count w) k tries) → Alike (flow regs w) h (fileOf (leaveOf t thrown .left)) (fileOf s)
     saved-handler = alike-thrown s ok (partAt o l k) (resultAt w k) u entry es bracketed t play (flow regs w) (levelOf regs w tries k)
-        (demand-3 w regs tries wide rows offsets list new o l total full abandoned out k inCode level) (ap (λ (n : ℕ). alone n (resultAt w k)) (sym same))
+        (demand-3 bits w regs tries wide rows offsets list new o l total full abandoned out k inCode level) (ap (λ (n : ℕ). alone n (resultAt w k)) (sym same))

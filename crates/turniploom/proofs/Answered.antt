@@ -25,12 +25,12 @@ never-0 (refusal.Position k) h = omega arith
 never-0 (refusal.Table t) h = omega arith
 
 -- an exported kept call with refusal 0 is an answer of the call inside
-pub kept-answered : (w : List ℕ) (regs : ℕ) (tries : List ℕ) (wide : Bool) (rows offsets list new o l : List ℕ) (r : Answer)
-    → KeptTold w regs tries wide rows offsets list new o l r → r .refusal ≡ 0
-    → (t : ℕ) × (f : ℕ) × (g : ℕ) × Outcome w regs tries wide rows offsets list new o l (Is t f g)
-kept-answered w regs tries wide rows offsets list new o l r told h = go (told .told) (told .allowed) (ap (λ (a : Answer). a .refusal) (sym (told .is)) ∙ h)
+pub kept-answered : (bits : ℕ) (w : List ℕ) (regs : ℕ) (tries : List ℕ) (wide : Bool) (rows offsets list new o l : List ℕ) (r : Answer)
+    → KeptTold bits w regs tries wide rows offsets list new o l r → r .refusal ≡ 0
+    → (t : ℕ) × (f : ℕ) × (g : ℕ) × Outcome bits w regs tries wide rows offsets list new o l (Is t f g)
+kept-answered bits w regs tries wide rows offsets list new o l r told h = go (told .told) (told .allowed) (ap (λ (a : Answer). a .refusal) (sym (told .is)) ∙ h)
   where
-    go : (v : KeptAnswer) → Outcome w regs tries wide rows offsets list new o l v → keptTold v .refusal ≡ 0
-        → (t : ℕ) × (f : ℕ) × (g : ℕ) × Outcome w regs tries wide rows offsets list new o l (Is t f g)
+    go : (v : KeptAnswer) → Outcome bits w regs tries wide rows offsets list new o l v → keptTold v .refusal ≡ 0
+        → (t : ℕ) × (f : ℕ) × (g : ℕ) × Outcome bits w regs tries wide rows offsets list new o l (Is t f g)
     go (Is t f g) out z = (t, f, g, out)
     go (No q) out z = absurd (never-0 q z)

@@ -137,4 +137,4 @@ module _ (bits : ℕ) (w : List ℕ) (regs : ℕ) (tries : List ℕ) (wide : Boo
 
   -- Its kept registers are as many as the kept call told.
   pub kept-total : bodyFigures w o .kept ≡ r .first
-  kept-total = totals w o (r .first) (right w regs tries offsets new o (r .first) found) (ends w regs tries offsets new o (r .first) found)
+  kept-total = totals w o (r .first) (right bits w regs tries offsets new o (r .first) found) (ends bits w regs tries offsets new o (r .first) found)

@@ -3,7 +3,7 @@ use mathlib.Core.Path.{_≡_, refl, sym, ap, _∙_, subst}
 use mathlib.Core.Logic.{_⊎_, inl, inr}
 use mathlib.Core.Bool.{Bool}
 use mathlib.Core.List.{List, _++_}
-use Prim.Native.Nat.{ℕ, suc, _≤_}
+use Prim.Native.Nat.{ℕ, suc, _≤_, _<_}
 use native.Mathlib.Omega.{arith}
 use lib.ListN.{length, drop}
 use Rattle.laws.specs.Table.{Held}
@@ -22,6 +22,7 @@ use Rattle.kept.specs.declared.KeptAnswer.the-variants.{Is, No}
 use Rattle.kept.proofs.Tests.{accepted-offsets}
 use Rattle.kept.proofs.Passes.{offsets-long}
 use Rattle.kept.proofs.Demand.{left, stands, no-level, demand-3, none-to-spare, kept-each-once}
+use Rattle.kept.proofs.Counts.{sweeps-few}
 use Rattle.kept.proofs.Widths.{totals-one, lists-one, offsets-one}
 use Rattle.turniploom.specs.Answers.{keptTold, KeptTold}
 use Rattle.turniploom.proofs.Alone.{one-kept}
@@ -33,120 +34,121 @@ use Rattle.exported.proofs.Writing.{held-same, held-front}
 
 -- ---- one result, and refusals
 
-module _ (w : List ℕ) (regs : ℕ) (tries : List ℕ) (wide : Bool) (rows offsets list : List ℕ) where
-  out-refusal : {a b c : List ℕ} {v : KeptAnswer} → Outcome w regs tries wide rows offsets list a b c v → settles.Refusal (keptTold v)
+module _ (bits : ℕ) (w : List ℕ) (regs : ℕ) (tries : List ℕ) (wide : Bool) (rows offsets list : List ℕ) where
+  out-refusal : {a b c : List ℕ} {v : KeptAnswer} → Outcome bits w regs tries wide rows offsets list a b c v → settles.Refusal (keptTold v)
       → (b ≡ offsets) × (c ≡ list) × ((a ≡ rows) ⊎ ((keptTold v .refusal ≡ 5) × (keptTold v .first ≡ 3)))
   out-refusal (refused p) h = (refl, refl, inl refl)
   out-refusal (short p q l) h = (refl, refl, inr (refl, refl))
   out-refusal (told p q l) h = absurd (h refl)
 
-  out-rows : {a b c : List ℕ} {v : KeptAnswer} → Outcome w regs tries wide rows offsets list a b c v → Held (scratchFor regs w) rows a
-  out-rows (refused p) = held-same (scratchFor regs w) rows rows refl
+  out-rows : {a b c : List ℕ} {v : KeptAnswer} → Outcome bits w regs tries wide rows offsets list a b c v → Held (scratchFor bits regs w) rows a
+  out-rows (refused p) = held-same (scratchFor bits regs w) rows rows refl
   out-rows (short p q l) = record { same = q .long; tail = q .past }
   out-rows (told p q l) = record { same = q .long; tail = q .past }
 
   over-held : (m : ℕ) (l old : List ℕ) → length l ≡ m → m ≤ length old → Held m old (over l old)
   over-held m l old e h = let z : drop (length l) old ≡ drop m old = ap (λ (x : ℕ). drop x old) e in rw z (held-front m l old e h)
 
-  out-offsets : {a b c : List ℕ} {v : KeptAnswer} → Outcome w regs tries wide rows offsets list a b c v → Held (suc (count w)) offsets b
+  out-offsets : {a b c : List ℕ} {v : KeptAnswer} → Outcome bits w regs tries wide rows offsets list a b c v → Held (suc (count w)) offsets b
   out-offsets (refused p) = held-same (suc (count w)) offsets offsets refl
   out-offsets (short p q l) = held-same (suc (count w)) offsets offsets refl
   out-offsets (told {new = new} p q l) =
-      over-held (suc (count w)) (offsetsTo regs w tries (rowsIn regs w new) (suc (count w))) offsets
-      (offsets-long regs w tries (rowsIn regs w new) (suc (count w)))
-      (accepted-offsets w regs tries (length rows) (length offsets) (count w) p)
+      over-held (suc (count w)) (offsetsTo regs w tries (rowsIn bits regs w new) (suc (count w))) offsets
+      (offsets-long regs w tries (rowsIn bits regs w new) (suc (count w)))
+      (accepted-offsets bits w regs tries (length rows) (length offsets) (count w) p)
 
-  out-list : {a b c : List ℕ} {v : KeptAnswer} → Outcome w regs tries wide rows offsets list a b c v → keptTold v .refusal ≡ 0 → Held (keptTold v .first) list c
+  out-list : {a b c : List ℕ} {v : KeptAnswer} → Outcome bits w regs tries wide rows offsets list a b c v → keptTold v .refusal ≡ 0 → Held (keptTold v .first) list c
   out-list (refused {r = r} p) e = absurd (refused-not r e)
   out-list (short p q l) e = absurd (omega arith)
   out-list (told {new = new} p q l) e =
-      over-held (length (listsTo regs w tries (rowsIn regs w new) (count w))) (listsTo regs w tries (rowsIn regs w new) (count w)) list refl l
+      over-held (length (listsTo regs w tries (rowsIn bits regs w new) (count w))) (listsTo regs w tries (rowsIn bits regs w new) (count w)) list refl l
 
 all-three : {a a′ b b′ c c′ : List ℕ} → a ≡ a′ → b ≡ b′ → c ≡ c′
     → _≡_ {A = Lists} (record { rows = a; offsets = b; list = c }) (record { rows = a′; offsets = b′; list = c′ })
 all-three e f g = rw (e, f, g)
 
-pub kept-settles : (w : List ℕ) (regs : ℕ) (tries : List ℕ) (wide : Bool) → KeptSettles w regs tries wide
-kept-settles w regs tries wide =
+pub kept-settles : (bits : ℕ) (some : 0 < bits) (w : List ℕ) (regs : ℕ) (tries : List ℕ) (wide : Bool) → KeptSettles bits w regs tries wide
+kept-settles bits some w regs tries wide =
     record {
       one = λ b r r′ a a′ x y.
-          let (e, p, q, t) = one-kept w regs tries wide (b .rows) (b .offsets) (b .list) r r′ (a .rows) (a′ .rows) (a .offsets) (a′ .offsets) (a .list)
+          let (e, p, q, t) = one-kept bits some w regs tries wide (b .rows) (b .offsets) (b .list) r r′ (a .rows) (a′ .rows) (a .offsets) (a′ .offsets) (a .list)
           (a′ .list) (x .words) (y .words) (x .told) (y .told) in
           (e, all-three p q t);
       refusal = λ b r a x h.
           subst (λ (v : Answer). settles.Refusal v → (a .offsets ≡ b .offsets) × (a .list ≡ b .list)
           × ((a .rows ≡ b .rows) ⊎ ((v .refusal ≡ 5) × (v .first ≡ 3))))
-          (sym (x .told .is)) (out-refusal w regs tries wide (b .rows) (b .offsets) (b .list) (x .told .allowed)) h;
-      rows-beyond = λ b r a x. out-rows w regs tries wide (b .rows) (b .offsets) (b .list) (x .told .allowed);
-      offsets-beyond = λ b r a x. out-offsets w regs tries wide (b .rows) (b .offsets) (b .list) (x .told .allowed);
+          (sym (x .told .is)) (out-refusal bits w regs tries wide (b .rows) (b .offsets) (b .list) (x .told .allowed)) h;
+      rows-beyond = λ b r a x. out-rows bits w regs tries wide (b .rows) (b .offsets) (b .list) (x .told .allowed);
+      offsets-beyond = λ b r a x. out-offsets bits w regs tries wide (b .rows) (b .offsets) (b .list) (x .told .allowed);
       list-beyond = λ b r a x e.
           subst (λ (v : Answer). v .refusal ≡ 0 → Held (v .first) (b .list) (a .list)) (sym (x .told .is))
-          (out-list w regs tries wide (b .rows) (b .offsets) (b .list) (x .told .allowed)) e;
+          (out-list bits w regs tries wide (b .rows) (b .offsets) (b .list) (x .told .allowed)) e;
     }
 
 -- ---- an answer
 
 -- the case that it tells
-record Told (w : List ℕ) (regs : ℕ) (tries : List ℕ) (wide : Bool) (b : Lists) (r : Answer) (a : Lists) : Type 0 where
-  out : Outcome w regs tries wide (b .rows) (b .offsets) (b .list) (a .rows) (a .offsets) (a .list) (Is (r .first) (r .second) (r .third))
+record Told (bits : ℕ) (w : List ℕ) (regs : ℕ) (tries : List ℕ) (wide : Bool) (b : Lists) (r : Answer) (a : Lists) : Type 0 where
+  out : Outcome bits w regs tries wide (b .rows) (b .offsets) (b .list) (a .rows) (a .offsets) (a .list) (Is (r .first) (r .second) (r .third))
 
-told-of : (w : List ℕ) (regs : ℕ) (tries : List ℕ) (wide : Bool) (b : Lists) (r : Answer) (a : Lists) → KeptCall w regs tries wide b r a → r .refusal ≡ 0
-    → Told w regs tries wide b r a
-told-of w regs tries wide b r a x z = go (x .told .told) (x .told .is) (x .told .allowed)
+told-of : (bits : ℕ) (w : List ℕ) (regs : ℕ) (tries : List ℕ) (wide : Bool) (b : Lists) (r : Answer) (a : Lists) → KeptCall bits w regs tries wide b r a → r .refusal ≡ 0
+    → Told bits w regs tries wide b r a
+told-of bits w regs tries wide b r a x z = go (x .told .told) (x .told .is) (x .told .allowed)
   where
-    go : (v : KeptAnswer) → r ≡ keptTold v → Outcome w regs tries wide (b .rows) (b .offsets) (b .list) (a .rows) (a .offsets) (a .list) v
-        → Told w regs tries wide b r a
+    go : (v : KeptAnswer) → r ≡ keptTold v → Outcome bits w regs tries wide (b .rows) (b .offsets) (b .list) (a .rows) (a .offsets) (a .list) v
+        → Told bits w regs tries wide b r a
     go (Is n f g) e o = rw e (record { out = o })
     go (No q) e o = absurd (refused-not q (sym (ap (λ (s : Answer). s .refusal) e) ∙ z))
 
-module _ (w : List ℕ) (regs : ℕ) (tries : List ℕ) (wide : Bool) (b : Lists) (r : Answer) (a : Lists) (x : KeptCall w regs tries wide b r a)
+module _ (bits : ℕ) (w : List ℕ) (regs : ℕ) (tries : List ℕ) (wide : Bool) (b : Lists) (r : Answer) (a : Lists) (x : KeptCall bits w regs tries wide b r a)
     (z : r .refusal ≡ 0) where
-  out : Outcome w regs tries wide (b .rows) (b .offsets) (b .list) (a .rows) (a .offsets) (a .list) (Is (r .first) (r .second) (r .third))
-  out = told-of w regs tries wide b r a x z .out
+  out : Outcome bits w regs tries wide (b .rows) (b .offsets) (b .list) (a .rows) (a .offsets) (a .list) (Is (r .first) (r .second) (r .third))
+  out = told-of bits w regs tries wide b r a x z .out
 
-  found : Rows wide regs w (a .rows) (r .second) (r .third)
-  found = left w regs tries wide (b .rows) (b .offsets) (b .list) out (r .first) (r .second) (r .third) refl .scratch .found
+  found : Rows bits wide regs w (a .rows) (r .second) (r .third)
+  found = left bits w regs tries wide (b .rows) (b .offsets) (b .list) out (r .first) (r .second) (r .third) refl .scratch .found
 
   -- demand 3, least rows and none to spare, from refusal 0
-  pub kept-holds : KeptHolds w regs tries wide r a
+  pub kept-holds : KeptHolds bits w regs tries wide r a
   kept-holds =
       record {
-        least = rows-least wide regs w (a .rows) (r .second) (r .third) found;
-        closed = start-closed (flow regs w) (firstOf wide regs w);
-        below = rows-below wide regs w (a .rows) (r .second) (r .third) found;
-        last = row-last wide regs w (a .rows) (r .second) (r .third) found;
-        within = rows-regs wide regs w (a .rows) (r .second) (r .third) found;
-        few = rows-few wide regs w (a .rows) (r .second) (r .third) found;
+        least = rows-least bits wide regs w (a .rows) (r .second) (r .third) found;
+        closed = start-closed (flow regs w) (firstOf bits wide regs w);
+        below = rows-below bits wide regs w (a .rows) (r .second) (r .third) found;
+        last = row-last bits wide regs w (a .rows) (r .second) (r .third) found;
+        within = rows-regs bits wide regs w (a .rows) (r .second) (r .third) found;
+        sweeps = sweeps-few bits w regs tries wide (b .rows) (b .offsets) (b .list) (a .rows) (a .offsets) (a .list) (r .first) (r .second) (r .third) out;
+        few = rows-few bits wide regs w (a .rows) (r .second) (r .third) found;
         stands = λ k h.
-            stands w regs tries wide (b .rows) (b .offsets) (b .list) (a .rows) (a .offsets) (a .list) (r .first) (r .second) (r .third) out k h;
-        keeps = λ k h e. demand-3 w regs tries wide (b .rows) (b .offsets) (b .list) (a .rows) (a .offsets) (a .list) (r .first) (r .second) (r .third)
+            stands bits w regs tries wide (b .rows) (b .offsets) (b .list) (a .rows) (a .offsets) (a .list) (r .first) (r .second) (r .third) out k h;
+        keeps = λ k h e. demand-3 bits w regs tries wide (b .rows) (b .offsets) (b .list) (a .rows) (a .offsets) (a .list) (r .first) (r .second) (r .third)
             out k h e;
-        spare = λ k h e. none-to-spare w regs tries wide (b .rows) (b .offsets) (b .list) (a .rows) (a .offsets) (a .list) (r .first) (r .second) (r .third)
+        spare = λ k h e. none-to-spare bits w regs tries wide (b .rows) (b .offsets) (b .list) (a .rows) (a .offsets) (a .list) (r .first) (r .second) (r .third)
             out k h e;
-        once = λ k h e. kept-each-once w regs tries wide (b .rows) (b .offsets) (b .list) (a .rows) (a .offsets) (a .list) (r .first) (r .second) (r .third)
+        once = λ k h e. kept-each-once bits w regs tries wide (b .rows) (b .offsets) (b .list) (a .rows) (a .offsets) (a .list) (r .first) (r .second) (r .third)
             out k h e;
-        empty = λ k h e. no-level w regs tries wide (b .rows) (b .offsets) (b .list) (a .rows) (a .offsets) (a .list) (r .first) (r .second) (r .third)
+        empty = λ k h e. no-level bits w regs tries wide (b .rows) (b .offsets) (b .list) (a .rows) (a .offsets) (a .list) (r .first) (r .second) (r .third)
             out k h e;
       }
 
--- ---- two routes
+-- ---- two routes, two widths
 
-pub routes-same : (w : List ℕ) (regs : ℕ) (tries : List ℕ) (wide wide′ : Bool) (b b′ : Lists) (r r′ : Answer) (a a′ : Lists)
-    → KeptCall w regs tries wide b r a → r .refusal ≡ 0 → KeptCall w regs tries wide′ b′ r′ a′ → r′ .refusal ≡ 0 → SameLists w r r′ a a′
-routes-same w regs tries wide wide′ b b′ r r′ a a′ x z x′ z′ =
-    let p = out w regs tries wide b r a x z in
-    let q = out w regs tries wide′ b′ r′ a′ x′ z′ in
+pub routes-same : (bits bits′ : ℕ) (w : List ℕ) (regs : ℕ) (tries : List ℕ) (wide wide′ : Bool) (b b′ : Lists) (r r′ : Answer) (a a′ : Lists)
+    → KeptCall bits w regs tries wide b r a → r .refusal ≡ 0 → KeptCall bits′ w regs tries wide′ b′ r′ a′ → r′ .refusal ≡ 0 → SameLists w r r′ a a′
+routes-same bits bits′ w regs tries wide wide′ b b′ r r′ a a′ x z x′ z′ =
+    let p = out bits w regs tries wide b r a x z in
+    let q = out bits′ w regs tries wide′ b′ r′ a′ x′ z′ in
     record {
       total =
-          totals-one w regs tries wide wide′ (b .rows) (b .offsets) (b .list) (b′ .rows) (b′ .offsets) (b′ .list) (a .rows) (a .offsets) (a .list) (a′ .rows)
-          (a′ .offsets) (a′ .list)
+          totals-one w regs tries bits bits′ wide wide′ (b .rows) (b .offsets) (b .list) (b′ .rows) (b′ .offsets) (b′ .list)
+          (a .rows) (a .offsets) (a .list) (a′ .rows) (a′ .offsets) (a′ .list)
           (r .first) (r .second) (r .third) (r′ .first) (r′ .second) (r′ .third) p q;
       list =
-          lists-one w regs tries wide wide′ (b .rows) (b .offsets) (b .list) (b′ .rows) (b′ .offsets) (b′ .list) (a .rows) (a .offsets) (a .list) (a′ .rows)
-          (a′ .offsets) (a′ .list)
+          lists-one w regs tries bits bits′ wide wide′ (b .rows) (b .offsets) (b .list) (b′ .rows) (b′ .offsets) (b′ .list)
+          (a .rows) (a .offsets) (a .list) (a′ .rows) (a′ .offsets) (a′ .list)
           (r .first) (r .second) (r .third) (r′ .first) (r′ .second) (r′ .third) p q;
       offsets =
-          offsets-one w regs tries wide wide′ (b .rows) (b .offsets) (b .list) (b′ .rows) (b′ .offsets) (b′ .list) (a .rows) (a .offsets) (a .list)
-          (a′ .rows) (a′ .offsets) (a′ .list)
+          offsets-one w regs tries bits bits′ wide wide′ (b .rows) (b .offsets) (b .list) (b′ .rows) (b′ .offsets) (b′ .list)
+          (a .rows) (a .offsets) (a .list) (a′ .rows) (a′ .offsets) (a′ .list)
           (r .first) (r .second) (r .third) (r′ .first) (r′ .second) (r′ .third) p q;
     }

@@ -50,22 +50,22 @@ pub record Lists : Type 0 where
   pub offsets : List ℕ
   pub list : List ℕ
 
--- the scratch is words of 64 bits, as every lent u64 is
-pub record KeptCall (w : List ℕ) (regs : ℕ) (tries : List ℕ) (wide : Bool) (b : Lists) (r : Answer) (a : Lists) : Type 0 where
-  pub told : KeptTold w regs tries wide (b .rows) (b .offsets) (b .list) (a .rows) (a .offsets) (a .list) r
-  pub words : Small 64 (a .rows)
+-- the scratch is words of so many bits: 64 of kept, as every lent u64 is, and 32 of kept32
+pub record KeptCall (bits : ℕ) (w : List ℕ) (regs : ℕ) (tries : List ℕ) (wide : Bool) (b : Lists) (r : Answer) (a : Lists) : Type 0 where
+  pub told : KeptTold bits w regs tries wide (b .rows) (b .offsets) (b .list) (a .rows) (a .offsets) (a .list) r
+  pub words : Small bits (a .rows)
 
 -- like `Settles`, with the one exception: refusal 5 for the list, buffer 3, comes after the rows are found, and the scratch holds them
-pub record KeptSettles (w : List ℕ) (regs : ℕ) (tries : List ℕ) (wide : Bool) : Type 0 where
+pub record KeptSettles (bits : ℕ) (w : List ℕ) (regs : ℕ) (tries : List ℕ) (wide : Bool) : Type 0 where
   -- any two results are equal, lent words included
-  pub one : (b : Lists) (r r′ : Answer) (a a′ : Lists) → KeptCall w regs tries wide b r a → KeptCall w regs tries wide b r′ a′ → (r ≡ r′) × (a ≡ a′)
+  pub one : (b : Lists) (r r′ : Answer) (a a′ : Lists) → KeptCall bits w regs tries wide b r a → KeptCall bits w regs tries wide b r′ a′ → (r ≡ r′) × (a ≡ a′)
   -- a refusal leaves offsets and list as lent, and the scratch too, but for the one
-  pub refusal : (b : Lists) (r : Answer) (a : Lists) → KeptCall w regs tries wide b r a → Refusal r
+  pub refusal : (b : Lists) (r : Answer) (a : Lists) → KeptCall bits w regs tries wide b r a → Refusal r
       → (a .offsets ≡ b .offsets) × (a .list ≡ b .list) × ((a .rows ≡ b .rows) ⊎ ((r .refusal ≡ 5) × (r .first ≡ 3)))
   -- words past a needed length are never touched
-  pub rows-beyond : (b : Lists) (r : Answer) (a : Lists) → KeptCall w regs tries wide b r a → Held (scratchFor regs w) (b .rows) (a .rows)
-  pub offsets-beyond : (b : Lists) (r : Answer) (a : Lists) → KeptCall w regs tries wide b r a → Held (suc (count w)) (b .offsets) (a .offsets)
-  pub list-beyond : (b : Lists) (r : Answer) (a : Lists) → KeptCall w regs tries wide b r a → r .refusal ≡ 0 → Held (r .first) (b .list) (a .list)
+  pub rows-beyond : (b : Lists) (r : Answer) (a : Lists) → KeptCall bits w regs tries wide b r a → Held (scratchFor bits regs w) (b .rows) (a .rows)
+  pub offsets-beyond : (b : Lists) (r : Answer) (a : Lists) → KeptCall bits w regs tries wide b r a → Held (suc (count w)) (b .offsets) (a .offsets)
+  pub list-beyond : (b : Lists) (r : Answer) (a : Lists) → KeptCall bits w regs tries wide b r a → r .refusal ≡ 0 → Held (r .first) (b .list) (a .list)
 
 -- ---- fold and clear
 

@@ -11,7 +11,7 @@ use Rattle.flow.specs.Flow.{Least, Closed}
 use Rattle.flow.specs.Sweep.{row, backs, startOf}
 use Rattle.flow.specs.Demand.{Keeps, Lost, Once}
 use Rattle.steps.specs.Level.{isLevel}
-use Rattle.steps.specs.Code.{flow}
+use Rattle.steps.specs.Code.{flow, jumpsBack}
 use Rattle.rows.specs.Route.{firstOf, rowsIn}
 use Rattle.kept.specs.Level.{levelOf, keptAt}
 use Rattle.kept.specs.Lists.{partAt}
@@ -35,32 +35,34 @@ Truth P r = ((r .first ≡ 1) × P) ⊎ ((r .first ≡ 0) × (P → ⊥))
 -- ---- kept
 
 -- where the sweeps began in the end
-abbrev pub startAt : Bool → ℕ → List ℕ → ℕ
-startAt wide regs w = startOf (flow regs w) (firstOf wide regs w)
+abbrev pub startAt : ℕ → Bool → ℕ → List ℕ → ℕ
+startAt bits wide regs w = startOf (flow regs w) (firstOf bits wide regs w)
 
 -- row k, as it stands in the scratch
-abbrev pub rowLeft : ℕ → List ℕ → Lists → ℕ → ℕ
-rowLeft regs w a k = row (rowsIn regs w (a .rows)) k
+abbrev pub rowLeft : ℕ → ℕ → List ℕ → Lists → ℕ → ℕ
+rowLeft bits regs w a k = row (rowsIn bits regs w (a .rows)) k
 
 -- the list of position k, as it stands in the lent list
 abbrev pub listLeft : Lists → ℕ → List ℕ
 listLeft a k = partAt (a .offsets) (a .list) k
 
 -- the call on w, with so many registers and these tries, answered r and left a
-pub record KeptHolds (w : List ℕ) (regs : ℕ) (tries : List ℕ) (wide : Bool) (r : Answer) (a : Lists) : Type 0 where
+pub record KeptHolds (bits : ℕ) (w : List ℕ) (regs : ℕ) (tries : List ℕ) (wide : Bool) (r : Answer) (a : Lists) : Type 0 where
   -- the rows are the least solution of the row equations from the start on
-  pub least : Least (flow regs w) (startAt wide regs w) (rowLeft regs w a)
+  pub least : Least (flow regs w) (startAt bits wide regs w) (rowLeft bits regs w a)
   -- from there on nothing goes before it
-  pub closed : Closed (flow regs w) (startAt wide regs w)
+  pub closed : Closed (flow regs w) (startAt bits wide regs w)
   -- rows below the start are 0, and so is row n
-  pub below : (k : ℕ) → k < startAt wide regs w → rowLeft regs w a k ≡ 0
-  pub last : rowLeft regs w a (count w) ≡ 0
+  pub below : (k : ℕ) → k < startAt bits wide regs w → rowLeft bits regs w a k ≡ 0
+  pub last : rowLeft bits regs w a (count w) ≡ 0
   -- no register at or above the count appears
-  pub within : (k : ℕ) → rowLeft regs w a k < 2 ^ regs
+  pub within : (k : ℕ) → rowLeft bits regs w a k < 2 ^ regs
   -- full sweeps are at most the jumps at or past the start to their own position or back, plus two; at most one is abandoned
-  pub few : (r .second ≤ backs (flow regs w) (startAt wide regs w) + 2) × (r .third ≤ 1)
+  pub few : (r .second ≤ backs (flow regs w) (startAt bits wide regs w) + 2) × (r .third ≤ 1)
+  -- and at most the jumps of all the code to their own position or back, plus two
+  pub sweeps : (r .second ≤ jumpsBack w + 2) × (r .third ≤ 1)
   -- from offset k to offset k + 1 stands the kept list of position k, by the rows in the scratch
-  pub stands : (k : ℕ) → k < count w → listLeft a k ≡ keptAt regs w tries (rowsIn regs w (a .rows)) k
+  pub stands : (k : ℕ) → k < count w → listLeft a k ≡ keptAt regs w tries (rowsIn bits regs w (a .rows)) k
   -- demand 3: what stands in the lent list at a level is enough, and nothing is kept idly
   pub keeps : (k : ℕ) → k < count w → isLevel (insAt w k) ≡ true → Keeps (flow regs w) (listLeft a k) (levelOf regs w tries k)
   -- drop any register from a list as it stands, and two files that agree on the rest are told apart

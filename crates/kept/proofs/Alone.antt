@@ -21,27 +21,27 @@ use Rattle.kept.specs.Lists.{listsTo, offsetsTo, over}
 use Rattle.kept.specs.Answers.{scratchFor, stagesOf, Scratch, Outcome, refused, short, told}
 use Rattle.kept.specs.declared.KeptAnswer.{KeptAnswer}
 use Rattle.kept.specs.declared.KeptAnswer.the-variants.{Is, No}
-use Rattle.kept.proofs.Sets.{wide as wide64, held}
+use Rattle.kept.proofs.Sets.{held}
 use Rattle.kept.proofs.Tests.{accepted-scratch}
 
--- words of 64 bits are settled by the set that they hold
-value-one : (a b : List ℕ) → length a ≡ length b → Small 64 a → Small 64 b → value 64 a ≡ value 64 b → a ≡ b
-value-one a b e sa sb q = ext-getD 0 a b e (λ i l. holds-one 64 wide64 a b (value 64 b) (record { small = sa; is = q }) (held b sb) i)
+-- words are settled by the set that they hold
+value-one : (bits : ℕ) → 0 < bits → (a b : List ℕ) → length a ≡ length b → Small bits a → Small bits b → value bits a ≡ value bits b → a ≡ b
+value-one bits some a b e sa sb q = ext-getD 0 a b e (λ i l. holds-one bits some a b (value bits b) (record { small = sa; is = q }) (held bits b sb) i)
 
-small-drop : (n : ℕ) (l : List ℕ) → Small 64 l → Small 64 (drop n l)
-small-drop n l s j = rw (getD-drop n l j 0) (s (n + j))
+small-drop : (bits n : ℕ) (l : List ℕ) → Small bits l → Small bits (drop n l)
+small-drop bits n l s j = rw (getD-drop n l j 0) (s (n + j))
 
 -- and a buffer by its rows and the words past them
-buffer-one : (words m : ℕ) (a b : List ℕ) → length a ≡ length b → Small 64 a → Small 64 b → m * words ≤ length a → rowsOf 64 words m a ≡ rowsOf 64 words m b
+buffer-one : (bits : ℕ) → 0 < bits → (words m : ℕ) (a b : List ℕ) → length a ≡ length b → Small bits a → Small bits b → m * words ≤ length a → rowsOf bits words m a ≡ rowsOf bits words m b
     → drop (m * words) a ≡ drop (m * words) b → a ≡ b
 unfolding rowsOf
-buffer-one words zero a b e sa sb l q d = ap (λ (x : ℕ). drop x a) (none words) ∙ d ∙ sym (ap (λ (x : ℕ). drop x b) (none words))
+buffer-one bits some words zero a b e sa sb l q d = ap (λ (x : ℕ). drop x a) (none words) ∙ d ∙ sym (ap (λ (x : ℕ). drop x b) (none words))
   where
     none : (x : ℕ) → 0 ≡ 0 * x
     none x = omega arith
-buffer-one words (suc m) a b e sa sb l q d =
+buffer-one bits some words (suc m) a b e sa sb l q d =
     sym (take-append-drop words a)
-    ∙ ap₂ _++_ heads (buffer-one words m (drop words a) (drop words b) (omega (arith, length-drop words a, length-drop words b)) (small-drop words a sa) (small-drop words b sb)
+    ∙ ap₂ _++_ heads (buffer-one bits some words m (drop words a) (drop words b) (omega (arith, length-drop words a, length-drop words b)) (small-drop bits words a sa) (small-drop bits words b sb)
     (omega (arith, suc-mul m words, length-drop words a)) (tail-eq-of-cons-eq q) (later a ∙ d ∙ sym (later b)))
     ∙ take-append-drop words b
   where
@@ -49,7 +49,7 @@ buffer-one words (suc m) a b e sa sb l q d =
     fits = omega (arith, suc-mul m words)
 
     heads : take words a ≡ take words b
-    heads = value-one (take words a) (take words b) (length-take-le words a fits ∙ sym (length-take-le words b (omega (arith, fits)))) (small-window 64 words 0 a sa) (small-window 64 words 0 b sb) (head-eq-of-cons-eq q)
+    heads = value-one bits some (take words a) (take words b) (length-take-le words a fits ∙ sym (length-take-le words b (omega (arith, fits)))) (small-window bits words 0 a sa) (small-window bits words 0 b sb) (head-eq-of-cons-eq q)
 
     later : (x : List ℕ) → drop (m * words) (drop words x) ≡ drop (suc m * words) x
     later x = drop-drop (m * words) words x ∙ ap (λ (y : ℕ). drop y x) (sum (suc-mul m words))
@@ -60,13 +60,13 @@ buffer-one words (suc m) a b e sa sb l q d =
 never : {A : Type 0} (v : Checked) (n : ℕ) (r : Refusal) → v ≡ stage.Count n → v ≡ stage.No r → A
 never v n r p q = let z : _≡_ {A = ℕ} 0 1 = cc in absurd (omega arith)
 
-module _ (w : List ℕ) (regs : ℕ) (tries : List ℕ) (wide : Bool) (rows offsets list : List ℕ) where
+module _ (bits : ℕ) (some : 0 < bits) (w : List ℕ) (regs : ℕ) (tries : List ℕ) (wide : Bool) (rows offsets list : List ℕ) where
   -- the same scratch and the same counts
-  scratch-one : {a b : List ℕ} {full full′ lost lost′ : ℕ} → scratchFor regs w ≤ length rows → Small 64 a → Small 64 b
-      → Scratch wide regs w rows a full lost → Scratch wide regs w rows b full′ lost′ → (a ≡ b) × (full ≡ full′) × (lost ≡ lost′)
+  scratch-one : {a b : List ℕ} {full full′ lost lost′ : ℕ} → scratchFor bits regs w ≤ length rows → Small bits a → Small bits b
+      → Scratch bits wide regs w rows a full lost → Scratch bits wide regs w rows b full′ lost′ → (a ≡ b) × (full ≡ full′) × (lost ≡ lost′)
   scratch-one {a} {b} {full} {full′} {lost} {lost′} le sa sb p q =
-      let (r, f, g) = rows-one wide regs w a full lost (p .found) b full′ lost′ (q .found) in
-      (buffer-one (wordsFor regs) (suc (count w)) a b (p .long ∙ sym (q .long)) sa sb (omega (arith, p .long)) r (p .past ∙ sym (q .past)), f, g)
+      let (r, f, g) = rows-one bits wide regs w a full lost (p .found) b full′ lost′ (q .found) in
+      (buffer-one bits some (wordsFor bits regs) (suc (count w)) a b (p .long ∙ sym (q .long)) sa sb (omega (arith, p .long)) r (p .past ∙ sym (q .past)), f, g)
 
   abbrev Same : List ℕ → List ℕ → List ℕ → KeptAnswer → List ℕ → List ℕ → List ℕ → KeptAnswer → Type 0
   Same a b c r a′ b′ c′ r′ = (a ≡ a′) × (b ≡ b′) × (c ≡ c′) × (r ≡ r′)
@@ -74,29 +74,29 @@ module _ (w : List ℕ) (regs : ℕ) (tries : List ℕ) (wide : Bool) (rows offs
   refusal-one : (v : Checked) (r s : Refusal) → v ≡ stage.No r → v ≡ stage.No s → No r ≡ No s
   refusal-one v r s p q = cc
 
-  -- the scratch being words of 64 bits, any two outcomes are the same
-  pub outcome-one : {a b c a′ b′ c′ : List ℕ} {r r′ : KeptAnswer} → Small 64 a → Small 64 a′
-      → Outcome w regs tries wide rows offsets list a b c r → Outcome w regs tries wide rows offsets list a′ b′ c′ r′ → (a ≡ a′) × (b ≡ b′) × (c ≡ c′) × (r ≡ r′)
-  outcome-one sa sb (refused p) (refused q) = (refl, refl, refl, refusal-one (stagesOf w regs tries (length rows) (length offsets)) _ _ p q)
-  outcome-one sa sb (refused p) (short q f g) = never (stagesOf w regs tries (length rows) (length offsets)) _ _ q p
-  outcome-one sa sb (refused p) (told q f g) = never (stagesOf w regs tries (length rows) (length offsets)) _ _ q p
-  outcome-one sa sb (short p f g) (refused q) = never (stagesOf w regs tries (length rows) (length offsets)) _ _ p q
-  outcome-one sa sb (told p f g) (refused q) = never (stagesOf w regs tries (length rows) (length offsets)) _ _ p q
+  -- the scratch being words of so many bits, any two outcomes are the same
+  pub outcome-one : {a b c a′ b′ c′ : List ℕ} {r r′ : KeptAnswer} → Small bits a → Small bits a′
+      → Outcome bits w regs tries wide rows offsets list a b c r → Outcome bits w regs tries wide rows offsets list a′ b′ c′ r′ → (a ≡ a′) × (b ≡ b′) × (c ≡ c′) × (r ≡ r′)
+  outcome-one sa sb (refused p) (refused q) = (refl, refl, refl, refusal-one (stagesOf bits w regs tries (length rows) (length offsets)) _ _ p q)
+  outcome-one sa sb (refused p) (short q f g) = never (stagesOf bits w regs tries (length rows) (length offsets)) _ _ q p
+  outcome-one sa sb (refused p) (told q f g) = never (stagesOf bits w regs tries (length rows) (length offsets)) _ _ q p
+  outcome-one sa sb (short p f g) (refused q) = never (stagesOf bits w regs tries (length rows) (length offsets)) _ _ p q
+  outcome-one sa sb (told p f g) (refused q) = never (stagesOf bits w regs tries (length rows) (length offsets)) _ _ p q
   outcome-one sa sb (short p f g) (short q f′ g′) =
-      let (e, x, y) = scratch-one (accepted-scratch w regs tries (length rows) (length offsets) (count w) p) sa sb f f′ in
-      (e, refl, refl, ap (λ (z : List ℕ). No (Short 3 (length (listsTo regs w tries (rowsIn regs w z) (count w))))) e)
+      let (e, x, y) = scratch-one (accepted-scratch bits w regs tries (length rows) (length offsets) (count w) p) sa sb f f′ in
+      (e, refl, refl, ap (λ (z : List ℕ). No (Short 3 (length (listsTo regs w tries (rowsIn bits regs w z) (count w))))) e)
   outcome-one sa sb (short p f g) (told q f′ g′) =
-      let (e, x, y) = scratch-one (accepted-scratch w regs tries (length rows) (length offsets) (count w) p) sa sb f f′ in
-      absurd (omega (arith, g, g′, ap (λ (z : List ℕ). length (listsTo regs w tries (rowsIn regs w z) (count w))) e))
+      let (e, x, y) = scratch-one (accepted-scratch bits w regs tries (length rows) (length offsets) (count w) p) sa sb f f′ in
+      absurd (omega (arith, g, g′, ap (λ (z : List ℕ). length (listsTo regs w tries (rowsIn bits regs w z) (count w))) e))
   outcome-one sa sb (told p f g) (short q f′ g′) =
-      let (e, x, y) = scratch-one (accepted-scratch w regs tries (length rows) (length offsets) (count w) p) sa sb f f′ in
-      absurd (omega (arith, g, g′, ap (λ (z : List ℕ). length (listsTo regs w tries (rowsIn regs w z) (count w))) e))
+      let (e, x, y) = scratch-one (accepted-scratch bits w regs tries (length rows) (length offsets) (count w) p) sa sb f f′ in
+      absurd (omega (arith, g, g′, ap (λ (z : List ℕ). length (listsTo regs w tries (rowsIn bits regs w z) (count w))) e))
   outcome-one sa sb (told p f g) (told q f′ g′) =
-      let (e, x, y) = scratch-one (accepted-scratch w regs tries (length rows) (length offsets) (count w) p) sa sb f f′ in (
+      let (e, x, y) = scratch-one (accepted-scratch bits w regs tries (length rows) (length offsets) (count w) p) sa sb f f′ in (
         e,
-        ap (λ (z : List ℕ). over (offsetsTo regs w tries (rowsIn regs w z) (suc (count w))) offsets) e,
-        ap (λ (z : List ℕ). over (listsTo regs w tries (rowsIn regs w z) (count w)) list) e,
-        ap₂ (λ (z : List ℕ) (t : ℕ × ℕ). Is (length (listsTo regs w tries (rowsIn regs w z) (count w))) (t .0) (t .1)) e (both x y),
+        ap (λ (z : List ℕ). over (offsetsTo regs w tries (rowsIn bits regs w z) (suc (count w))) offsets) e,
+        ap (λ (z : List ℕ). over (listsTo regs w tries (rowsIn bits regs w z) (count w)) list) e,
+        ap₂ (λ (z : List ℕ) (t : ℕ × ℕ). Is (length (listsTo regs w tries (rowsIn bits regs w z) (count w))) (t .0) (t .1)) e (both x y),
       )
     where
       both : {m m′ n n′ : ℕ} → m ≡ m′ → n ≡ n′ → _≡_ {A = ℕ × ℕ} (m, n) (m′, n′)

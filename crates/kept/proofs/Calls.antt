@@ -21,7 +21,7 @@ use Rattle.steps.specs.Code.{flow}
 use Rattle.rows.specs.Route.{wordsFor, firstOf, rowsIn, Rows}
 use Rattle.rows.proofs.Routes.{words-few, words-enough}
 use Rattle.rows.proofs.Least.{rows-regs}
-use Rattle.kept.specs.Lists.{listsTo, offsetsTo, over, Ready, Filled}
+use Rattle.kept.specs.Lists.{listsTo, offsetsTo, over, Width, Ready, Filled}
 use Rattle.kept.specs.Answers.{scratchFor, stagesOf, Scratch, Outcome, refused, short, told}
 use Rattle.kept.specs.declared.KeptAnswer.{KeptAnswer}
 use Rattle.kept.specs.declared.KeptAnswer.the-variants.{Is, No}
@@ -29,90 +29,91 @@ use Rattle.kept.proofs.Sets.{scaled}
 use Rattle.kept.proofs.Tests.{accepted-offsets, accepted-scratch, accepted-few, accepted-valid, accepted-count}
 
 -- rows lie in the first words of a buffer
-rows-front : (words m : ℕ) (part rest : List ℕ) → m * words ≤ length part → rowsOf 64 words m (part ++ rest) ≡ rowsOf 64 words m part
+rows-front : (bits words m : ℕ) (part rest : List ℕ) → m * words ≤ length part → rowsOf bits words m (part ++ rest) ≡ rowsOf bits words m part
 unfolding rowsOf
-rows-front words zero part rest l = refl
-rows-front words (suc m) part rest l =
+rows-front bits words zero part rest l = refl
+rows-front bits words (suc m) part rest l =
     let fits : words ≤ length part = omega (arith, suc-mul m words) in
-    ap₂ (λ (v t : List ℕ). value 64 v ∷ t) (take-append-le words part rest fits)
-    (ap (rowsOf 64 words m) (drop-append-le words part rest fits) ∙ rows-front words m (drop words part) rest (omega (arith, suc-mul m words, length-drop words part)))
+    ap₂ (λ (v t : List ℕ). value bits v ∷ t) (take-append-le words part rest fits)
+    (ap (rowsOf bits words m) (drop-append-le words part rest fits) ∙ rows-front bits words m (drop words part) rest (omega (arith, suc-mul m words, length-drop words part)))
 
-module _ (regs : ℕ) (w tries rows offsets : List ℕ) (n : ℕ) (h : stagesOf w regs tries (length rows) (length offsets) ≡ stage.Count n) (m : ℕ) (e : m ≡ wordsFor regs) where
-  narrow : m ≤ 16
-  narrow = words-few regs m e (accepted-few w regs tries (length rows) (length offsets) n h)
+module _ (bits hand : ℕ) (width : Width bits hand) (regs : ℕ) (w tries rows offsets : List ℕ) (n : ℕ) (h : stagesOf bits w regs tries (length rows) (length offsets) ≡ stage.Count n) (m : ℕ) (e : m ≡ wordsFor bits regs) where
+  narrow : m ≤ hand
+  narrow = words-few bits regs m e hand (width .some) (width .more) (omega (arith, width .span, accepted-few bits w regs tries (length rows) (length offsets) n h))
 
   pub part-mul : Fits w64 ((count w + 1) * m)
-  part-mul = scaled (count w + 1) m (omega (arith, accepted-valid w regs tries (length rows) (length offsets) n h .few)) narrow
+  part-mul = scaled (count w + 1) m (omega (arith, accepted-valid bits w regs tries (length rows) (length offsets) n h .few)) (omega (arith, narrow, width .few))
 
-  need-is : (count w + 1) * m ≡ scratchFor regs w
+  need-is : (count w + 1) * m ≡ scratchFor bits regs w
   need-is = ap₂ _*_ (add-one (count w)) e
 
   pub part-fits : (count w + 1) * m ≤ length rows
-  part-fits = subst (λ (x : ℕ). x ≤ length rows) (sym need-is) (accepted-scratch w regs tries (length rows) (length offsets) n h)
+  part-fits = subst (λ (x : ℕ). x ≤ length rows) (sym need-is) (accepted-scratch bits w regs tries (length rows) (length offsets) n h)
 
   pub part-long : length (take ((count w + 1) * m) rows) ≡ (count w + 1) * m
   part-long = length-take-le ((count w + 1) * m) rows part-fits
 
-  pub part-whole : length (take ((count w + 1) * m) rows) ≡ suc (count w) * wordsFor regs
+  pub part-whole : length (take ((count w + 1) * m) rows) ≡ suc (count w) * wordsFor bits regs
   part-whole = part-long ∙ need-is
 
-  module _ (wide : Bool) (part : List ℕ) (full lost : ℕ) (f : Rows wide regs w part full lost) (l : length part ≡ length (take ((count w + 1) * m) rows)) where
+  module _ (wide : Bool) (part : List ℕ) (full lost : ℕ) (f : Rows bits wide regs w part full lost) (l : length part ≡ length (take ((count w + 1) * m) rows)) where
     abbrev new : List ℕ
     new = part ++ drop ((count w + 1) * m) rows
 
-    long : length part ≡ scratchFor regs w
+    long : length part ≡ scratchFor bits regs w
     long = l ∙ part-whole
 
-    same : rowsIn regs w new ≡ rowsIn regs w part
-    same = rows-front (wordsFor regs) (suc (count w)) part (drop ((count w + 1) * m) rows) (omega (arith, long))
+    same : rowsIn bits regs w new ≡ rowsIn bits regs w part
+    same = rows-front bits (wordsFor bits regs) (suc (count w)) part (drop ((count w + 1) * m) rows) (omega (arith, long))
 
-    scratch : Scratch wide regs w rows new full lost
+    scratch : Scratch bits wide regs w rows new full lost
     scratch = record {
-      found = subst (λ (x : List ℕ). Found (flow regs w) (firstOf wide regs w) x full lost) (sym same) f;
+      found = subst (λ (x : List ℕ). Found (flow regs w) (firstOf bits wide regs w) x full lost) (sym same) f;
       long = omega (arith, l, part-long, part-fits, length-append part (drop ((count w + 1) * m) rows), length-drop ((count w + 1) * m) rows);
-      past = drop-at part (drop ((count w + 1) * m) rows) (scratchFor regs w) long ∙ ap (λ (x : ℕ). drop x rows) need-is;
+      past = drop-at part (drop ((count w + 1) * m) rows) (scratchFor bits regs w) long ∙ ap (λ (x : ℕ). drop x rows) need-is;
     }
 
-    pub ready : Small 64 (part ++ drop ((count w + 1) * m) rows) → Ready regs w m (part ++ drop ((count w + 1) * m) rows)
+    pub ready : Small bits (part ++ drop ((count w + 1) * m) rows) → Ready bits hand regs w m (part ++ drop ((count w + 1) * m) rows)
     ready small = record {
-      valid = accepted-valid w regs tries (length rows) (length offsets) n h;
-      few = accepted-few w regs tries (length rows) (length offsets) n h;
+      width = width;
+      valid = accepted-valid bits w regs tries (length rows) (length offsets) n h;
+      few = accepted-few bits w regs tries (length rows) (length offsets) n h;
       narrow = narrow;
-      enough = words-enough regs m e;
+      enough = words-enough bits regs m e (width .some);
       room = subst (λ (x : ℕ). x ≤ length new) (sym (ap (λ (x : ℕ). suc (count w) * x) e)) (omega (arith, long, length-append part (drop ((count w + 1) * m) rows)));
       small = small;
-      bound = λ k. subst (λ (x : ℕ). row (rowsOf 64 x (suc (count w)) new) k < 2 ^ regs) (sym e) (rows-regs wide regs w new full lost (scratch .found) k);
+      bound = λ k. subst (λ (x : ℕ). row (rowsOf bits x (suc (count w)) new) k < 2 ^ regs) (sym e) (rows-regs bits wide regs w new full lost (scratch .found) k);
     }
 
     pub new-long : length (part ++ drop ((count w + 1) * m) rows) ≡ length rows
     new-long = scratch .long
 
-    module _ (list : List ℕ) (total : ℕ) (q : total ≡ length (listsTo regs w tries (rowsOf 64 m (suc (count w)) (part ++ drop ((count w + 1) * m) rows)) (count w))) where
-      total-is : total ≡ length (listsTo regs w tries (rowsIn regs w new) (count w))
-      total-is = q ∙ ap (λ (x : ℕ). length (listsTo regs w tries (rowsOf 64 x (suc (count w)) new) (count w))) e
+    module _ (list : List ℕ) (total : ℕ) (q : total ≡ length (listsTo regs w tries (rowsOf bits m (suc (count w)) (part ++ drop ((count w + 1) * m) rows)) (count w))) where
+      total-is : total ≡ length (listsTo regs w tries (rowsIn bits regs w new) (count w))
+      total-is = q ∙ ap (λ (x : ℕ). length (listsTo regs w tries (rowsOf bits x (suc (count w)) new) (count w))) e
 
-      pub out-short : length list < total → Outcome w regs tries wide rows offsets list (part ++ drop ((count w + 1) * m) rows) offsets list (No (Short 3 total))
-      out-short g = subst (λ (x : ℕ). Outcome w regs tries wide rows offsets list new offsets list (No (Short 3 x))) (sym total-is)
-          (short (accepted-count w regs tries (length rows) (length offsets) n h) scratch (subst (λ (x : ℕ). length list < x) total-is g))
+      pub out-short : length list < total → Outcome bits w regs tries wide rows offsets list (part ++ drop ((count w + 1) * m) rows) offsets list (No (Short 3 total))
+      out-short g = subst (λ (x : ℕ). Outcome bits w regs tries wide rows offsets list new offsets list (No (Short 3 x))) (sym total-is)
+          (short (accepted-count bits w regs tries (length rows) (length offsets) n h) scratch (subst (λ (x : ℕ). length list < x) total-is g))
 
-      pub out-told : total ≤ length list → (o l′ : List ℕ) → Filled regs w tries (rowsOf 64 m (suc (count w)) (part ++ drop ((count w + 1) * m) rows)) offsets list o l′
-          → Outcome w regs tries wide rows offsets list (part ++ drop ((count w + 1) * m) rows) o l′ (Is total full lost)
+      pub out-told : total ≤ length list → (o l′ : List ℕ) → Filled regs w tries (rowsOf bits m (suc (count w)) (part ++ drop ((count w + 1) * m) rows)) offsets list o l′
+          → Outcome bits w regs tries wide rows offsets list (part ++ drop ((count w + 1) * m) rows) o l′ (Is total full lost)
       out-told g o l′ z =
-          subst (λ (x : ℕ). Outcome w regs tries wide rows offsets list new o l′ (Is x full lost)) (sym total-is)
-          (subst (λ (x : List ℕ). Outcome w regs tries wide rows offsets list new o x (Is (length (listsTo regs w tries (rowsIn regs w new) (count w))) full lost)) (sym lists)
-          (subst (λ (x : List ℕ). Outcome w regs tries wide rows offsets list new x (over (listsTo regs w tries (rowsIn regs w new) (count w)) list) (Is (length (listsTo regs w tries (rowsIn regs w new) (count w))) full lost)) (sym begins)
-          (told (accepted-count w regs tries (length rows) (length offsets) n h) scratch (subst (λ (x : ℕ). x ≤ length list) total-is g))))
+          subst (λ (x : ℕ). Outcome bits w regs tries wide rows offsets list new o l′ (Is x full lost)) (sym total-is)
+          (subst (λ (x : List ℕ). Outcome bits w regs tries wide rows offsets list new o x (Is (length (listsTo regs w tries (rowsIn bits regs w new) (count w))) full lost)) (sym lists)
+          (subst (λ (x : List ℕ). Outcome bits w regs tries wide rows offsets list new x (over (listsTo regs w tries (rowsIn bits regs w new) (count w)) list) (Is (length (listsTo regs w tries (rowsIn bits regs w new) (count w))) full lost)) (sym begins)
+          (told (accepted-count bits w regs tries (length rows) (length offsets) n h) scratch (subst (λ (x : ℕ). x ≤ length list) total-is g))))
         where
-          begins : o ≡ over (offsetsTo regs w tries (rowsIn regs w new) (suc (count w))) offsets
-          begins = z .begins ∙ ap (λ (x : ℕ). over (offsetsTo regs w tries (rowsOf 64 x (suc (count w)) new) (suc (count w))) offsets) e
+          begins : o ≡ over (offsetsTo regs w tries (rowsIn bits regs w new) (suc (count w))) offsets
+          begins = z .begins ∙ ap (λ (x : ℕ). over (offsetsTo regs w tries (rowsOf bits x (suc (count w)) new) (suc (count w))) offsets) e
 
-          lists : l′ ≡ over (listsTo regs w tries (rowsIn regs w new) (count w)) list
-          lists = z .lists ∙ ap (λ (x : ℕ). over (listsTo regs w tries (rowsOf 64 x (suc (count w)) new) (count w)) list) e
+          lists : l′ ≡ over (listsTo regs w tries (rowsIn bits regs w new) (count w)) list
+          lists = z .lists ∙ ap (λ (x : ℕ). over (listsTo regs w tries (rowsOf bits x (suc (count w)) new) (count w)) list) e
 
 -- the tests decide
-module _ (w : List ℕ) (regs : ℕ) (tries rows offsets : List ℕ) (v : Checked) (e : v ≡ stagesOf w regs tries (length rows) (length offsets)) where
-  pub go-on : (n : ℕ) → v ≡ stage.Count n → stagesOf w regs tries (length rows) (length offsets) ≡ stage.Count (count w)
-  go-on n h = accepted-count w regs tries (length rows) (length offsets) n (sym e ∙ h)
+module _ (bits : ℕ) (w : List ℕ) (regs : ℕ) (tries rows offsets : List ℕ) (v : Checked) (e : v ≡ stagesOf bits w regs tries (length rows) (length offsets)) where
+  pub go-on : (n : ℕ) → v ≡ stage.Count n → stagesOf bits w regs tries (length rows) (length offsets) ≡ stage.Count (count w)
+  go-on n h = accepted-count bits w regs tries (length rows) (length offsets) n (sym e ∙ h)
 
-  pub go-no : (r : Refusal) → v ≡ stage.No r → (wide : Bool) (list : List ℕ) → Outcome w regs tries wide rows offsets list rows offsets list (No r)
+  pub go-no : (r : Refusal) → v ≡ stage.No r → (wide : Bool) (list : List ℕ) → Outcome bits w regs tries wide rows offsets list rows offsets list (No r)
   go-no r h wide list = refused (sym e ∙ h)

@@ -44,65 +44,65 @@ first-le f (suc m) k j lo hi e = go (f k) refl (λ l. first-le f m (suc k) j l (
         at (no n) = rec (omega arith)
 
 -- sweeps begin no later than any level
-module _ (wide : Bool) (regs : ℕ) (w : List ℕ) where
-  pub inside : firstOf wide regs w ≤ count w
+module _ (bits : ℕ) (wide : Bool) (regs : ℕ) (w : List ℕ) where
+  pub inside : firstOf bits wide regs w ≤ count w
   unfolding firstOf
-  inside = go (wide || ltb 64 regs)
+  inside = go (wide || ltb bits regs)
     where
       go : (t : Bool) → cond t 0 (firstLevel w) ≤ count w
       go true = zero-le
       go false = level-le w
 
-  pub before : (k : ℕ) → k < count w → isLevel (insAt w k) ≡ true → firstOf wide regs w ≤ k
+  pub before : (k : ℕ) → k < count w → isLevel (insAt w k) ≡ true → firstOf bits wide regs w ≤ k
   unfolding firstOf firstLevel
-  before k l e = go (wide || ltb 64 regs)
+  before k l e = go (wide || ltb bits regs)
     where
       go : (t : Bool) → cond t 0 (firstLevel w) ≤ k
       go true = zero-le
       go false = first-le (λ j. isLevel (insAt w j)) (count w) 0 k zero-le (omega arith) e
 
-module _ (w : List ℕ) (regs : ℕ) (tries : List ℕ) (wide : Bool) (rows offsets list : List ℕ) where
+module _ (bits : ℕ) (w : List ℕ) (regs : ℕ) (tries : List ℕ) (wide : Bool) (rows offsets list : List ℕ) where
   -- what an answer leaves
   pub record Left (a b c : List ℕ) (t full abandoned : ℕ) : Type 0 where
     pub valid : Valid w
-    pub scratch : Scratch wide regs w rows a full abandoned
-    pub begins : b ≡ over (offsetsTo regs w tries (rowsIn regs w a) (suc (count w))) offsets
-    pub lists : c ≡ over (listsTo regs w tries (rowsIn regs w a) (count w)) list
-    pub total : t ≡ length (listsTo regs w tries (rowsIn regs w a) (count w))
+    pub scratch : Scratch bits wide regs w rows a full abandoned
+    pub begins : b ≡ over (offsetsTo regs w tries (rowsIn bits regs w a) (suc (count w))) offsets
+    pub lists : c ≡ over (listsTo regs w tries (rowsIn bits regs w a) (count w)) list
+    pub total : t ≡ length (listsTo regs w tries (rowsIn bits regs w a) (count w))
 
-  pub left : {a b c : List ℕ} {r : KeptAnswer} → Outcome w regs tries wide rows offsets list a b c r → (t f g : ℕ) → r ≡ Is t f g → Left a b c t f g
+  pub left : {a b c : List ℕ} {r : KeptAnswer} → Outcome bits w regs tries wide rows offsets list a b c r → (t f g : ℕ) → r ≡ Is t f g → Left a b c t f g
   left (refused p) t f g e = let z : _≡_ {A = ℕ} 0 1 = cc in absurd (omega arith)
   left (short p q l) t f g e = let z : _≡_ {A = ℕ} 0 1 = cc in absurd (omega arith)
   left {a = a} (told {full = x} {abandoned = y} p q l) t f g e =
       let h : x ≡ f = cc in
       let k : y ≡ g = cc in
-      let m : length (listsTo regs w tries (rowsIn regs w a) (count w)) ≡ t = cc in
-      record { valid = accepted-valid w regs tries (length rows) (length offsets) (count w) p; scratch = rw (← h, ← k) q; begins = refl; lists = refl; total = sym m }
+      let m : length (listsTo regs w tries (rowsIn bits regs w a) (count w)) ≡ t = cc in
+      record { valid = accepted-valid bits w regs tries (length rows) (length offsets) (count w) p; scratch = rw (← h, ← k) q; begins = refl; lists = refl; total = sym m }
 
-module _ (w : List ℕ) (regs : ℕ) (tries : List ℕ) (wide : Bool) (rows offsets list : List ℕ) (new o l : List ℕ) (total full abandoned : ℕ)
-    (out : Outcome w regs tries wide rows offsets list new o l (Is total full abandoned)) (k : ℕ) (inCode : k < count w) where
-  answer : Left w regs tries wide rows offsets list new o l total full abandoned
-  answer = left w regs tries wide rows offsets list out total full abandoned refl
+module _ (bits : ℕ) (w : List ℕ) (regs : ℕ) (tries : List ℕ) (wide : Bool) (rows offsets list : List ℕ) (new o l : List ℕ) (total full abandoned : ℕ)
+    (out : Outcome bits w regs tries wide rows offsets list new o l (Is total full abandoned)) (k : ℕ) (inCode : k < count w) where
+  answer : Left bits w regs tries wide rows offsets list new o l total full abandoned
+  answer = left bits w regs tries wide rows offsets list out total full abandoned refl
 
   -- offsets[k]..offsets[k + 1] of the lent list is the kept list of position k, by the rows in the scratch
-  pub stands : partAt o l k ≡ keptAt regs w tries (rowsIn regs w new) k
-  stands = ap₂ (λ (x y : List ℕ). partAt x y k) (answer .begins) (answer .lists) ∙ part-is regs w tries (rowsIn regs w new) (count w) k offsets list inCode
+  pub stands : partAt o l k ≡ keptAt regs w tries (rowsIn bits regs w new) k
+  stands = ap₂ (λ (x y : List ℕ). partAt x y k) (answer .begins) (answer .lists) ∙ part-is regs w tries (rowsIn bits regs w new) (count w) k offsets list inCode
 
   -- which is empty where k is no level
   pub no-level : isLevel (insAt w k) ≡ false → partAt o l k ≡ []
   unfolding keptAt
-  no-level e = stands ∙ ap (λ (t : Bool). cond t (kept regs (row (rowsIn regs w new)) (levelOf regs w tries k)) []) e
+  no-level e = stands ∙ ap (λ (t : Bool). cond t (kept regs (row (rowsIn bits regs w new)) (levelOf regs w tries k)) []) e
 
   module _ (level : isLevel (insAt w k) ≡ true) where
     -- and the level's own where it is one
-    pub level-list : partAt o l k ≡ kept regs (row (rowsIn regs w new)) (levelOf regs w tries k)
+    pub level-list : partAt o l k ≡ kept regs (row (rowsIn bits regs w new)) (levelOf regs w tries k)
     unfolding keptAt
-    level-list = stands ∙ ap (λ (t : Bool). cond t (kept regs (row (rowsIn regs w new)) (levelOf regs w tries k)) []) level
+    level-list = stands ∙ ap (λ (t : Bool). cond t (kept regs (row (rowsIn bits regs w new)) (levelOf regs w tries k)) []) level
 
     -- demand 3: what stands in the lent list is enough for the level, and no register of it is idle
     pub demand-3 : Keeps (flow regs w) (partAt o l k) (levelOf regs w tries k)
-    demand-3 = subst (λ (x : List ℕ). Keeps (flow regs w) x (levelOf regs w tries k)) (sym level-list) (level-keeps (flow regs w) (firstOf wide regs w) (inside wide regs w) (rowsIn regs w new) full abandoned (answer .scratch .found) k (resumeOf w k) (resultOf regs w k) tries
-        (before wide regs w k inCode level) inCode (resume-in w k (answer .valid) inCode .0))
+    demand-3 = subst (λ (x : List ℕ). Keeps (flow regs w) x (levelOf regs w tries k)) (sym level-list) (level-keeps (flow regs w) (firstOf bits wide regs w) (inside bits wide regs w) (rowsIn bits regs w new) full abandoned (answer .scratch .found) k (resumeOf w k) (resultOf regs w k) tries
+        (before bits wide regs w k inCode level) inCode (resume-in w k (answer .valid) inCode .0))
 
     -- drop any register from any kept list: two files agree on what is left and are told apart
     pub none-to-spare : (r : ℕ) → List·Memᴰ r (partAt o l k) → Lost (flow regs w) (partAt o l k) (levelOf regs w tries k) r
@@ -110,4 +110,4 @@ module _ (w : List ℕ) (regs : ℕ) (tries : List ℕ) (wide : Bool) (rows offs
 
     -- no register is kept twice
     pub kept-each-once : Once (partAt o l k)
-    kept-each-once = subst Once (sym level-list) (kept-once regs (row (rowsIn regs w new)) (levelOf regs w tries k))
+    kept-each-once = subst Once (sym level-list) (kept-once regs (row (rowsIn bits regs w new)) (levelOf regs w tries k))

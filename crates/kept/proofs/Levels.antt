@@ -3,7 +3,7 @@ use mathlib.Core.Path.{_≡_, refl, sym, ap, ap₂, _∙_, subst}
 use mathlib.Core.Bool.{Bool, true, false, cond, _&&_}
 use mathlib.Core.List.{List, [], _∷_, _++_, append-nil, append-assoc}
 use Prim.Native.Nat.{ℕ, zero, suc, _+_, _-_, _*_, _/_, _%_, _^_, _≤_, _<_, min, zero-le}
-use native.Mathlib.Nat.{mod-lt, zero-lt-suc}
+use native.Mathlib.Nat.{mod-lt, zero-lt-suc, mul-le-mul-right}
 use native.Mathlib.Numerals.{add-one}
 use native.Mathlib.Omega.{arith}
 use mir.Syntax.{w64}
@@ -31,12 +31,12 @@ use Rattle.rows.proofs.Sets.{or-assoc, joined-append}
 use Rattle.kept.specs.Level.{resumeOf, resultOf, levelOf, Goes}
 use Rattle.kept.specs.Lists.{Ready}
 use Rattle.kept.proofs.Resume.{resume-in}
-use Rattle.kept.proofs.Sets.{scaled, wide}
+use Rattle.kept.proofs.Sets.{scaled}
 use Rattle.kept.proofs.Walks.{listed-le}
 
 -- ---- the resume row less the result register
 
-module _ (regs : ℕ) (w : List ℕ) (words : ℕ) (rows : List ℕ) (k at result : ℕ) (ready : Ready regs w words rows) (l : k < count w) (g : Goes w k at result) where
+module _ (bits hand regs : ℕ) (w : List ℕ) (words : ℕ) (rows : List ℕ) (k at result : ℕ) (ready : Ready bits hand regs w words rows) (l : k < count w) (g : Goes w k at result) where
   at-in : at ≤ count w
   at-in = omega (arith, g .resumes, resume-in w k (ready .valid) l .1)
 
@@ -44,15 +44,15 @@ module _ (regs : ℕ) (w : List ℕ) (words : ℕ) (rows : List ℕ) (k at resul
   main-fits = omega (arith, ready .room, row-inside words (suc (count w)) at (omega (arith, at-in)))
 
   pub main-small : Fits w64 (at * words)
-  main-small = scaled at words (omega (arith, at-in, ready .valid .few)) (ready .narrow)
+  main-small = scaled at words (omega (arith, at-in, ready .valid .few)) (omega (arith, ready .narrow, ready .width .few))
 
-  pub main-is : (whole out : List ℕ) → Holds 64 whole (bitOr (value 64 (replicate 16 0)) (value 64 (take words (drop (at * words) rows))))
-      → Holds 64 out (minus (value 64 whole) (setOf regs (only true result)))
-      → Holds 64 out (minus (row (rowsOf 64 words (suc (count w)) rows) (resumeOf w k)) (resultOf regs w k))
+  pub main-is : (whole out : List ℕ) → Holds bits whole (bitOr (value bits (replicate hand 0)) (value bits (take words (drop (at * words) rows))))
+      → Holds bits out (minus (value bits whole) (setOf regs (only true result)))
+      → Holds bits out (minus (row (rowsOf bits words (suc (count w)) rows) (resumeOf w k)) (resultOf regs w k))
   unfolding joined
   main-is whole out p q = as-set q (ap₂ minus
-      (p .is ∙ ap (λ (x : ℕ). bitOr x (value 64 (take words (drop (at * words) rows)))) (holds-none 64 wide 16 .is) ∙ or-zero-l (value 64 (take words (drop (at * words) rows)))
-      ∙ sym (rows-at 64 words (suc (count w)) rows at (omega (arith, at-in))) ∙ ap (row (rowsOf 64 words (suc (count w)) rows)) (g .resumes))
+      (p .is ∙ ap (λ (x : ℕ). bitOr x (value bits (take words (drop (at * words) rows)))) (holds-none bits (ready .width .some) hand .is) ∙ or-zero-l (value bits (take words (drop (at * words) rows)))
+      ∙ sym (rows-at bits words (suc (count w)) rows at (omega (arith, at-in))) ∙ ap (row (rowsOf bits words (suc (count w)) rows)) (g .resumes))
       (or-zero-r (alone regs result) ∙ ap (alone regs) (g .results)))
 
 pub ruleset mains = (main-fits, main-small, main-is)
@@ -147,88 +147,88 @@ added-append d R (h ∷ hs) gs s =
     ap (λ (l : List ℕ). listed d 0 (minus (R h) s) ++ l) (added-append d R hs gs (bitOr s (R h)) ∙ ap (λ (x : ℕ). added d R (bitOr s (R h)) hs ++ added d R x gs) (or-assoc s (R h) (joined R hs)))
     ∙ sym (append-assoc (listed d 0 (minus (R h) s)) (added d R (bitOr s (R h)) hs) (added d R (bitOr s (joined R (h ∷ hs))) gs))
 
-module _ (n k words : ℕ) (rows tries : List ℕ) where
+module _ (bits n k words : ℕ) (rows tries : List ℕ) where
   abbrev R : ℕ → ℕ
-  R = row (rowsOf 64 words (suc n) rows)
+  R = row (rowsOf bits words (suc n) rows)
 
   -- the set seen, with the rows of the handlers that are left, is the whole
   pub record Holding (s seen : List ℕ) (i : ℕ) : Type 0 where
     pub le : i ≤ length tries
-    pub small : Small 64 seen
-    pub all : bitOr (value 64 seen) (joined R (handlersOf n k (drop i tries))) ≡ bitOr (value 64 s) (joined R (handlersOf n k tries))
+    pub small : Small bits seen
+    pub all : bitOr (value bits seen) (joined R (handlersOf n k (drop i tries))) ≡ bitOr (value bits s) (joined R (handlersOf n k tries))
 
-  pub holding-start : (s : List ℕ) → Small 64 s → Holding s s 0
+  pub holding-start : (s : List ℕ) → Small bits s → Holding s s 0
   holding-start s h = record { le = zero-le; small = h; all = refl }
 
   module _ (s seen : List ℕ) (i : ℕ) (h : Holding s seen i) where
     pub holding-more : i + 1 < length tries → (a b : ℕ) → a ≡ getD tries i 0 → b ≡ getD tries (i + 1) 0 → (next : List ℕ)
-        → Holds 64 next (bitOr (value 64 seen) (joined (row (rowsOf 64 words (suc n) rows)) (handlersOf n k (a ∷ b ∷ [])))) → Holding s next (i + 2)
+        → Holds bits next (bitOr (value bits seen) (joined (row (rowsOf bits words (suc n) rows)) (handlersOf n k (a ∷ b ∷ [])))) → Holding s next (i + 2)
     holding-more l a b p q next g = record {
       le = omega arith;
       small = g .small;
       all = ap (λ (x : ℕ). bitOr x (joined R (handlersOf n k (drop (i + 2) tries)))) (g .is)
-          ∙ or-assoc (value 64 seen) (joined R (handlersOf n k (a ∷ b ∷ []))) (joined R (handlersOf n k (drop (i + 2) tries)))
-          ∙ ap (bitOr (value 64 seen)) (sym (joined-append R (handlersOf n k (a ∷ b ∷ [])) (handlersOf n k (drop (i + 2) tries)))
+          ∙ or-assoc (value bits seen) (joined R (handlersOf n k (a ∷ b ∷ []))) (joined R (handlersOf n k (drop (i + 2) tries)))
+          ∙ ap (bitOr (value bits seen)) (sym (joined-append R (handlersOf n k (a ∷ b ∷ [])) (handlersOf n k (drop (i + 2) tries)))
           ∙ ap (joined R) (sym (handlers-split n k tries i l a b p q)))
           ∙ h .all;
     }
 
-    pub holding-end : length tries ≤ i + 1 → Holds 64 seen (bitOr (value 64 s) (joined (row (rowsOf 64 words (suc n) rows)) (handlersOf n k tries)))
+    pub holding-end : length tries ≤ i + 1 → Holds bits seen (bitOr (value bits s) (joined (row (rowsOf bits words (suc n) rows)) (handlersOf n k tries)))
     unfolding joined
     holding-end end = record {
       small = h .small;
-      is = sym (ap (λ (l : List ℕ). bitOr (value 64 seen) (joined R l)) (handlers-none n k (drop i tries) (omega (arith, length-drop i tries))) ∙ or-zero-r (value 64 seen)) ∙ h .all;
+      is = sym (ap (λ (l : List ℕ). bitOr (value bits seen) (joined R l)) (handlers-none n k (drop i tries) (omega (arith, length-drop i tries))) ∙ or-zero-r (value bits seen)) ∙ h .all;
     }
 
   -- of what the handlers add to the set s, some is written
   pub record Keeping (s old : List ℕ) (m : ℕ) (out seen : List ℕ) (at i : ℕ) : Type 0 where
     pub le : i ≤ length tries
-    pub small : Small 64 seen
-    pub fits : m + length (added (words * 64) R (value 64 s) (handlersOf n k tries)) ≤ length old
-    pub so : Written (added (words * 64) R (value 64 s) (handlersOf n k tries)) old m out at (added (words * 64) R (value 64 seen) (handlersOf n k (drop i tries)))
+    pub small : Small bits seen
+    pub fits : m + length (added (words * bits) R (value bits s) (handlersOf n k tries)) ≤ length old
+    pub so : Written (added (words * bits) R (value bits s) (handlersOf n k tries)) old m out at (added (words * bits) R (value bits seen) (handlersOf n k (drop i tries)))
 
-  pub keeping-start : (s old : List ℕ) (m : ℕ) → Small 64 s → m + length (added (words * 64) (row (rowsOf 64 words (suc n) rows)) (value 64 s) (handlersOf n k tries)) ≤ length old
+  pub keeping-start : (s old : List ℕ) (m : ℕ) → Small bits s → m + length (added (words * bits) (row (rowsOf bits words (suc n) rows)) (value bits s) (handlersOf n k tries)) ≤ length old
       → Keeping s old m old s m 0
-  keeping-start s old m h f = record { le = zero-le; small = h; fits = f; so = written-start (added (words * 64) R (value 64 s) (handlersOf n k tries)) old m (added (words * 64) R (value 64 s) (handlersOf n k tries)) refl }
+  keeping-start s old m h f = record { le = zero-le; small = h; fits = f; so = written-start (added (words * bits) R (value bits s) (handlersOf n k tries)) old m (added (words * bits) R (value bits s) (handlersOf n k tries)) refl }
 
   module _ (s old : List ℕ) (m : ℕ) (out seen : List ℕ) (at i : ℕ) (p : Keeping s old m out seen at i) where
     abbrev L : List ℕ
-    L = added (words * 64) R (value 64 s) (handlersOf n k tries)
+    L = added (words * bits) R (value bits s) (handlersOf n k tries)
 
     abbrev rest : List ℕ
-    rest = added (words * 64) R (value 64 seen) (handlersOf n k (drop i tries))
+    rest = added (words * bits) R (value bits seen) (handlersOf n k (drop i tries))
 
     pub keeping-long : length out ≡ length old
     keeping-long = written-long L old m out at rest (p .so) (p .fits)
 
-    pub keeping-end : length tries ≤ i + 1 → Listing (added (words * 64) (row (rowsOf 64 words (suc n) rows)) (value 64 s) (handlersOf n k tries)) old m out at
+    pub keeping-end : length tries ≤ i + 1 → Listing (added (words * bits) (row (rowsOf bits words (suc n) rows)) (value bits s) (handlersOf n k tries)) old m out at
     keeping-end end = written-end L old m out at rest (p .so) (p .fits)
-        (ap (added (words * 64) R (value 64 seen)) (handlers-none n k (drop i tries) (omega (arith, length-drop i tries))) ∙ added-none (words * 64) R (value 64 seen))
+        (ap (added (words * bits) R (value bits seen)) (handlers-none n k (drop i tries) (omega (arith, length-drop i tries))) ∙ added-none (words * bits) R (value bits seen))
 
     module _ (l : i + 1 < length tries) (a b : ℕ) (e : a ≡ getD tries i 0) (f : b ≡ getD tries (i + 1) 0) where
       abbrev here : List ℕ
-      here = added (words * 64) R (value 64 seen) (handlersOf n k (a ∷ b ∷ []))
+      here = added (words * bits) R (value bits seen) (handlersOf n k (a ∷ b ∷ []))
 
       abbrev later : List ℕ
-      later = added (words * 64) R (bitOr (value 64 seen) (joined R (handlersOf n k (a ∷ b ∷ [])))) (handlersOf n k (drop (i + 2) tries))
+      later = added (words * bits) R (bitOr (value bits seen) (joined R (handlersOf n k (a ∷ b ∷ [])))) (handlersOf n k (drop (i + 2) tries))
 
       split : rest ≡ here ++ later
-      split = ap (added (words * 64) R (value 64 seen)) (handlers-split n k tries i l a b e f)
-          ∙ added-append (words * 64) R (handlersOf n k (a ∷ b ∷ [])) (handlersOf n k (drop (i + 2) tries)) (value 64 seen)
+      split = ap (added (words * bits) R (value bits seen)) (handlers-split n k tries i l a b e f)
+          ∙ added-append (words * bits) R (handlersOf n k (a ∷ b ∷ [])) (handlersOf n k (drop (i + 2) tries)) (value bits seen)
 
-      pub keeping-try : at + length (added (words * 64) (row (rowsOf 64 words (suc n) rows)) (value 64 seen) (handlersOf n k (a ∷ b ∷ []))) ≤ length out
+      pub keeping-try : at + length (added (words * bits) (row (rowsOf bits words (suc n) rows)) (value bits seen) (handlersOf n k (a ∷ b ∷ []))) ≤ length out
       keeping-try = written-room L old m out at rest (p .so) (p .fits) here later split
 
-      pub keeping-more : (out′ : List ℕ) (at′ : ℕ) → Listing (added (words * 64) (row (rowsOf 64 words (suc n) rows)) (value 64 seen) (handlersOf n k (a ∷ b ∷ []))) out at out′ at′
-          → (next : List ℕ) → Holds 64 next (bitOr (value 64 seen) (joined (row (rowsOf 64 words (suc n) rows)) (handlersOf n k (a ∷ b ∷ []))))
+      pub keeping-more : (out′ : List ℕ) (at′ : ℕ) → Listing (added (words * bits) (row (rowsOf bits words (suc n) rows)) (value bits seen) (handlersOf n k (a ∷ b ∷ []))) out at out′ at′
+          → (next : List ℕ) → Holds bits next (bitOr (value bits seen) (joined (row (rowsOf bits words (suc n) rows)) (handlersOf n k (a ∷ b ∷ []))))
           → Keeping s old m out′ next at′ (i + 2)
       keeping-more out′ at′ z next g = record {
         le = omega arith;
         small = g .small;
         fits = p .fits;
-        so = written-as L old m out′ at′ later (added (words * 64) R (value 64 next) (handlersOf n k (drop (i + 2) tries)))
+        so = written-as L old m out′ at′ later (added (words * bits) R (value bits next) (handlersOf n k (drop (i + 2) tries)))
             (written-more L old m out at rest (p .so) (p .fits) here later split out′ at′ z)
-            (ap (λ (x : ℕ). added (words * 64) R x (handlersOf n k (drop (i + 2) tries))) (sym (g .is)));
+            (ap (λ (x : ℕ). added (words * bits) R x (handlersOf n k (drop (i + 2) tries))) (sym (g .is)));
       }
 
 pub ruleset holdings = (holding-start, holding-more, holding-end)
@@ -237,44 +237,44 @@ pub ruleset keepings = (keeping-start, keeping-long, keeping-end)
 
 -- ---- a level
 
-module _ (regs : ℕ) (w tries rows : List ℕ) (words k : ℕ) (ready : Ready regs w words rows)
-    (s : List ℕ) (h : Holds 64 s (minus (row (rowsOf 64 words (suc (count w)) rows) (resumeOf w k)) (resultOf regs w k))) where
+module _ (bits hand regs : ℕ) (w tries rows : List ℕ) (words k : ℕ) (ready : Ready bits hand regs w words rows)
+    (s : List ℕ) (h : Holds bits s (minus (row (rowsOf bits words (suc (count w)) rows) (resumeOf w k)) (resultOf regs w k))) where
   abbrev Q : ℕ → ℕ
-  Q = row (rowsOf 64 words (suc (count w)) rows)
+  Q = row (rowsOf bits words (suc (count w)) rows)
 
   abbrev first : List ℕ
-  first = listed (words * 64) 0 (value 64 s)
+  first = listed (words * bits) 0 (value bits s)
 
   abbrev then : List ℕ
-  then = added (words * 64) Q (value 64 s) (handlersOf (count w) k tries)
+  then = added (words * bits) Q (value bits s) (handlersOf (count w) k tries)
 
   whole : kept regs Q (levelOf regs w tries k) ≡ first ++ then
-  whole = sym (kept-wide regs (words * 64) Q (ready .enough) (ready .bound) (levelOf regs w tries k))
-      ∙ ap (λ (x : ℕ). listed (words * 64) 0 x ++ added (words * 64) Q x (handlersOf (count w) k tries)) (sym (h .is))
+  whole = sym (kept-wide regs (words * bits) Q (ready .enough) (ready .bound) (levelOf regs w tries k))
+      ∙ ap (λ (x : ℕ). listed (words * bits) 0 x ++ added (words * bits) Q x (handlersOf (count w) k tries)) (sym (h .is))
 
   -- counted
-  module _ (u : List ℕ) (g : Holds 64 u (bitOr (value 64 s) (joined (row (rowsOf 64 words (suc (count w)) rows)) (handlersOf (count w) k tries)))) (r : ℕ)
-      (c : r ≡ length (listed (words * 64) 0 (value 64 u))) where
-    pub level-count : r ≡ length (kept regs (row (rowsOf 64 words (suc (count w)) rows)) (levelOf regs w tries k))
-    level-count = c ∙ ap (λ (x : ℕ). length (listed (words * 64) 0 x)) (g .is) ∙ sym (union-count (words * 64) Q (handlersOf (count w) k tries) (value 64 s)) ∙ ap length (sym whole)
+  module _ (u : List ℕ) (g : Holds bits u (bitOr (value bits s) (joined (row (rowsOf bits words (suc (count w)) rows)) (handlersOf (count w) k tries)))) (r : ℕ)
+      (c : r ≡ length (listed (words * bits) 0 (value bits u))) where
+    pub level-count : r ≡ length (kept regs (row (rowsOf bits words (suc (count w)) rows)) (levelOf regs w tries k))
+    level-count = c ∙ ap (λ (x : ℕ). length (listed (words * bits) 0 x)) (g .is) ∙ sym (union-count (words * bits) Q (handlersOf (count w) k tries) (value bits s)) ∙ ap length (sym whole)
 
     pub level-few : r ≤ 1024
-    level-few = omega (arith, c, listed-le (words * 64) 0 (value 64 u), ready .narrow)
+    level-few = omega (arith, c, listed-le (words * bits) 0 (value bits u), mul-le-mul-right bits (ready .narrow), ready .width .span)
 
   -- listed
-  module _ (old : List ℕ) (m : ℕ) (fits : m + length (kept regs (row (rowsOf 64 words (suc (count w)) rows)) (levelOf regs w tries k)) ≤ length old) where
+  module _ (old : List ℕ) (m : ℕ) (fits : m + length (kept regs (row (rowsOf bits words (suc (count w)) rows)) (levelOf regs w tries k)) ≤ length old) where
     sizes : m + (length first + length then) ≤ length old
     sizes = omega (arith, ap length whole, length-append first then)
 
-    pub level-room : m + length (listed (words * 64) 0 (value 64 s)) ≤ length old
+    pub level-room : m + length (listed (words * bits) 0 (value bits s)) ≤ length old
     level-room = omega (arith, sizes)
 
-    module _ (out : List ℕ) (at : ℕ) (a : Listing (listed (words * 64) 0 (value 64 s)) old m out at) where
-      pub level-rest : at + length (added (words * 64) (row (rowsOf 64 words (suc (count w)) rows)) (value 64 s) (handlersOf (count w) k tries)) ≤ length out
+    module _ (out : List ℕ) (at : ℕ) (a : Listing (listed (words * bits) 0 (value bits s)) old m out at) where
+      pub level-rest : at + length (added (words * bits) (row (rowsOf bits words (suc (count w)) rows)) (value bits s) (handlersOf (count w) k tries)) ≤ length out
       level-rest = omega (arith, sizes, a .past, ap length (a .put), length-paste old m first (length first) (omega (arith, sizes)) (omega arith))
 
-      pub level-list : (out′ : List ℕ) (at′ : ℕ) → Listing (added (words * 64) (row (rowsOf 64 words (suc (count w)) rows)) (value 64 s) (handlersOf (count w) k tries)) out at out′ at′
-          → Listing (kept regs (row (rowsOf 64 words (suc (count w)) rows)) (levelOf regs w tries k)) old m out′ at′
+      pub level-list : (out′ : List ℕ) (at′ : ℕ) → Listing (added (words * bits) (row (rowsOf bits words (suc (count w)) rows)) (value bits s) (handlersOf (count w) k tries)) out at out′ at′
+          → Listing (kept regs (row (rowsOf bits words (suc (count w)) rows)) (levelOf regs w tries k)) old m out′ at′
       level-list out′ at′ b = subst (λ (x : List ℕ). Listing x old m out′ at′) (sym whole) (listing-append first then old out out′ m at at′ (omega (arith, fits, ap length whole)) a b)
 
 pub ruleset levels = (level-count, level-few, level-room, level-rest, level-list)

@@ -11,3 +11,4 @@ pub mod Parts
 pub mod Demand
 pub mod Alone
 pub mod Widths
+pub mod Counts

@@ -22,7 +22,7 @@ module _ (regs : ℕ) (w tries rows : List ℕ) where
   one = keptAt regs w tries rows
 
   -- each offset is the length of all lists before
-  offset-at : (n k : ℕ) → k < n → getD (offsetsTo regs w tries rows n) k 0 ≡ length (listsTo regs w tries rows k)
+  pub offset-at : (n k : ℕ) → k < n → getD (offsetsTo regs w tries rows n) k 0 ≡ length (listsTo regs w tries rows k)
   unfolding offsetsTo
   offset-at zero k l = absurd (omega arith)
   offset-at (suc n) k l = go (ℕ-discrete k n) (λ h. offset-at n k h)

@@ -1,8 +1,8 @@
--- Sets in 16 words: a row less a set. Assumes nothing.
+-- Sets in words of any width: a row less a set. Assumes nothing.
 use mathlib.Core.Path.{_≡_, refl, _∙_, subst}
 use mathlib.Core.List.{List}
 use Prim.Native.Nat.{ℕ, _+_, _-_, _*_, _^_, _≤_, _<_, zero-le}
-use native.Mathlib.Nat.{zero-lt-suc, mul-le-mul}
+use native.Mathlib.Nat.{mul-le-mul}
 use native.Mathlib.Decide.{decLt}
 use native.Mathlib.Omega.{arith}
 use borrow.Author.Needs.{fits-under}
@@ -18,21 +18,18 @@ use Rattle.flow.proofs.Words.{holds-minus}
 use Rattle.flow.proofs.Buffer.{window-in, window-past, small-window}
 use Rattle.flow.proofs.Fill.{Front, front-in, front-past, front-none, front-more}
 
-pub wide : 0 < 64
-wide = zero-lt-suc 63
-
-pub held : (s : List ℕ) → Small 64 s → Holds 64 s (value 64 s)
-held s h = record { small = h; is = refl }
+pub held : (bits : ℕ) (s : List ℕ) → Small bits s → Holds bits s (value bits s)
+held bits s h = record { small = h; is = refl }
 
 -- where a row begins fits a word
-pub scaled : (t words : ℕ) → t ≤ 65536 → words ≤ 16 → Fits w64 (t * words)
-scaled t words a b = fits-under w64 (t * words) 1048577 (omega (arith, mul-le-mul a b)) tt
+pub scaled : (t words : ℕ) → t ≤ 65536 → words ≤ 1024 → Fits w64 (t * words)
+scaled t words a b = fits-under w64 (t * words) 67108865 (omega (arith, mul-le-mul a b)) tt
 
 -- ---- a row less a set, word by word
 
-pub record Lessing (rows less : List ℕ) (at words j : ℕ) (out : List ℕ) : Type 0 where
+pub record Lessing (hand : ℕ) (rows less : List ℕ) (at words j : ℕ) (out : List ℕ) : Type 0 where
   pub le : j ≤ words
-  pub long : length out ≡ 16
+  pub long : length out ≡ hand
   pub front : Front (λ i. minus (getD rows (at + i) 0) (getD less i 0)) (λ i. 0) j out
 
 none-less : (x : ℕ) → minus 0 x ≡ 0
@@ -45,21 +42,21 @@ module _ (rows less : List ℕ) (at words : ℕ) where
   abbrev B : ℕ → ℕ
   B i = 0
 
-  pub lessing-start : Lessing rows less at words 0 (replicate 16 0)
-  lessing-start = record { le = zero-le; long = length-replicate {A = ℕ} 16 0; front = front-none A B (replicate 16 0) (λ i. zeros-at 16 i) }
+  pub lessing-start : (hand : ℕ) → Lessing hand rows less at words 0 (replicate hand 0)
+  lessing-start hand = record { le = zero-le; long = length-replicate {A = ℕ} hand 0; front = front-none A B (replicate hand 0) (λ i. zeros-at hand i) }
 
-  module _ (j : ℕ) (out : List ℕ) (p : Lessing rows less at words j out) (sl : Small 64 less) (sr : Small 64 rows) where
-    pub lessing-more : j < words → words ≤ 16 → Lessing rows less at words (j + 1) (set out j (bitAnd (getD rows (at + j) 0) ((2 ^ 64 - 1) - getD less j 0)))
+  module _ (bits hand j : ℕ) (out : List ℕ) (p : Lessing hand rows less at words j out) (sl : Small bits less) (sr : Small bits rows) where
+    pub lessing-more : j < words → words ≤ hand → Lessing hand rows less at words (j + 1) (set out j (bitAnd (getD rows (at + j) 0) ((2 ^ bits - 1) - getD less j 0)))
     lessing-more l f = record {
       le = omega arith;
-      long = length-set out j (bitAnd (getD rows (at + j) 0) ((2 ^ 64 - 1) - getD less j 0)) ∙ p .long;
-      front = front-more A B j (bitAnd (getD rows (at + j) 0) ((2 ^ 64 - 1) - getD less j 0)) out (p .front) (omega (arith, p .long))
-          (and-not 64 (getD rows (at + j) 0) (getD less j 0) (sr (at + j)) (sl j));
+      long = length-set out j (bitAnd (getD rows (at + j) 0) ((2 ^ bits - 1) - getD less j 0)) ∙ p .long;
+      front = front-more A B j (bitAnd (getD rows (at + j) 0) ((2 ^ bits - 1) - getD less j 0)) out (p .front) (omega (arith, p .long))
+          (and-not bits (getD rows (at + j) 0) (getD less j 0) (sr (at + j)) (sl j));
     }
 
-    pub lessing-done : words ≤ j → Holds 64 out (minus (value 64 (take words (drop at rows))) (value 64 less))
-    lessing-done l = holds-minus 64 wide (take words (drop at rows)) less out (value 64 (take words (drop at rows))) (value 64 less)
-        (held (take words (drop at rows)) (small-window 64 words at rows sr)) (held less sl) (λ i. go i (decLt i words))
+    pub lessing-done : 0 < bits → words ≤ j → Holds bits out (minus (value bits (take words (drop at rows))) (value bits less))
+    lessing-done wide l = holds-minus bits wide (take words (drop at rows)) less out (value bits (take words (drop at rows))) (value bits less)
+        (held bits (take words (drop at rows)) (small-window bits words at rows sr)) (held bits less sl) (λ i. go i (decLt i words))
       where
         whole : j ≤ words → j ≡ words
         whole h = omega arith

@@ -3,6 +3,7 @@ use mathlib.Core.Path.{_≡_, refl, sym, ap, ap₂, _∙_, subst}
 use mathlib.Core.Bool.{Bool}
 use mathlib.Core.List.{List}
 use Prim.Native.Nat.{ℕ, suc, _+_, _*_, _≤_, _<_}
+use native.Mathlib.Nat.{zero-lt-suc}
 use native.Mathlib.Numerals.{add-one}
 use native.Mathlib.Omega.{arith}
 use borrow.Author.Needs.{fits-under}
@@ -43,9 +44,9 @@ module _ (w : List ℕ) (regs : ℕ) (tries : List ℕ) (v u t : Checked) (e : v
   chain : triedOf (registersOf (checkOf w) regs) tries ≡ t
   chain = sym (g ∙ ap (λ (x : Checked). triedOf x tries) (f ∙ ap (λ (x : Checked). registersOf x regs) e))
 
-  pub stage-no : (r : Refusal) → t ≡ No r → (a b : ℕ) → No r ≡ stagesOf w regs tries a b
+  pub stage-no : (bits : ℕ) (r : Refusal) → t ≡ No r → (a b : ℕ) → No r ≡ stagesOf bits w regs tries a b
   unfolding stagesOf
-  stage-no r h a b = sym (ap (λ (x : Checked). roomOf (roomOf x 1 a (scratchFor regs w)) 2 b (suc (count w))) (chain ∙ h))
+  stage-no bits r h a b = sym (ap (λ (x : Checked). roomOf (roomOf x 1 a (scratchFor bits regs w)) 2 b (suc (count w))) (chain ∙ h))
 
   module _ (n : ℕ) (h : t ≡ Count n) where
     pub stage-few : regs ≤ 1024
@@ -54,41 +55,44 @@ module _ (w : List ℕ) (regs : ℕ) (tries : List ℕ) (v u t : Checked) (e : v
     pub stage-add : Fits w64 (n + 1)
     stage-add = fits-under w64 (n + 1) 65537 (omega (arith, past-count w regs tries n (chain ∙ h), past-valid w regs tries n (chain ∙ h) .few)) tt
 
-    module _ (m : ℕ) (q : m ≡ wordsFor regs) where
-      pub stage-mul : Fits w64 ((n + 1) * m)
-      stage-mul = scaled (n + 1) m (omega (arith, past-count w regs tries n (chain ∙ h), past-valid w regs tries n (chain ∙ h) .few)) (words-few regs m q stage-few)
+    far : {bits : ℕ} → 0 < bits → regs ≤ 1024 → regs ≤ 1024 * bits
+    far {bits} wide few = omega arith
 
-      pub stage-yes : (x y : Checked) (a b : ℕ) → x ≡ roomOf (Count n) 1 a ((n + 1) * m) → y ≡ roomOf x 2 b (n + 1) → y ≡ stagesOf w regs tries a b
+    module _ (bits m : ℕ) (q : m ≡ wordsFor bits regs) where
+      pub stage-mul : 0 < bits → Fits w64 ((n + 1) * m)
+      stage-mul wide = scaled (n + 1) m (omega (arith, past-count w regs tries n (chain ∙ h), past-valid w regs tries n (chain ∙ h) .few)) (words-few bits regs m q 1024 wide (zero-lt-suc 1023) (far wide stage-few))
+
+      pub stage-yes : (x y : Checked) (a b : ℕ) → x ≡ roomOf (Count n) 1 a ((n + 1) * m) → y ≡ roomOf x 2 b (n + 1) → y ≡ stagesOf bits w regs tries a b
       unfolding stagesOf
       stage-yes x y a b p z =
           z ∙ ap (λ (s : Checked). roomOf s 2 b (n + 1)) p
           ∙ ap (λ (s : ℕ). roomOf (roomOf (Count n) 1 a (s * m)) 2 b s) (add-one n ∙ ap suc (past-count w regs tries n (chain ∙ h)))
           ∙ ap (λ (s : ℕ). roomOf (roomOf (Count n) 1 a (suc (count w) * s)) 2 b (suc (count w))) q
-          ∙ ap (λ (s : Checked). roomOf (roomOf s 1 a (scratchFor regs w)) 2 b (suc (count w))) (sym (chain ∙ h))
+          ∙ ap (λ (s : Checked). roomOf (roomOf s 1 a (scratchFor bits regs w)) 2 b (suc (count w))) (sym (chain ∙ h))
 
 pub ruleset tests = (stage-no, stage-few, stage-add, stage-mul, stage-yes)
 
 -- ---- what an accepted input keeps
 
-module _ (w : List ℕ) (regs : ℕ) (tries : List ℕ) (a b n : ℕ) (h : stagesOf w regs tries a b ≡ Count n) where
+module _ (bits : ℕ) (w : List ℕ) (regs : ℕ) (tries : List ℕ) (a b n : ℕ) (h : stagesOf bits w regs tries a b ≡ Count n) where
   four : Checked
   four = triedOf (registersOf (checkOf w) regs) tries
 
-  whole : Count n ≡ roomOf (roomOf (triedOf (registersOf (checkOf w) regs) tries) 1 a (scratchFor regs w)) 2 b (suc (count w))
+  whole : Count n ≡ roomOf (roomOf (triedOf (registersOf (checkOf w) regs) tries) 1 a (scratchFor bits regs w)) 2 b (suc (count w))
   unfolding stagesOf
   whole = sym h
 
-  one : roomOf (triedOf (registersOf (checkOf w) regs) tries) 1 a (scratchFor regs w) ≡ Count n
-  one = room-before n (roomOf (triedOf (registersOf (checkOf w) regs) tries) 1 a (scratchFor regs w)) 2 b (suc (count w)) whole
+  one : roomOf (triedOf (registersOf (checkOf w) regs) tries) 1 a (scratchFor bits regs w) ≡ Count n
+  one = room-before n (roomOf (triedOf (registersOf (checkOf w) regs) tries) 1 a (scratchFor bits regs w)) 2 b (suc (count w)) whole
 
   past : triedOf (registersOf (checkOf w) regs) tries ≡ Count n
-  past = room-before n (triedOf (registersOf (checkOf w) regs) tries) 1 a (scratchFor regs w) (sym one)
+  past = room-before n (triedOf (registersOf (checkOf w) regs) tries) 1 a (scratchFor bits regs w) (sym one)
 
   pub accepted-offsets : count w < b
-  accepted-offsets = room-there n (roomOf (triedOf (registersOf (checkOf w) regs) tries) 1 a (scratchFor regs w)) 2 b (suc (count w)) whole
+  accepted-offsets = room-there n (roomOf (triedOf (registersOf (checkOf w) regs) tries) 1 a (scratchFor bits regs w)) 2 b (suc (count w)) whole
 
-  pub accepted-scratch : scratchFor regs w ≤ a
-  accepted-scratch = room-there n (triedOf (registersOf (checkOf w) regs) tries) 1 a (scratchFor regs w) (sym one)
+  pub accepted-scratch : scratchFor bits regs w ≤ a
+  accepted-scratch = room-there n (triedOf (registersOf (checkOf w) regs) tries) 1 a (scratchFor bits regs w) (sym one)
 
   pub accepted-few : regs ≤ 1024
   accepted-few = past-few w regs tries n past
@@ -96,5 +100,5 @@ module _ (w : List ℕ) (regs : ℕ) (tries : List ℕ) (a b n : ℕ) (h : stage
   pub accepted-valid : Valid w
   accepted-valid = past-valid w regs tries n past
 
-  pub accepted-count : stagesOf w regs tries a b ≡ Count (count w)
+  pub accepted-count : stagesOf bits w regs tries a b ≡ Count (count w)
   accepted-count = h ∙ ap Count (past-count w regs tries n past)

@@ -1,8 +1,8 @@
--- Kept lists do not depend on the route: any two routes agree from every level on. Assumes nothing.
+-- Kept lists do not depend on the width of the words, nor on the route: any two routes agree from every level on. Assumes nothing.
 use mathlib.Core.Path.{_≡_, refl, sym, ap, ap₂, _∙_}
 use mathlib.Core.Bool.{Bool, true, false, cond}
 use mathlib.Core.List.{List, [], _∷_, _++_, List·Memᴰ, List·Memᴰ·head, List·Memᴰ·tail}
-use Prim.Native.Nat.{ℕ, zero, suc, _+_, _-_, _≤_, _<_}
+use Prim.Native.Nat.{ℕ, zero, suc, _≤_, _<_}
 use native.Mathlib.Nat.{le-refl}
 use native.Mathlib.Decide.{decLt}
 use native.Mathlib.Omega.{arith}
@@ -23,7 +23,6 @@ use Rattle.rows.specs.Route.{firstOf, rowsIn, Rows}
 use Rattle.kept.specs.Level.{resumeOf, levelOf, keptAt}
 use Rattle.kept.specs.Lists.{listsTo, offsetsTo, over}
 use Rattle.kept.specs.Answers.{Outcome}
-use Rattle.kept.specs.declared.KeptAnswer.{KeptAnswer}
 use Rattle.kept.specs.declared.KeptAnswer.the-variants.{Is}
 use Rattle.kept.proofs.Resume.{resume-in}
 use Rattle.kept.proofs.Passes.{offsets-long}
@@ -43,39 +42,51 @@ module _ (regs : ℕ) (R S : ℕ → ℕ) where
       ap (λ (x : ℕ). listed regs 0 (minus x (v .result)) ++ added regs R (minus x (v .result)) (v .handlers)) e
       ∙ ap (λ (l : List ℕ). listed regs 0 (minus (S (v .resume)) (v .result)) ++ l) (added-agree (v .handlers) (minus (S (v .resume)) (v .result)) es)
 
-module _ (w : List ℕ) (regs : ℕ) (tries : List ℕ) (valid : Valid w) (wide wide′ : Bool) (a a′ : List ℕ) (full lost full′ lost′ : ℕ)
-    (p : Rows wide regs w a full lost) (q : Rows wide′ regs w a′ full′ lost′) where
+module _ (w : List ℕ) (regs : ℕ) (tries : List ℕ) (valid : Valid w) (bits bits′ : ℕ) (wide wide′ : Bool) (a a′ : List ℕ) (full lost full′ lost′ : ℕ)
+    (p : Rows bits wide regs w a full lost) (q : Rows bits′ wide′ regs w a′ full′ lost′) where
+  abbrev R : List ℕ
+  R = rowsIn bits regs w a
+
+  abbrev S : List ℕ
+  S = rowsIn bits′ regs w a′
+
+  -- where each route begins
+  abbrev here : ℕ
+  here = firstOf bits wide regs w
+
+  abbrev there : ℕ
+  there = firstOf bits′ wide′ regs w
+
   -- at or past both starts the rows are the same
-  rows-same : (j : ℕ) → firstOf wide regs w ≤ j → firstOf wide′ regs w ≤ j → row (rowsIn regs w a) j ≡ row (rowsIn regs w a′) j
-  rows-same j l l′ = go (decLt (startOf (flow regs w) (firstOf wide regs w)) (startOf (flow regs w) (firstOf wide′ regs w)))
+  rows-same : (j : ℕ) → here ≤ j → there ≤ j → row R j ≡ row S j
+  rows-same j l l′ = go (decLt (startOf (flow regs w) here) (startOf (flow regs w) there))
     where
-      go : Dec (startOf (flow regs w) (firstOf wide regs w) < startOf (flow regs w) (firstOf wide′ regs w)) → row (rowsIn regs w a) j ≡ row (rowsIn regs w a′) j
-      go (yes h) = found-agree (flow regs w) (firstOf wide regs w) (firstOf wide′ regs w) (inside wide regs w) (inside wide′ regs w) (omega arith) p q j
-          (omega (arith, start-le (flow regs w) (firstOf wide′ regs w)))
-      go (no n) = sym (found-agree (flow regs w) (firstOf wide′ regs w) (firstOf wide regs w) (inside wide′ regs w) (inside wide regs w) (omega arith) q p j
-          (omega (arith, start-le (flow regs w) (firstOf wide regs w))))
+      go : Dec (startOf (flow regs w) here < startOf (flow regs w) there) → row R j ≡ row S j
+      go (yes h) = found-agree (flow regs w) here there (inside bits wide regs w) (inside bits′ wide′ regs w) (omega arith) p q j
+          (omega (arith, start-le (flow regs w) there))
+      go (no n) = sym (found-agree (flow regs w) there here (inside bits′ wide′ regs w) (inside bits wide regs w) (omega arith) q p j
+          (omega (arith, start-le (flow regs w) here)))
 
   -- so the list of each position is the same
-  pub kept-same : (k : ℕ) → k < count w → keptAt regs w tries (rowsIn regs w a) k ≡ keptAt regs w tries (rowsIn regs w a′) k
+  pub kept-same : (k : ℕ) → k < count w → keptAt regs w tries R k ≡ keptAt regs w tries S k
   unfolding keptAt
   kept-same k l = go (isLevel (insAt w k)) refl
     where
-      go : (t : Bool) → isLevel (insAt w k) ≡ t
-          → cond t (kept regs (row (rowsIn regs w a)) (levelOf regs w tries k)) [] ≡ cond t (kept regs (row (rowsIn regs w a′)) (levelOf regs w tries k)) []
-      go true e = kept-agree regs (row (rowsIn regs w a)) (row (rowsIn regs w a′)) (levelOf regs w tries k)
+      go : (t : Bool) → isLevel (insAt w k) ≡ t → cond t (kept regs (row R) (levelOf regs w tries k)) [] ≡ cond t (kept regs (row S) (levelOf regs w tries k)) []
+      go true e = kept-agree regs (row R) (row S) (levelOf regs w tries k)
           (from (resumeOf w k) (resume-in w k valid l .0)) (λ h m. from h (omega (arith, handlers-past (count w) k l tries h m .0)))
         where
-          from : (j : ℕ) → k ≤ j → row (rowsIn regs w a) j ≡ row (rowsIn regs w a′) j
-          from j h = rows-same j (omega (arith, before wide regs w k l e)) (omega (arith, before wide′ regs w k l e))
+          from : (j : ℕ) → k ≤ j → row R j ≡ row S j
+          from j h = rows-same j (omega (arith, before bits wide regs w k l e)) (omega (arith, before bits′ wide′ regs w k l e))
       go false e = refl
 
   -- and so are the flat list and its offsets
-  pub lists-same : (m : ℕ) → m ≤ count w → listsTo regs w tries (rowsIn regs w a) m ≡ listsTo regs w tries (rowsIn regs w a′) m
+  pub lists-same : (m : ℕ) → m ≤ count w → listsTo regs w tries R m ≡ listsTo regs w tries S m
   unfolding listsTo
   lists-same zero l = refl
   lists-same (suc m) l = ap₂ _++_ (lists-same m (omega arith)) (kept-same m (omega arith))
 
-  pub offsets-same : (m : ℕ) → m ≤ suc (count w) → offsetsTo regs w tries (rowsIn regs w a) m ≡ offsetsTo regs w tries (rowsIn regs w a′) m
+  pub offsets-same : (m : ℕ) → m ≤ suc (count w) → offsetsTo regs w tries R m ≡ offsetsTo regs w tries S m
   unfolding offsetsTo
   offsets-same zero l = refl
   offsets-same (suc m) l = ap₂ _++_ (offsets-same m (omega arith)) (ap (λ (x : List ℕ). length x ∷ []) (lists-same m (omega arith)))
@@ -84,31 +95,40 @@ module _ (w : List ℕ) (regs : ℕ) (tries : List ℕ) (valid : Valid w) (wide 
 front : (l old : List ℕ) (n : ℕ) → length l ≡ n → take n (over l old) ≡ l
 front l old n e = ap (λ (x : ℕ). take x (over l old)) (sym e) ∙ take-append-seam l (drop (length l) old)
 
--- Two calls with the same code, register count and tries, on whatever routes, that both answer: one length, one list, one page of offsets.
-module _ (w : List ℕ) (regs : ℕ) (tries : List ℕ) (wide wide′ : Bool) (rows offsets list rows′ offsets′ list′ : List ℕ)
-    (a b c a′ b′ c′ : List ℕ) (t f g t′ f′ g′ : ℕ)
-    (p : Outcome w regs tries wide rows offsets list a b c (Is t f g)) (q : Outcome w regs tries wide′ rows′ offsets′ list′ a′ b′ c′ (Is t′ f′ g′)) where
-  one : Left w regs tries wide rows offsets list a b c t f g
-  one = left w regs tries wide rows offsets list p t f g refl
+-- what an answer leaves in the first words of list and offsets
+module _ (bits : ℕ) (w : List ℕ) (regs : ℕ) (tries : List ℕ) (wide : Bool) (rows offsets list a b c : List ℕ) (t f g : ℕ)
+    (p : Outcome bits w regs tries wide rows offsets list a b c (Is t f g)) where
+  said : Left bits w regs tries wide rows offsets list a b c t f g
+  said = left bits w regs tries wide rows offsets list p t f g refl
 
-  other : Left w regs tries wide′ rows′ offsets′ list′ a′ b′ c′ t′ f′ g′
-  other = left w regs tries wide′ rows′ offsets′ list′ q t′ f′ g′ refl
+  list-is : take t c ≡ listsTo regs w tries (rowsIn bits regs w a) (count w)
+  list-is = ap (take t) (said .lists) ∙ front (listsTo regs w tries (rowsIn bits regs w a) (count w)) list t (sym (said .total))
 
-  all : listsTo regs w tries (rowsIn regs w a) (count w) ≡ listsTo regs w tries (rowsIn regs w a′) (count w)
-  all = lists-same w regs tries (one .valid) wide wide′ a a′ f g f′ g′ (one .scratch .found) (other .scratch .found) (count w) (le-refl (count w))
+  offsets-are : take (suc (count w)) b ≡ offsetsTo regs w tries (rowsIn bits regs w a) (suc (count w))
+  offsets-are = ap (take (suc (count w))) (said .begins)
+      ∙ front (offsetsTo regs w tries (rowsIn bits regs w a) (suc (count w))) offsets (suc (count w)) (offsets-long regs w tries (rowsIn bits regs w a) (suc (count w)))
+
+-- Two calls with the same code, register count and tries, of whatever widths and routes, that both answer: one length, one list, one page of offsets.
+module _ (w : List ℕ) (regs : ℕ) (tries : List ℕ) (bits bits′ : ℕ) (wide wide′ : Bool) (rows offsets list rows′ offsets′ list′ : List ℕ)
+    (a b c a′ b′ c′ : List ℕ) (t f g t′ f′ g′ : ℕ) (p : Outcome bits w regs tries wide rows offsets list a b c (Is t f g))
+    (q : Outcome bits′ w regs tries wide′ rows′ offsets′ list′ a′ b′ c′ (Is t′ f′ g′)) where
+  one : Left bits w regs tries wide rows offsets list a b c t f g
+  one = said bits w regs tries wide rows offsets list a b c t f g p
+
+  other : Left bits′ w regs tries wide′ rows′ offsets′ list′ a′ b′ c′ t′ f′ g′
+  other = said bits′ w regs tries wide′ rows′ offsets′ list′ a′ b′ c′ t′ f′ g′ q
+
+  all : listsTo regs w tries (rowsIn bits regs w a) (count w) ≡ listsTo regs w tries (rowsIn bits′ regs w a′) (count w)
+  all = lists-same w regs tries (one .valid) bits bits′ wide wide′ a a′ f g f′ g′ (one .scratch .found) (other .scratch .found) (count w) (le-refl (count w))
 
   pub totals-one : t ≡ t′
   totals-one = one .total ∙ ap length all ∙ sym (other .total)
 
   pub lists-one : take t c ≡ take t′ c′
-  lists-one =
-      ap (take t) (one .lists) ∙ front (listsTo regs w tries (rowsIn regs w a) (count w)) list t (sym (one .total)) ∙ all
-      ∙ sym (ap (take t′) (other .lists) ∙ front (listsTo regs w tries (rowsIn regs w a′) (count w)) list′ t′ (sym (other .total)))
+  lists-one = list-is bits w regs tries wide rows offsets list a b c t f g p ∙ all ∙ sym (list-is bits′ w regs tries wide′ rows′ offsets′ list′ a′ b′ c′ t′ f′ g′ q)
 
   pub offsets-one : take (suc (count w)) b ≡ take (suc (count w)) b′
-  offsets-one =
-      ap (take (suc (count w))) (one .begins) ∙ front (offsetsTo regs w tries (rowsIn regs w a) (suc (count w))) offsets (suc (count w))
-      (offsets-long regs w tries (rowsIn regs w a) (suc (count w)))
-      ∙ offsets-same w regs tries (one .valid) wide wide′ a a′ f g f′ g′ (one .scratch .found) (other .scratch .found) (suc (count w)) (le-refl (suc (count w)))
-      ∙ sym (ap (take (suc (count w))) (other .begins) ∙ front (offsetsTo regs w tries (rowsIn regs w a′) (suc (count w))) offsets′ (suc (count w))
-      (offsets-long regs w tries (rowsIn regs w a′) (suc (count w))))
+  offsets-one = offsets-are bits w regs tries wide rows offsets list a b c t f g p
+      ∙ offsets-same w regs tries (one .valid) bits bits′ wide wide′ a a′ f g f′ g′ (one .scratch .found) (other .scratch .found)
+      (suc (count w)) (le-refl (suc (count w)))
+      ∙ sym (offsets-are bits′ w regs tries wide′ rows′ offsets′ list′ a′ b′ c′ t′ f′ g′ q)

@@ -9,9 +9,9 @@ use Rattle.flow.specs.Sweep.{row}
 use Rattle.flow.specs.Words.{rowsOf, Small}
 use Rattle.kept.specs.Level.{keptAt}
 
--- the rows that a buffer holds, in so many words each
-abbrev pub rowsBy : ℕ → List ℕ → List ℕ → List ℕ
-rowsBy words w buf = rowsOf 64 words (suc (count w)) buf
+-- the rows that a buffer holds, in so many words each, of so many bits
+abbrev pub rowsBy : ℕ → ℕ → List ℕ → List ℕ → List ℕ
+rowsBy bits words w buf = rowsOf bits words (suc (count w)) buf
 
 -- the kept lists of the first m positions, one after the other
 unfoldable pub listsTo : ℕ → List ℕ → List ℕ → List ℕ → ℕ → List ℕ
@@ -31,15 +31,23 @@ over l old = l ++ drop (length l) old
 abbrev pub partAt : List ℕ → List ℕ → ℕ → List ℕ
 partAt offsets list k = take (getD offsets (k + 1) 0 - getD offsets k 0) (drop (getD offsets k 0) list)
 
--- what a pass over the levels relies on: valid code, its rows in so many words each, and no register at or above the count
-pub record Ready (regs : ℕ) (w : List ℕ) (words : ℕ) (buf : List ℕ) : Type 0 where
+-- a width of words, and so many of them in hand: together they hold 1,024 registers
+pub record Width (bits hand : ℕ) : Type 0 where
+  pub some : 0 < bits
+  pub more : 0 < hand
+  pub few : hand ≤ 1024
+  pub span : hand * bits ≡ 1024
+
+-- what a pass over the levels relies on, with words of so many bits and so many of them in hand: valid code, its rows in so many words each, and no register at or above the count
+pub record Ready (bits hand regs : ℕ) (w : List ℕ) (words : ℕ) (buf : List ℕ) : Type 0 where
+  pub width : Width bits hand
   pub valid : Valid w
   pub few : regs ≤ 1024
-  pub narrow : words ≤ 16
-  pub enough : regs ≤ words * 64
+  pub narrow : words ≤ hand
+  pub enough : regs ≤ words * bits
   pub room : suc (count w) * words ≤ length buf
-  pub small : Small 64 buf
-  pub bound : (k : ℕ) → row (rowsBy words w buf) k < 2 ^ regs
+  pub small : Small bits buf
+  pub bound : (k : ℕ) → row (rowsBy bits words w buf) k < 2 ^ regs
 
 -- all lists and offsets are written
 pub record Filled (regs : ℕ) (w tries rows offsets list offsets′ list′ : List ℕ) : Type 0 where

@@ -28,9 +28,9 @@ pub enum KeptAnswer {
 }
 
 // Where a level goes on, and the register of its result.
-struct Onward {
-    at: usize,
-    result: usize,
+pub struct Onward {
+    pub at: usize,
+    pub result: usize,
 }
 
 // No register.
@@ -46,7 +46,7 @@ pub fn kept(
     offsets: &mut [u32],
     list: &mut [u16],
 ) -> KeptAnswer
-    ensures { λ r. ⌜ Outcome (now (code .entry)) regs (now (tries .entry)) wide (now (rows .entry)) (now (offsets .entry)) (now (list .entry)) (now (rows .exit)) (now (offsets .exit)) (now (list .exit)) r ⌝ }
+    ensures { λ r. ⌜ Outcome 64 (now (code .entry)) regs (now (tries .entry)) wide (now (rows .entry)) (now (offsets .entry)) (now (list .entry)) (now (rows .exit)) (now (offsets .exit)) (now (list .exit)) r ⌝ }
 {
     let v = stages(code, regs, tries, rows.len(), offsets.len());
     match v {
@@ -56,7 +56,7 @@ pub fn kept(
 }
 
 // `after`.
-fn after(code: &[u16], k: usize) -> Onward
+pub fn after(code: &[u16], k: usize) -> Onward
     requires { ⌜ Valid (now code) × (k < count (now code)) ⌝ }
     ensures { λ a. ⌜ Goes (now (code .entry)) k (a .at) (a .result) ⌝ }
 {
@@ -152,14 +152,14 @@ fn count_set(set: [u64; 16], words: usize) -> usize
     n
 }
 
-fn wide_of(x: u32) -> usize
+pub fn wide_of(x: u32) -> usize
     ensures { λ r. ⌜ r ≡ x ⌝ }
 {
     x as usize
 }
 
 // Whether the try (s, h) is around k.
-fn around(s: usize, k: usize, h: usize) -> bool
+pub fn around(s: usize, k: usize, h: usize) -> bool
     ensures { λ r. ⌜ r ≡ ltb s k && ltb k h ⌝ }
 {
     (s < k) & (k < h)
@@ -260,8 +260,8 @@ fn list_tries(
 
 // The resume row of the level at k, less its result register.
 fn main_row(code: &[u16], regs: usize, rows: &[u64], words: usize, k: usize) -> [u64; 16]
-    requires { ⌜ Ready regs (now code) words (now rows) × (k < count (now code)) ⌝ }
-    ensures { λ s. ⌜ Holds 64 s (minus (row (rowsBy words (now (code .entry)) (now (rows .entry))) (resumeOf (now (code .entry)) k)) (resultOf regs (now (code .entry)) k)) ⌝ }
+    requires { ⌜ Ready 64 16 regs (now code) words (now rows) × (k < count (now code)) ⌝ }
+    ensures { λ s. ⌜ Holds 64 s (minus (row (rowsBy 64 words (now (code .entry)) (now (rows .entry))) (resumeOf (now (code .entry)) k)) (resultOf regs (now (code .entry)) k)) ⌝ }
 {
     let a = after(code, k);
     let whole = rows::join_row([0u64; 16], rows, a.at * words, words);
@@ -277,8 +277,8 @@ fn count_level(
     words: usize,
     k: usize,
 ) -> usize
-    requires { ⌜ Ready regs (now code) words (now rows) × (k < count (now code)) ⌝ }
-    ensures { λ r. ⌜ (r ≡ length (keptOf regs (row (rowsBy words (now (code .entry)) (now (rows .entry)))) (levelOf regs (now (code .entry)) (now (tries .entry)) k))) × (r ≤ 1024) ⌝ }
+    requires { ⌜ Ready 64 16 regs (now code) words (now rows) × (k < count (now code)) ⌝ }
+    ensures { λ r. ⌜ (r ≡ length (keptOf regs (row (rowsBy 64 words (now (code .entry)) (now (rows .entry)))) (levelOf regs (now (code .entry)) (now (tries .entry)) k))) × (r ≤ 1024) ⌝ }
 {
     let main = main_row(code, regs, rows, words, k);
     let all = join_tries(main, rows, code.len() / 6, words, k, tries);
@@ -296,8 +296,8 @@ fn keep_level(
     out: &mut [u16],
     m: usize,
 ) -> usize
-    requires { ⌜ Ready regs (now code) words (now rows) × (k < count (now code)) × (m + length (keptOf regs (row (rowsBy words (now code) (now rows))) (levelOf regs (now code) (now tries) k)) ≤ length (now out)) ⌝ }
-    ensures { λ r. ⌜ Listing (keptOf regs (row (rowsBy words (now (code .entry)) (now (rows .entry)))) (levelOf regs (now (code .entry)) (now (tries .entry)) k)) (now (out .entry)) m (now (out .exit)) r ⌝ }
+    requires { ⌜ Ready 64 16 regs (now code) words (now rows) × (k < count (now code)) × (m + length (keptOf regs (row (rowsBy 64 words (now code) (now rows))) (levelOf regs (now code) (now tries) k)) ≤ length (now out)) ⌝ }
+    ensures { λ r. ⌜ Listing (keptOf regs (row (rowsBy 64 words (now (code .entry)) (now (rows .entry)))) (levelOf regs (now (code .entry)) (now (tries .entry)) k)) (now (out .entry)) m (now (out .exit)) r ⌝ }
 {
     let main = main_row(code, regs, rows, words, k);
     let at = list_set(main, words, out, m);
@@ -306,8 +306,8 @@ fn keep_level(
 
 // How many registers are kept at k.
 fn count_at(code: &[u16], regs: usize, tries: &[u32], rows: &[u64], words: usize, k: usize) -> usize
-    requires { ⌜ Ready regs (now code) words (now rows) × (k < count (now code)) ⌝ }
-    ensures { λ r. ⌜ (r ≡ length (keptAt regs (now (code .entry)) (now (tries .entry)) (rowsBy words (now (code .entry)) (now (rows .entry))) k)) × (r ≤ 1024) ⌝ }
+    requires { ⌜ Ready 64 16 regs (now code) words (now rows) × (k < count (now code)) ⌝ }
+    ensures { λ r. ⌜ (r ≡ length (keptAt regs (now (code .entry)) (now (tries .entry)) (rowsBy 64 words (now (code .entry)) (now (rows .entry))) k)) × (r ≤ 1024) ⌝ }
 {
     if steps::level_at(code::ins_at(code, k)) {
         return count_level(code, regs, tries, rows, words, k);
@@ -326,8 +326,8 @@ fn keep_at(
     out: &mut [u16],
     m: usize,
 ) -> usize
-    requires { ⌜ Ready regs (now code) words (now rows) × (k < count (now code)) × (m + length (keptAt regs (now code) (now tries) (rowsBy words (now code) (now rows)) k) ≤ length (now out)) ⌝ }
-    ensures { λ r. ⌜ Listing (keptAt regs (now (code .entry)) (now (tries .entry)) (rowsBy words (now (code .entry)) (now (rows .entry))) k) (now (out .entry)) m (now (out .exit)) r ⌝ }
+    requires { ⌜ Ready 64 16 regs (now code) words (now rows) × (k < count (now code)) × (m + length (keptAt regs (now code) (now tries) (rowsBy 64 words (now code) (now rows)) k) ≤ length (now out)) ⌝ }
+    ensures { λ r. ⌜ Listing (keptAt regs (now (code .entry)) (now (tries .entry)) (rowsBy 64 words (now (code .entry)) (now (rows .entry))) k) (now (out .entry)) m (now (out .exit)) r ⌝ }
 {
     if steps::level_at(code::ins_at(code, k)) {
         return keep_level(code, regs, tries, rows, words, k, out, m);
@@ -337,8 +337,8 @@ fn keep_at(
 
 // The sum of the list lengths.
 fn count_all(code: &[u16], regs: usize, tries: &[u32], rows: &[u64], words: usize) -> usize
-    requires { ⌜ Ready regs (now code) words (now rows) ⌝ }
-    ensures { λ r. ⌜ (r ≡ length (listsTo regs (now (code .entry)) (now (tries .entry)) (rowsBy words (now (code .entry)) (now (rows .entry))) (count (now (code .entry))))) × (r ≤ 67107840) ⌝ }
+    requires { ⌜ Ready 64 16 regs (now code) words (now rows) ⌝ }
+    ensures { λ r. ⌜ (r ≡ length (listsTo regs (now (code .entry)) (now (tries .entry)) (rowsBy 64 words (now (code .entry)) (now (rows .entry))) (count (now (code .entry))))) × (r ≤ 67107840) ⌝ }
 {
     let n = code.len() / 6;
     let mut m = 0;
@@ -360,8 +360,8 @@ fn each_call(
     offsets: &mut [u32],
     list: &mut [u16],
 )
-    requires { ⌜ Ready regs (now code) words (now rows) × (count (now code) < length (now offsets)) × (length (listsTo regs (now code) (now tries) (rowsBy words (now code) (now rows)) (count (now code))) ≤ length (now list)) × (length (listsTo regs (now code) (now tries) (rowsBy words (now code) (now rows)) (count (now code))) ≤ 67107840) ⌝ }
-    ensures { λ _. ⌜ Filled regs (now (code .entry)) (now (tries .entry)) (rowsBy words (now (code .entry)) (now (rows .entry))) (now (offsets .entry)) (now (list .entry)) (now (offsets .exit)) (now (list .exit)) ⌝ }
+    requires { ⌜ Ready 64 16 regs (now code) words (now rows) × (count (now code) < length (now offsets)) × (length (listsTo regs (now code) (now tries) (rowsBy 64 words (now code) (now rows)) (count (now code))) ≤ length (now list)) × (length (listsTo regs (now code) (now tries) (rowsBy 64 words (now code) (now rows)) (count (now code))) ≤ 67107840) ⌝ }
+    ensures { λ _. ⌜ Filled regs (now (code .entry)) (now (tries .entry)) (rowsBy 64 words (now (code .entry)) (now (rows .entry))) (now (offsets .entry)) (now (list .entry)) (now (offsets .exit)) (now (list .exit)) ⌝ }
 {
     let n = code.len() / 6;
     let mut m = 0;
@@ -376,7 +376,7 @@ fn each_call(
 
 // The tests of the call's input: refusals 1, 2, 3, 4, then 5 for the scratch and the offsets.
 fn stages(code: &[u16], regs: usize, tries: &[u32], scratch: usize, offsets: usize) -> Checked
-    ensures { λ r. ⌜ r ≡ stagesOf (now (code .entry)) regs (now (tries .entry)) scratch offsets ⌝ }
+    ensures { λ r. ⌜ r ≡ stagesOf 64 (now (code .entry)) regs (now (tries .entry)) scratch offsets ⌝ }
 {
     let v = code::registers(code::check(code), regs);
     let t = code::tried(v, tries);
@@ -400,8 +400,8 @@ fn keep_all(
     offsets: &mut [u32],
     list: &mut [u16],
 ) -> KeptAnswer
-    requires { ⌜ stagesOf (now code) regs (now tries) (length (now rows)) (length (now offsets)) ≡ Checked.Count (count (now code)) ⌝ }
-    ensures { λ r. ⌜ Outcome (now (code .entry)) regs (now (tries .entry)) wide (now (rows .entry)) (now (offsets .entry)) (now (list .entry)) (now (rows .exit)) (now (offsets .exit)) (now (list .exit)) r ⌝ }
+    requires { ⌜ stagesOf 64 (now code) regs (now tries) (length (now rows)) (length (now offsets)) ≡ Checked.Count (count (now code)) ⌝ }
+    ensures { λ r. ⌜ Outcome 64 (now (code .entry)) regs (now (tries .entry)) wide (now (rows .entry)) (now (offsets .entry)) (now (list .entry)) (now (rows .exit)) (now (offsets .exit)) (now (list .exit)) r ⌝ }
 {
     let words = rows::words_for(regs);
     let need = (code.len() / 6 + 1) * words;

@@ -69,7 +69,7 @@ marked =
     }
   where
     -- K's rows after one sweep, whatever the tries
-    held : Scratch false 4 K (room 7) rowsK 1 0
+    held : Scratch 64 false 4 K (room 7) rowsK 1 0
     held = record { found = record { sweeps = done (last-straight (code.flow 4 K) 2 (replicate 7 0) refl); left = refl }; long = refl; past = refl }
 
     -- P5: the first sweep leaves row 2 as 6, the second mends it, the third changes nothing

@@ -1,4 +1,5 @@
 -- The one value: every promise, by the theorem that proves it. Assumes nothing.
+use native.Mathlib.Omega.{arith}
 use Rattle.laws.proofs.Mask.{mask-bit}
 use Rattle.flow.proofs.Rows.{least-one}
 use Rattle.callee.proofs.Tracing.{by-step, left-out}
@@ -20,6 +21,11 @@ use Rattle.exported.proofs.Writing.{targets-settles, loops-settles, dead-settle
 use Rattle.exported.proofs.Kept.{kept-settles, kept-holds, routes-same}
 use Rattle.exported.proofs.Folded.{fold-settles, pool-kept, tables-kept, code-again, none-died, folds-next, clears-next, folds-cleared, folds-same}
 use Rattle.exported.proofs.Cleared.{clear-settles, clear-holds, cleared-twice}
+use Rattle.levels.specs.Answers.{levelAnswer}
+use Rattle.turniploom.proofs.Alone.{one-make, one-enter, one-leave}
+use Rattle.saved.proofs.Exported as exported
+use Rattle.figured.proofs.Exported.{empty-report, add-report, join-report, add-keeps, join-keeps}
+use Rattle.figured.proofs.Kept.{kept-added, kept-total}
 use Rattle.promised.specs.Promised.{Promised}
 use Rattle.promised.proofs.Marked.{marked}
 use Rattle.promised.proofs.Late.{late}
@@ -45,7 +51,8 @@ promised =
       loops = loops-settles;
       dead = dead-settles;
       gen = gen-settles;
-      kept = kept-settles;
+      kept = kept-settles 64 (omega arith);
+      kept32 = kept-settles 32 (omega arith);
       folding = fold-settles;
       clear = clear-settles;
       dead-truth = dead-truth;
@@ -91,4 +98,34 @@ promised =
       naming = λ w i e. let x = naming w i e in (x .by, record { there = x .there; mark = x .mark; is = x .is });
       clear-holds = clear-holds;
       cleared-twice = cleared-twice;
+      one-level = λ w at. one (levelAnswer w at);
+      one-make = one-make;
+      one-enter = one-enter;
+      one-leave = one-leave;
+      saved-return = λ bits w regs tries a k v s t x e. exported.saved-return bits w regs tries (x .wide) (x .before .rows) (x .before .offsets) (x .before .list)
+          (a .rows) (a .offsets) (a .list) (x .answer) (x .kept .told) (x .answered) k v (x .asked) (x .heard) (x .found) s (x .sound) (x .same)
+          (e .after) (e .answer) (e .entry) (e .went) (e .events) (e .bracketed) t (e .calls);
+      saved-handler = λ bits w regs tries a k v s t x e. exported.saved-handler bits w regs tries (x .wide) (x .before .rows) (x .before .offsets) (x .before .list)
+          (a .rows) (a .offsets) (a .list) (x .answer) (x .kept .told) (x .answered) k v (x .asked) (x .heard) (x .found) s (x .sound) (x .same)
+          (e .after) (e .answer) (e .entry) (e .went) (e .events) (e .bracketed) t (e .calls);
+      saved-left = λ bits w regs tries a k v s t x e. exported.left bits w regs tries (x .wide) (x .before .rows) (x .before .offsets) (x .before .list)
+          (a .rows) (a .offsets) (a .list) (x .answer) (x .kept .told) (x .answered) k v (x .asked) (x .heard) (x .found) s (x .sound) (x .same)
+          (e .after) (e .answer) (e .entry) (e .went) (e .events) (e .bracketed) t (e .calls);
+      saved-fine = λ bits w regs tries a k v s x. exported.list-fine bits w regs tries (x .wide) (x .before .rows) (x .before .offsets) (x .before .list)
+          (a .rows) (a .offsets) (a .list) (x .answer) (x .kept .told) (x .answered) k v (x .asked) (x .heard) (x .found) s (x .sound) (x .same);
+      saved-full = λ bits w regs tries a k v s x. exported.no-room bits w regs tries (x .wide) (x .before .rows) (x .before .offsets) (x .before .list)
+          (a .rows) (a .offsets) (a .list) (x .answer) (x .kept .told) (x .answered) k v (x .asked) (x .heard) (x .found) s (x .sound) (x .same);
+      saved-room = λ bits w regs tries a k v s x. exported.room bits w regs tries (x .wide) (x .before .rows) (x .before .offsets) (x .before .list)
+          (a .rows) (a .offsets) (a .list) (x .answer) (x .kept .told) (x .answered) k v (x .asked) (x .heard) (x .found) s (x .sound) (x .same);
+      saved-none = exported.nine;
+      saved-some = exported.not-nine;
+      figures-none = empty-report;
+      figures-add = add-report;
+      figures-join = join-report;
+      add-keeps = add-keeps;
+      join-keeps = join-keeps;
+      figures-kept = λ bits w regs tries wide b r a x z. (
+        kept-added bits w regs tries wide (b .rows) (b .offsets) (b .list) (a .rows) (a .offsets) (a .list) r (x .told) z,
+        kept-total bits w regs tries wide (b .rows) (b .offsets) (b .list) (a .rows) (a .offsets) (a .list) r (x .told) z,
+      );
     }

@@ -1,3 +1,4 @@
 pub mod Marked
 pub mod Late
+pub mod Above
 pub mod Promised

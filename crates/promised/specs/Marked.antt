@@ -44,12 +44,12 @@ room m = replicate m 9
 -- the kept-register call leaves these rows, keeps this list at k, which is the only level, and tells these counts of full and of abandoned sweeps
 abbrev pub Keeps : ℕ → List ℕ → List ℕ → List ℕ → ℕ → List ℕ → ℕ → ℕ → Type 0
 Keeps regs w tries rows k list full abandoned =
-    call.Outcome w regs tries false (room (length rows)) (room (suc (count w))) (room (length list))
+    call.Outcome 64 w regs tries false (room (length rows)) (room (suc (count w))) (room (length list))
     rows (replicate (suc k) 0 ++ replicate (count w - k) (length list)) list (kept.Is (length list) full abandoned)
 
 -- it refuses the first try, whatever is lent, and leaves all buffers untouched
 abbrev pub RefusesTry : ℕ → List ℕ → List ℕ → Type 0
-RefusesTry regs w tries = (rows offsets list : List ℕ) → call.Outcome w regs tries false rows offsets list rows offsets list (kept.No (Try 0))
+RefusesTry regs w tries = (rows offsets list : List ℕ) → call.Outcome 64 w regs tries false rows offsets list rows offsets list (kept.No (Try 0))
 
 -- an instruction of a chunk: a LoadConst, which names a constant, an operator without a mark, and a jump
 abbrev pub load : ℕ → List ℕ

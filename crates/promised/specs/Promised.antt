@@ -1,8 +1,10 @@
 -- What Turniploom promises: one record over the statements of the exported calls, a sentence above each field. docs/PROMISES.md is its index. Assumes nothing.
-use Prim.Native.Nat.{ℕ, _+_, _-_, _*_, _/_, _%_, _^_, _≤_, _<_}
+use Prim.Native.Nat.{ℕ, suc, _+_, _-_, _*_, _/_, _%_, _^_, _≤_, _<_}
 use mathlib.Core.Path.{_≡_}
 use mathlib.Core.Bool.{Bool, true, false, not}
-use mathlib.Core.List.{List, []}
+use mathlib.Core.Logic.{_⊎_, _≢_}
+use mathlib.Core.List.{List, [], _∷_, _++_, List·Memᴰ}
+use lib.ListN.{length, replicate}
 use lib.IntN.{ℤ, pos, natAbs, _*ℤ_}
 use lib.Signed.{ltZ, leZ}
 use lib.Ieee.{nan, fin, binary64, ofBits, toBits, ofInt, up, down, lt, le, eq, ne}
@@ -38,13 +40,26 @@ use Rattle.clear.specs.Clear as clearing
 use Rattle.refold.specs.Lendable.{Lendable}
 use Rattle.refold.specs.Left.{PoolLeft, FoldBeyond, NoneDied, asLent, tried}
 use Rattle.refold.specs.Examples.{jumping, summed, crossed, crossedCounts, crossedLens}
-use Rattle.turniploom.specs.Answers.{kindsTold, roleTold, fieldTold, truthTold, bitsTold, globalTold, pushTold, stackTold}
+use Rattle.turniploom.specs.Answers.{kindsTold, roleTold, fieldTold, truthTold, bitsTold, globalTold, pushTold, stackTold, MadeTold, EnterTold, LeaveTold}
 use Rattle.exported.specs.Settles.{One, Settles}
 use Rattle.exported.specs.Calls.{TargetsCall, LoopsCall, EntriesBeyond, Marks, DeadCall, GenCall, MarksBeyond, Lists, KeptCall, KeptSettles}
 use Rattle.exported.specs.Calls.{FoldCall, ClearCall, ClearBeyond}
-use Rattle.exported.specs.Told.{Truth, KeptHolds, SameLists, foldedOf, FoldsNext, ClearsNext, FoldsCleared, FoldsSame, ClearHolds, ClearedTwice}
+use Rattle.exported.specs.Told.{Truth, listLeft, KeptHolds, SameLists, foldedOf, FoldsNext, ClearsNext, FoldsCleared, FoldsSame, ClearHolds, ClearedTwice}
 use Rattle.promised.specs.Marked.{Marked}
 use Rattle.promised.specs.Late.{Late}
+use Rattle.promised.specs.Above.{AtLevel, Entered}
+use Rattle.code.specs.Ins.{count}
+use Rattle.code.specs.Answers.{answerOf, refusalOf}
+use Rattle.flow.specs.Kept.{handlersOf}
+use Rattle.flow.specs.Demand.{Alike}
+use Rattle.steps.specs.Code.{flow}
+use Rattle.levels.specs.Answers.{levelAnswer}
+use Rattle.saver.specs.Saver.{Saver, Back, returned, thrown, usedOf, freeOf, putIn}
+use Rattle.saver.specs.Frames.{fileOf, Open}
+use Rattle.figures.specs.Figures.{bodyFigures}
+use Rattle.figures.specs.Answers.{reports, addCall, joinCall}
+use Rattle.figures.specs.Month.{Body, reportOf}
+use Rattle.figures.specs.Month as figured
 
 -- where a call's statement says 'the answer is x': there is one answer
 abbrev pub OneAnswer : Answer → Type 0
@@ -96,7 +111,9 @@ pub record Promised : Type 0 where
   -- gen_pure settles both its buffers
   pub gen : (w : List ℕ) → Settles (GenCall w) (MarksBeyond w)
   -- kept settles its three buffers; refusal 5 for the list is the one refusal that changes a buffer, the scratch, which then holds the rows
-  pub kept : (w : List ℕ) (regs : ℕ) (tries : List ℕ) (wide : Bool) → KeptSettles w regs tries wide
+  pub kept : (w : List ℕ) (regs : ℕ) (tries : List ℕ) (wide : Bool) → KeptSettles 64 w regs tries wide
+  -- kept32 does the same with words of 32 bits
+  pub kept32 : (w : List ℕ) (regs : ℕ) (tries : List ℕ) (wide : Bool) → KeptSettles 32 w regs tries wide
   -- fold settles its nine buffers
   pub folding : (strict : Bool) (c : Counts) → Settles (FoldCall strict c) (FoldBeyond c)
   -- clear settles its four buffers
@@ -116,11 +133,11 @@ pub record Promised : Type 0 where
   -- ---- liveness, from refusal 0
 
   -- rows are the least solution, few sweeps find them, and each kept list is enough, with nothing idle, nothing to spare and nothing twice
-  pub kept-holds : (w : List ℕ) (regs : ℕ) (tries : List ℕ) (wide : Bool) (b : Lists) (r : Answer) (a : Lists)
-      → KeptCall w regs tries wide b r a → r .refusal ≡ 0 → KeptHolds w regs tries wide r a
-  -- the forced wide route, and whatever is lent, give the same lists and offsets
-  pub routes-same : (w : List ℕ) (regs : ℕ) (tries : List ℕ) (wide wide′ : Bool) (b b′ : Lists) (r r′ : Answer) (a a′ : Lists)
-      → KeptCall w regs tries wide b r a → r .refusal ≡ 0 → KeptCall w regs tries wide′ b′ r′ a′ → r′ .refusal ≡ 0 → SameLists w r r′ a a′
+  pub kept-holds : (bits : ℕ) (w : List ℕ) (regs : ℕ) (tries : List ℕ) (wide : Bool) (b : Lists) (r : Answer) (a : Lists)
+      → KeptCall bits w regs tries wide b r a → r .refusal ≡ 0 → KeptHolds bits w regs tries wide r a
+  -- either width, the forced wide route, and whatever is lent, give the same lists and offsets
+  pub routes-same : (bits bits′ : ℕ) (w : List ℕ) (regs : ℕ) (tries : List ℕ) (wide wide′ : Bool) (b b′ : Lists) (r r′ : Answer) (a a′ : Lists)
+      → KeptCall bits w regs tries wide b r a → r .refusal ≡ 0 → KeptCall bits′ w regs tries wide′ b′ r′ a′ → r′ .refusal ≡ 0 → SameLists w r r′ a a′
   -- row equations have one least solution
   pub least-one : (f : Flow) (start : ℕ) (R S : ℕ → ℕ) → Least f start R → Least f start S → (k : ℕ) → start ≤ k → R k ≡ S k
   -- ---- Python's numbers
@@ -204,3 +221,57 @@ pub record Promised : Type 0 where
   -- asked again, clear is not refused and changes nothing more but its scratch, which counts the constants that are left
   pub cleared-twice : (m : ℕ) (b : clearing.Buffers) (r : Answer) (a : clearing.Buffers) → ClearCall m b r a → r .refusal ≡ 0
       → (s : Answer) (x : clearing.Buffers) → ClearCall (r .first) a s x → ClearedTwice r a s x
+  -- ---- wish 4: the frame saver
+
+  -- make, enter, a return and an exception settle the answer and every word of head, area and file; level has one answer
+  pub one-level : (w : List ℕ) (at : ℕ) → OneAnswer (levelAnswer w at)
+  pub one-make : (regs : ℕ) (head : List ℕ) (r r′ : Answer) (a a′ : List ℕ) → MadeTold regs head a r → MadeTold regs head a′ r′ → (r ≡ r′) × (a ≡ a′)
+  pub one-enter : (s : Saver) (l : List ℕ) (q : ℕ) (r r′ : Answer) (a a′ : Saver) → EnterTold s l q a r → EnterTold s l q a′ r′ → (r ≡ r′) × (a ≡ a′)
+  pub one-leave : (s : Saver) (back : Back) (r r′ : Answer) (a a′ : Saver) → LeaveTold s back a r → LeaveTold s back a′ r′ → (r ≡ r′) × (a ≡ a′)
+  -- a level is entered, calls between nest to any depth, registers are overwritten at will; left by a return, the run resumed visits the same positions
+  -- and reads the same values as one whose registers nobody touched, save for the result
+  pub saved-return : (bits : ℕ) (w : List ℕ) (regs : ℕ) (tries : List ℕ) (a : Lists) (k : ℕ) (v : Answer) (s t : Saver) → AtLevel bits w regs tries a k v s
+      → Entered (listLeft a k) (v .third) s t
+      → (x : ℕ) (t′ : Saver) (r : Answer) → LeaveTold t (returned x) t′ r → Alike (flow regs w) (v .second) (fileOf t′) (putIn regs (v .third) x (fileOf s))
+  -- left by an exception, so it does in every handler of a try around the level
+  pub saved-handler : (bits : ℕ) (w : List ℕ) (regs : ℕ) (tries : List ℕ) (a : Lists) (k : ℕ) (v : Answer) (s t : Saver) → AtLevel bits w regs tries a k v s
+      → Entered (listLeft a k) (v .third) s t
+      → (t′ : Saver) (r : Answer) → LeaveTold t thrown t′ r → (h : ℕ) → List·Memᴰ h (handlersOf (count w) k tries) → Alike (flow regs w) h (fileOf t′) (fileOf s)
+  -- that leaving is never refused, and the words in use are as before the entry
+  pub saved-left : (bits : ℕ) (w : List ℕ) (regs : ℕ) (tries : List ℕ) (a : Lists) (k : ℕ) (v : Answer) (s t : Saver) → AtLevel bits w regs tries a k v s
+      → Entered (listLeft a k) (v .third) s t
+      → (back : Back) (t′ : Saver) (r : Answer) → LeaveTold t back t′ r → r ≡ answerOf (usedOf s) 0 0 0
+  -- the kept list of a level is never refused with 14
+  pub saved-fine : (bits : ℕ) (w : List ℕ) (regs : ℕ) (tries : List ℕ) (a : Lists) (k : ℕ) (v : Answer) (s : Saver) → AtLevel bits w regs tries a k v s
+      → (t : Saver) (r : Answer) → EnterTold s (listLeft a k) (v .third) t r → r .refusal ≢ 14
+  -- 8 where free words are fewer than twice the list plus two, and then nothing changes; an answer everywhere else
+  pub saved-full : (bits : ℕ) (w : List ℕ) (regs : ℕ) (tries : List ℕ) (a : Lists) (k : ℕ) (v : Answer) (s : Saver) → AtLevel bits w regs tries a k v s
+      → freeOf (usedOf s) < 2 * length (listLeft a k) + 2
+      → (t : Saver) (r : Answer) → EnterTold s (listLeft a k) (v .third) t r → (r ≡ refusalOf 8 (freeOf (usedOf s)) 0) × (t ≡ s)
+  pub saved-room : (bits : ℕ) (w : List ℕ) (regs : ℕ) (tries : List ℕ) (a : Lists) (k : ℕ) (v : Answer) (s : Saver) → AtLevel bits w regs tries a k v s
+      → 2 * length (listLeft a k) + 2 ≤ freeOf (usedOf s)
+      → (t : Saver) (r : Answer) → EnterTold s (listLeft a k) (v .third) t r → r ≡ answerOf (usedOf s + (2 * length (listLeft a k) + 2)) 0 0 0
+  -- a leaving is refused with 9 exactly where no call is open, after any history, and then nothing changes
+  pub saved-none : {s : Saver} → Open s 0 → (back : Back) (t : Saver) (r : Answer) → LeaveTold s back t r → (r ≡ refusalOf 9 0 0) × (t ≡ s)
+  pub saved-some : {s : Saver} {n : ℕ} → Open s (suc n) → (back : Back) (t : Saver) (r : Answer) → LeaveTold s back t r → r .refusal ≡ 0
+  -- ---- wish 12: a month of scripts in figures
+
+  -- all 0 is the report of no body
+  pub figures-none : figured.Holds (replicate 7 0) []
+  -- an answered add leaves the report of all bodies so far, and tells the body's own levels and kept registers and the mean of all
+  pub figures-add : (xs : List Body) (w o : List ℕ) (len : ℕ) (old new : List ℕ) (r : Answer) → figured.Holds old xs → addCall w o len old ≡ reports new r
+      → r .refusal ≡ 0
+      → let all = xs ++ (record { code = w; offsets = o } ∷ []) in
+      figured.Holds new all × (r ≡ answerOf (bodyFigures w o .levels) (bodyFigures w o .kept) (reportOf all .kept) (reportOf all .levels))
+  -- reports of two groups joined are the report of all
+  pub figures-join : (xs ys : List Body) (later old new : List ℕ) (r : Answer) → figured.Holds old xs → figured.Holds later ys
+      → joinCall later old ≡ reports new r → r .refusal ≡ 0
+      → figured.Holds new (xs ++ ys) × (r ≡ answerOf 0 0 (reportOf (xs ++ ys) .kept) (reportOf (xs ++ ys) .levels))
+  -- a refused add or join changes no word of the report
+  pub add-keeps : (w o : List ℕ) (len : ℕ) (old new : List ℕ) (r : Answer) → addCall w o len old ≡ reports new r → r .refusal ≢ 0 → new ≡ old
+  pub join-keeps : (later old new : List ℕ) (r : Answer) → joinCall later old ≡ reports new r → r .refusal ≢ 0 → new ≡ old
+  -- what an answered kept call left is added, or refused with 13: never with 15; its kept registers are as many as that call told
+  pub figures-kept : (bits : ℕ) (w : List ℕ) (regs : ℕ) (tries : List ℕ) (wide : Bool) (b : Lists) (r : Answer) (a : Lists)
+      → KeptCall bits w regs tries wide b r a → r .refusal ≡ 0
+      → ((old new : List ℕ) (t : Answer) → addCall w (a .offsets) (r .first) old ≡ reports new t → (t .refusal ≡ 0) ⊎ (t .refusal ≡ 13))
+      × (bodyFigures w (a .offsets) .kept ≡ r .first)

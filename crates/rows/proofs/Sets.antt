@@ -1,4 +1,4 @@
--- Sets of registers put together, in one word. Assumes nothing.
+-- Sets of registers put together, in one word of any width. Assumes nothing.
 use mathlib.Core.Path.{_≡_, refl, sym, ap, _∙_}
 use mathlib.Core.Bool.{Bool, true, false, cond}
 use mathlib.Core.List.{List, [], _∷_, _++_}
@@ -64,10 +64,10 @@ module _ (regs r : ℕ) (t : Bool) where
   unfolding joined
   reg-none e = rw e
 
-  pub word-in : regs ≤ 64 → t ≡ true → r < regs → (1 * 2 ^ r) % 2 ^ 64 ≡ setOf regs (only t r)
-  word-in le e l = rw (reg-in e l, lt-ltb r regs l) (ap (λ (x : ℕ). x % 2 ^ 64) (one-mul (2 ^ r)) ∙ mod-eq-of-lt (pow-lt (less le l)))
+  pub word-in : (bits : ℕ) → regs ≤ bits → t ≡ true → r < regs → (1 * 2 ^ r) % 2 ^ bits ≡ setOf regs (only t r)
+  word-in bits le e l = rw (reg-in e l, lt-ltb r regs l) (ap (λ (x : ℕ). x % 2 ^ bits) (one-mul (2 ^ r)) ∙ mod-eq-of-lt (pow-lt (less le l)))
     where
-      less : regs ≤ 64 → r < regs → r < 64
+      less : regs ≤ bits → r < regs → r < bits
       less a b = omega arith
 
   pub word-past : t ≡ true → regs ≤ r → 0 ≡ setOf regs (only t r)
@@ -104,6 +104,6 @@ module _ (regs b run : ℕ) where
 
 -- ---- a row in one word
 
-pub row-is : (regs k : ℕ) (s : Step) (rows : List ℕ) (a g u : ℕ) → a ≡ joined (row rows) (afterOf s k) → g ≡ setOf regs (givenOf s) → u ≡ setOf regs (usedOf s)
-    → a < 2 ^ 64 → g < 2 ^ 64 → bitOr u (bitAnd a ((2 ^ 64 - 1) - g)) ≡ rowAt (stepFlow regs s) (row rows) k
-row-is regs k s rows a g u = step-word (stepFlow regs s) (row rows) k 64 a g u
+pub row-is : (bits regs k : ℕ) (s : Step) (rows : List ℕ) (a g u : ℕ) → a ≡ joined (row rows) (afterOf s k) → g ≡ setOf regs (givenOf s) → u ≡ setOf regs (usedOf s)
+    → a < 2 ^ bits → g < 2 ^ bits → bitOr u (bitAnd a ((2 ^ bits - 1) - g)) ≡ rowAt (stepFlow regs s) (row rows) k
+row-is bits regs k s rows a g u = step-word (stepFlow regs s) (row rows) k bits a g u

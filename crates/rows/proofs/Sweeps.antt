@@ -3,7 +3,6 @@ use mathlib.Core.Path.{_≡_, refl, sym, _∙_}
 use mathlib.Core.Bool.{Bool, true, false, not, cond, _&&_, _||_}
 use mathlib.Core.List.{List}
 use Prim.Native.Nat.{ℕ, zero, suc, _+_, _-_, _^_, _≤_, _<_, zero-le}
-use native.Mathlib.Nat.{zero-lt-suc}
 use native.Mathlib.Omega.{arith}
 use borrow.Author.Tests.{not-true, not-false}
 use lib.ListN.{length, replicate, length-replicate}
@@ -71,8 +70,8 @@ toGo w regs from full lost = togo (flow regs w) from full lost
 pub word-starts : (w : List ℕ) (regs start len : ℕ) (rows : List ℕ) → Valid w → start ≡ firstLevel w → rows ≡ replicate len 0 → len ≡ suc (count w) → Between w regs (firstLevel w) start 0 0 rows
 word-starts w regs start len rows v e h l = record { few = v .few; going = rw (e, h, l) (going-start (flow regs w) (firstLevel w) (level-le w)) }
 
-pub wide-starts : (w : List ℕ) (regs words len : ℕ) (rows : List ℕ) → Valid w → rows ≡ replicate len 0 → Between w regs 0 0 0 0 (rowsOf 64 words (suc (count w)) rows)
-wide-starts w regs words len rows v h = record { few = v .few; going = rw (h, rows-zero 64 words (zero-lt-suc 63) (suc (count w)) len) (going-start (flow regs w) 0 zero-le) }
+pub wide-starts : (w : List ℕ) (bits regs words len : ℕ) (rows : List ℕ) → 0 < bits → Valid w → rows ≡ replicate len 0 → Between w regs 0 0 0 0 (rowsOf bits words (suc (count w)) rows)
+wide-starts w bits regs words len rows wide v h = record { few = v .few; going = rw (h, rows-zero bits words wide (suc (count w)) len) (going-start (flow regs w) 0 zero-le) }
 
 pub cleared : (len m : ℕ) (rows : List ℕ) → rows ≡ replicate len 0 → len ≡ m → length rows ≡ m
 cleared len m rows e h = rw (e, ← h) (length-replicate {A = ℕ} len 0)

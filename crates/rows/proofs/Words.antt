@@ -1,9 +1,8 @@
--- The wide route's steps: a set in 16 words, and a row of a buffer. Assumes nothing.
+-- The wide route's steps, over the width of a word and the words in hand: a set in words, and a row of a buffer. Assumes nothing.
 use mathlib.Core.Path.{_≡_, refl, sym, ap, _∙_, subst}
 use mathlib.Core.Bool.{Bool, true, false, cond}
 use mathlib.Core.List.{List, [], _∷_, _++_}
 use Prim.Native.Nat.{ℕ, suc, _+_, _-_, _*_, _/_, _%_, _^_, _≤_, _<_, zero-le}
-use native.Mathlib.Nat.{zero-lt-suc}
 use native.Mathlib.Omega.{arith}
 use lib.Bits.{bitOr, bitAnd, bitXor, or-zero-r, or-zero-l}
 use lib.ListN.{length, getD, take, drop, set, replicate, length-set}
@@ -22,20 +21,17 @@ use Rattle.steps.specs.Step.{usedOf, givenOf, afterOf, stepFlow}
 use Rattle.steps.specs.declared.Step.{Step}
 use Rattle.rows.proofs.Sets.{or-assoc, minus-minus, joined-append, reg-in, reg-past, reg-none, set-lt, from-next}
 
-wide : 0 < 64
-wide = zero-lt-suc 63
+held : (bits : ℕ) (s : List ℕ) → Small bits s → Holds bits s (value bits s)
+held bits s h = record { small = h; is = refl }
 
-held : (s : List ℕ) → Small 64 s → Holds 64 s (value 64 s)
-held s h = record { small = h; is = refl }
-
-pub zeros-small : Small 64 (replicate 16 0)
-zeros-small = holds-none 64 wide 16 .small
+pub zeros-small : (bits hand : ℕ) → 0 < bits → Small bits (replicate hand 0)
+zeros-small bits hand wide = holds-none bits wide hand .small
 
 -- ---- a row is joined to a set, word by word
 
-pub record Joining (into rows : List ℕ) (at words j : ℕ) (out : List ℕ) : Type 0 where
+pub record Joining (hand : ℕ) (into rows : List ℕ) (at words j : ℕ) (out : List ℕ) : Type 0 where
   pub le : j ≤ words
-  pub long : length out ≡ 16
+  pub long : length out ≡ hand
   pub front : Front (λ i. bitOr (getD into i 0) (getD rows (at + i) 0)) (λ i. getD into i 0) j out
 
 module _ (into rows : List ℕ) (at words : ℕ) where
@@ -45,11 +41,11 @@ module _ (into rows : List ℕ) (at words : ℕ) where
   abbrev B : ℕ → ℕ
   B i = getD into i 0
 
-  pub joining-start : length into ≡ 16 → Joining into rows at words 0 into
-  joining-start e = record { le = zero-le; long = e; front = front-none A B into (λ i. refl) }
+  pub joining-start : (hand : ℕ) → length into ≡ hand → Joining hand into rows at words 0 into
+  joining-start hand e = record { le = zero-le; long = e; front = front-none A B into (λ i. refl) }
 
-  module _ (j : ℕ) (out : List ℕ) (p : Joining into rows at words j out) where
-    pub joining-more : j < words → words ≤ 16 → Joining into rows at words (j + 1) (set out j (bitOr (getD out j 0) (getD rows (at + j) 0)))
+  module _ (hand j : ℕ) (out : List ℕ) (p : Joining hand into rows at words j out) where
+    pub joining-more : j < words → words ≤ hand → Joining hand into rows at words (j + 1) (set out j (bitOr (getD out j 0) (getD rows (at + j) 0)))
     joining-more l f = record {
       le = omega arith;
       long = length-set out j (bitOr (getD out j 0) (getD rows (at + j) 0)) ∙ p .long;
@@ -57,8 +53,8 @@ module _ (into rows : List ℕ) (at words : ℕ) where
           (ap (λ (x : ℕ). bitOr x (getD rows (at + j) 0)) (front-rest A B j out (p .front)));
     }
 
-    pub joining-done : words ≤ j → Small 64 into → Small 64 rows → Holds 64 out (bitOr (value 64 into) (value 64 (take words (drop at rows))))
-    joining-done l si sr = joined-row 64 wide words at rows sr into out (value 64 into) (held into si) (subst (λ (x : ℕ). Front A B x out) (whole (p .le)) (p .front))
+    pub joining-done : (bits : ℕ) → 0 < bits → words ≤ j → Small bits into → Small bits rows → Holds bits out (bitOr (value bits into) (value bits (take words (drop at rows))))
+    joining-done bits wide l si sr = joined-row bits wide words at rows sr into out (value bits into) (held bits into si) (subst (λ (x : ℕ). Front A B x out) (whole (p .le)) (p .front))
       where
         whole : j ≤ words → j ≡ words
         whole h = omega arith
@@ -66,13 +62,13 @@ module _ (into rows : List ℕ) (at words : ℕ) where
 pub ruleset joins = (joining-start, joining-more, joining-done)
 
 -- a row, if
-module _ (into rows : List ℕ) (t : Bool) (k words : ℕ) where
-  pub joined-in : (out : List ℕ) → t ≡ true → Holds 64 out (bitOr (value 64 into) (value 64 (take words (drop (k * words) rows))))
-      → Holds 64 out (bitOr (value 64 into) (cond t (value 64 (window words k rows)) 0))
+module _ (bits : ℕ) (into rows : List ℕ) (t : Bool) (k words : ℕ) where
+  pub joined-in : (out : List ℕ) → t ≡ true → Holds bits out (bitOr (value bits into) (value bits (take words (drop (k * words) rows))))
+      → Holds bits out (bitOr (value bits into) (cond t (value bits (window words k rows)) 0))
   joined-in out e h = rw e h
 
-  pub joined-out : t ≡ false → Small 64 into → Holds 64 into (bitOr (value 64 into) (cond t (value 64 (window words k rows)) 0))
-  joined-out e h = rw e (as-set (held into h) (sym (or-zero-r (value 64 into))))
+  pub joined-out : t ≡ false → Small bits into → Holds bits into (bitOr (value bits into) (cond t (value bits (window words k rows)) 0))
+  joined-out e h = rw e (as-set (held bits into h) (sym (or-zero-r (value bits into))))
 
 -- ---- rows of a buffer
 
@@ -88,93 +84,90 @@ module _ (words n t len : ℕ) (room : suc n * words ≤ len) where
 
 pub ruleset fits = (row-fits, row-fits-next, row-fits-here)
 
-module _ (words n k : ℕ) (rows : List ℕ) (s : Step) where
+module _ (bits words n k : ℕ) (rows : List ℕ) (s : Step) where
   abbrev R : ℕ → ℕ
-  R = row (rowsOf 64 words (suc n) rows)
+  R = row (rowsOf bits words (suc n) rows)
 
-  one : (t : Bool) (j : ℕ) → j ≤ n → cond t (value 64 (window words j rows)) 0 ≡ joined R (only t j)
+  one : (t : Bool) (j : ℕ) → j ≤ n → cond t (value bits (window words j rows)) 0 ≡ joined R (only t j)
   unfolding joined
-  one true j l = sym (rows-at 64 words (suc n) rows j (omega arith)) ∙ sym (or-zero-r (R j))
+  one true j l = sym (rows-at bits words (suc n) rows j (omega arith)) ∙ sym (or-zero-r (R j))
   one false j l = refl
 
-  pub after-holds : (p q : List ℕ) → k < n → s .target ≤ n
-      → Holds 64 p (bitOr (value 64 (replicate 16 0)) (cond (s .on) (value 64 (window words (k + 1) rows)) 0))
-      → Holds 64 q (bitOr (value 64 p) (cond (s .to) (value 64 (window words (s .target) rows)) 0))
-      → Holds 64 q (joined (row (rowsOf 64 words (suc n) rows)) (afterOf s k))
-  after-holds p q l h hp hq = as-set hq
-      (ap (λ (x : ℕ). bitOr x (cond (s .to) (value 64 (window words (s .target) rows)) 0))
-      (hp .is ∙ ap (λ (x : ℕ). bitOr x (cond (s .on) (value 64 (window words (k + 1) rows)) 0)) (holds-none 64 wide 16 .is) ∙ or-zero-l (cond (s .on) (value 64 (window words (k + 1) rows)) 0) ∙ one (s .on) (k + 1) (omega arith))
+  pub after-holds : (hand : ℕ) → 0 < bits → (p q : List ℕ) → k < n → s .target ≤ n
+      → Holds bits p (bitOr (value bits (replicate hand 0)) (cond (s .on) (value bits (window words (k + 1) rows)) 0))
+      → Holds bits q (bitOr (value bits p) (cond (s .to) (value bits (window words (s .target) rows)) 0))
+      → Holds bits q (joined (row (rowsOf bits words (suc n) rows)) (afterOf s k))
+  after-holds hand wide p q l h hp hq = as-set hq
+      (ap (λ (x : ℕ). bitOr x (cond (s .to) (value bits (window words (s .target) rows)) 0))
+      (hp .is ∙ ap (λ (x : ℕ). bitOr x (cond (s .on) (value bits (window words (k + 1) rows)) 0)) (holds-none bits wide hand .is) ∙ or-zero-l (cond (s .on) (value bits (window words (k + 1) rows)) 0) ∙ one (s .on) (k + 1) (omega arith))
       ∙ ap (bitOr (joined R (only (s .on) (k + 1)))) (one (s .to) (s .target) h)
       ∙ sym (joined-append R (only (s .on) (k + 1)) (only (s .to) (s .target))))
 
   pub row-holds : (regs : ℕ) (a b c d : List ℕ) (l m : List ℕ)
-      → Holds 64 a (joined (row (rowsOf 64 words (suc n) rows)) (afterOf s k))
-      → Holds 64 b (minus (value 64 a) (setOf regs l)) → Holds 64 c (minus (value 64 b) (setOf regs m)) → Holds 64 d (bitOr (value 64 c) (setOf regs (usedOf s)))
-      → givenOf s ≡ l ++ m → Holds 64 d (rowAt (stepFlow regs s) (row (rowsOf 64 words (suc n) rows)) k)
-  row-holds regs a b c d l m ha hb hc hd e = step-words (stepFlow regs s) R k 64 a c d ha gone hd
+      → Holds bits a (joined (row (rowsOf bits words (suc n) rows)) (afterOf s k))
+      → Holds bits b (minus (value bits a) (setOf regs l)) → Holds bits c (minus (value bits b) (setOf regs m)) → Holds bits d (bitOr (value bits c) (setOf regs (usedOf s)))
+      → givenOf s ≡ l ++ m → Holds bits d (rowAt (stepFlow regs s) (row (rowsOf bits words (suc n) rows)) k)
+  row-holds regs a b c d l m ha hb hc hd e = step-words (stepFlow regs s) R k bits a c d ha gone hd
     where
-      gone : Holds 64 c (minus (value 64 a) (setOf regs (givenOf s)))
+      gone : Holds bits c (minus (value bits a) (setOf regs (givenOf s)))
       gone = as-set hc
-          (ap (λ (x : ℕ). minus x (setOf regs m)) (hb .is) ∙ minus-minus (value 64 a) (setOf regs l) (setOf regs m)
-          ∙ ap (minus (value 64 a)) (sym (joined-append (alone regs) l m) ∙ ap (setOf regs) (sym e)))
+          (ap (λ (x : ℕ). minus x (setOf regs m)) (hb .is) ∙ minus-minus (value bits a) (setOf regs l) (setOf regs m)
+          ∙ ap (minus (value bits a)) (sym (joined-append (alone regs) l m) ∙ ap (setOf regs) (sym e)))
 
-  pub put-is : (regs : ℕ) (out new : List ℕ) (changed : Bool) → k < n → regs ≤ words * 64 → Small 64 rows
-      → Holds 64 new (rowAt (stepFlow regs s) (row (rowsOf 64 words (suc n) rows)) k) → Stored rows (k * words) words new out changed
-      → Put (stepFlow regs s) (rowsOf 64 words (suc n) rows) k (rowsOf 64 words (suc n) out) changed
-  put-is regs out new changed l le sr h st =
-      put-row 64 words wide (suc n) rows out new k (rowAt (stepFlow regs s) R k) changed (omega arith) sr h
-      (rowAt-lt (stepFlow regs s) (words * 64) R k (set-lt (words * 64) regs (usedOf s) le) (rows-lt 64 words wide (suc n) rows sr)) st (stepFlow regs s) refl
+  pub put-is : 0 < bits → (regs : ℕ) (out new : List ℕ) (changed : Bool) → k < n → regs ≤ words * bits → Small bits rows
+      → Holds bits new (rowAt (stepFlow regs s) (row (rowsOf bits words (suc n) rows)) k) → Stored rows (k * words) words new out changed
+      → Put (stepFlow regs s) (rowsOf bits words (suc n) rows) k (rowsOf bits words (suc n) out) changed
+  put-is wide regs out new changed l le sr h st =
+      put-row bits words wide (suc n) rows out new k (rowAt (stepFlow regs s) R k) changed (omega arith) sr h
+      (rowAt-lt (stepFlow regs s) (words * bits) R k (set-lt (words * bits) regs (usedOf s) le) (rows-lt bits words wide (suc n) rows sr)) st (stepFlow regs s) refl
 
 -- ---- registers of a set
 
-less-none : (s : List ℕ) → Small 64 s → Holds 64 s (minus (value 64 s) 0)
-less-none s h = as-set (held s h) (sym (bit-ext (minus (value 64 s) 0) (value 64 s) (λ i. omega (arith, minus-bit (value 64 s) 0 i, bit-zero i))))
+less-none : (bits : ℕ) (s : List ℕ) → Small bits s → Holds bits s (minus (value bits s) 0)
+less-none bits s h = as-set (held bits s h) (sym (bit-ext (minus (value bits s) 0) (value bits s) (λ i. omega (arith, minus-bit (value bits s) 0 i, bit-zero i))))
 
-more-none : (s : List ℕ) → Small 64 s → Holds 64 s (bitOr (value 64 s) 0)
-more-none s h = as-set (held s h) (sym (or-zero-r (value 64 s)))
+more-none : (bits : ℕ) (s : List ℕ) → Small bits s → Holds bits s (bitOr (value bits s) 0)
+more-none bits s h = as-set (held bits s h) (sym (or-zero-r (value bits s)))
 
-module _ (s : List ℕ) (regs r : ℕ) (t : Bool) (le : regs ≤ 1024) (small : Small 64 s) where
-  room : length s ≡ 16 → regs ≤ length s * 64
-  room long = omega arith
+module _ (bits : ℕ) (s : List ℕ) (regs r : ℕ) (t : Bool) (small : Small bits s) where
+  pub with-reg-in : (hand : ℕ) → 0 < bits → t ≡ true → r < regs → length s ≡ hand → regs ≤ hand * bits
+      → Holds bits (set s (r / bits) (bitOr (getD s (r / bits) 0) ((1 * 2 ^ (r % bits)) % 2 ^ bits))) (bitOr (value bits s) (setOf regs (only t r)))
+  with-reg-in hand wide e l long room = as-set (with-in bits wide s (value bits s) regs r (held bits s small) (rw long room) l) (ap (bitOr (value bits s)) (sym (reg-in regs r t e l)))
 
-  pub with-reg-in : t ≡ true → r < regs → length s ≡ 16
-      → Holds 64 (set s (r / 64) (bitOr (getD s (r / 64) 0) ((1 * 2 ^ (r % 64)) % 2 ^ 64))) (bitOr (value 64 s) (setOf regs (only t r)))
-  with-reg-in e l long = as-set (with-in 64 wide s (value 64 s) regs r (held s small) (room long) l) (ap (bitOr (value 64 s)) (sym (reg-in regs r t e l)))
+  pub with-reg-past : t ≡ true → regs ≤ r → Holds bits s (bitOr (value bits s) (setOf regs (only t r)))
+  with-reg-past e l = rw (reg-past regs r t e l) (more-none bits s small)
 
-  pub with-reg-past : t ≡ true → regs ≤ r → Holds 64 s (bitOr (value 64 s) (setOf regs (only t r)))
-  with-reg-past e l = rw (reg-past regs r t e l) (more-none s small)
+  pub with-reg-none : t ≡ false → Holds bits s (bitOr (value bits s) (setOf regs (only t r)))
+  with-reg-none e = rw (reg-none regs r t e) (more-none bits s small)
 
-  pub with-reg-none : t ≡ false → Holds 64 s (bitOr (value 64 s) (setOf regs (only t r)))
-  with-reg-none e = rw (reg-none regs r t e) (more-none s small)
-
-  pub without-reg-in : t ≡ true → r < regs → length s ≡ 16
-      → Holds 64 (set s (r / 64) (bitXor (getD s (r / 64) 0) (bitAnd (getD s (r / 64) 0) ((1 * 2 ^ (r % 64)) % 2 ^ 64)))) (minus (value 64 s) (setOf regs (only t r)))
+  pub without-reg-in : (hand : ℕ) → 0 < bits → t ≡ true → r < regs → length s ≡ hand → regs ≤ hand * bits
+      → Holds bits (set s (r / bits) (bitXor (getD s (r / bits) 0) (bitAnd (getD s (r / bits) 0) ((1 * 2 ^ (r % bits)) % 2 ^ bits)))) (minus (value bits s) (setOf regs (only t r)))
   unfolding minus
-  without-reg-in e l long = as-set (without-in 64 wide s (value 64 s) regs r (held s small) (room long) l) (ap (minus (value 64 s)) (sym (reg-in regs r t e l)))
+  without-reg-in hand wide e l long room = as-set (without-in bits wide s (value bits s) regs r (held bits s small) (rw long room) l) (ap (minus (value bits s)) (sym (reg-in regs r t e l)))
 
-  pub without-reg-past : t ≡ true → regs ≤ r → Holds 64 s (minus (value 64 s) (setOf regs (only t r)))
-  without-reg-past e l = rw (reg-past regs r t e l) (less-none s small)
+  pub without-reg-past : t ≡ true → regs ≤ r → Holds bits s (minus (value bits s) (setOf regs (only t r)))
+  without-reg-past e l = rw (reg-past regs r t e l) (less-none bits s small)
 
-  pub without-reg-none : t ≡ false → Holds 64 s (minus (value 64 s) (setOf regs (only t r)))
-  without-reg-none e = rw (reg-none regs r t e) (less-none s small)
+  pub without-reg-none : t ≡ false → Holds bits s (minus (value bits s) (setOf regs (only t r)))
+  without-reg-none e = rw (reg-none regs r t e) (less-none bits s small)
 
 pub ruleset regs-of = (with-reg-in, with-reg-past, with-reg-none, without-reg-in, without-reg-past, without-reg-none)
 
 -- one after the other
-module _ (R : ℕ → ℕ) (x : ℕ) (p q : List ℕ) (l m : List ℕ) where
-  pub more : Holds 64 p (bitOr x (joined R l)) → Holds 64 q (bitOr (value 64 p) (joined R m)) → Holds 64 q (bitOr x (joined R (l ++ m)))
+module _ (bits : ℕ) (R : ℕ → ℕ) (x : ℕ) (p q : List ℕ) (l m : List ℕ) where
+  pub more : Holds bits p (bitOr x (joined R l)) → Holds bits q (bitOr (value bits p) (joined R m)) → Holds bits q (bitOr x (joined R (l ++ m)))
   more hp hq = as-set hq (ap (λ (y : ℕ). bitOr y (joined R m)) (hp .is) ∙ or-assoc x (joined R l) (joined R m) ∙ ap (bitOr x) (sym (joined-append R l m)))
 
-  pub fewer : Holds 64 p (minus x (joined R l)) → Holds 64 q (minus (value 64 p) (joined R m)) → Holds 64 q (minus x (joined R (l ++ m)))
+  pub fewer : Holds bits p (minus x (joined R l)) → Holds bits q (minus (value bits p) (joined R m)) → Holds bits q (minus x (joined R (l ++ m)))
   fewer hp hq = as-set hq (ap (λ (y : ℕ). minus y (joined R m)) (hp .is) ∙ minus-minus x (joined R l) (joined R m) ∙ ap (minus x) (sym (joined-append R l m)))
 
 -- a run is taken off
-module _ (regs b run : ℕ) (s : List ℕ) where
-  pub none-off : run ≡ 0 → Small 64 s → Holds 64 s (minus (value 64 s) (setOf regs (from b run)))
+module _ (bits regs b run : ℕ) (s : List ℕ) where
+  pub none-off : run ≡ 0 → Small bits s → Holds bits s (minus (value bits s) (setOf regs (from b run)))
   unfolding joined
-  none-off e h = rw e (less-none s h)
+  none-off e h = rw e (less-none bits s h)
 
-  pub one-off : (rest out : List ℕ) → (run ≡ 0 → ⊥) → Holds 64 rest (minus (value 64 s) (setOf regs (only true b)))
-      → Holds 64 out (minus (value 64 rest) (setOf regs (from (b + 1) (run - 1)))) → Holds 64 out (minus (value 64 s) (setOf regs (from b run)))
+  pub one-off : (rest out : List ℕ) → (run ≡ 0 → ⊥) → Holds bits rest (minus (value bits s) (setOf regs (only true b)))
+      → Holds bits out (minus (value bits rest) (setOf regs (from (b + 1) (run - 1)))) → Holds bits out (minus (value bits s) (setOf regs (from b run)))
   one-off rest out n hr ho =
-      as-set (fewer (alone regs) (value 64 s) rest out (b ∷ []) (from (b + 1) (run - 1)) hr ho) (ap (λ (l : List ℕ). minus (value 64 s) (setOf regs l)) (from-next b run n))
+      as-set (fewer bits (alone regs) (value bits s) rest out (b ∷ []) (from (b + 1) (run - 1)) hr ho) (ap (λ (l : List ℕ). minus (value bits s) (setOf regs l)) (from-next b run n))

@@ -333,7 +333,7 @@ pub fn live_wide(code: &[u16], regs: usize, rows: &mut [u64], words: usize) -> C
 // Words of a row.
 pub fn words_for(regs: usize) -> usize
     requires { ⌜ regs ≤ 1024 ⌝ }
-    ensures { λ r. ⌜ r ≡ wordsFor regs ⌝ }
+    ensures { λ r. ⌜ r ≡ wordsFor 64 regs ⌝ }
 {
     let words = (regs + 63) / 64;
     if words < 1 { 1 } else { words }
@@ -341,8 +341,8 @@ pub fn words_for(regs: usize) -> usize
 
 // The rows by the route that the register count asks for, or the wide one if forced.
 pub fn find_rows(code: &[u16], regs: usize, wide: bool, rows: &mut [u64]) -> Counts
-    requires { ⌜ Valid (now code) × (regs ≤ 1024) × (length (now rows) ≡ suc (count (now code)) * wordsFor regs) ⌝ }
-    ensures { λ r. ⌜ Rows wide regs (now (code .entry)) (now (rows .exit)) (r .full) (r .abandoned) ⌝ }
+    requires { ⌜ Valid (now code) × (regs ≤ 1024) × (length (now rows) ≡ suc (count (now code)) * wordsFor 64 regs) ⌝ }
+    ensures { λ r. ⌜ Rows 64 wide regs (now (code .entry)) (now (rows .exit)) (r .full) (r .abandoned) ⌝ }
 {
     if wide | (64 < regs) {
         return live_wide(code, regs, rows, words_for(regs));

@@ -2,10 +2,11 @@
 use mathlib.Core.Path.{_≡_, refl, sym, ap, _∙_, subst}
 use mathlib.Core.Bool.{Bool, true, false, not, cond, _&&_, _||_}
 use mathlib.Core.List.{List, [], _∷_, _++_}
-use Prim.Native.Nat.{ℕ, _+_, _-_, _/_, _%_, _≤_, _<_, min}
+use Prim.Native.Nat.{ℕ, suc, _+_, _-_, _/_, _%_, _≤_, _<_, min}
+use native.Mathlib.Decide.{decLt}
 use native.Mathlib.Omega.{arith}
-use borrow.Author.Tests.{eqb-true, eq-eqb, ne-eqb, lt-ltb, le-ltb}
-use lib.Dec.{eqb, ltb}
+use borrow.Author.Tests.{eqb-true, eq-eqb, ne-eqb, lt-ltb, le-ltb, le-leb, lt-leb}
+use lib.Dec.{eqb, leb, ltb}
 use Rattle.code.specs.Op.{Jump, ReturnR, PushRegs, StoreTopR, PopTop}
 use Rattle.code.specs.Ins.{insAt, count, isCall}
 use Rattle.code.specs.declared.Ins.{Ins}
@@ -71,6 +72,29 @@ below-step w k s p h l = go (s .on) (s .to) refl refl ∙ ap (below p) (h .after
     go true false ex ey = rw on-goes
     go false true ex ey = sym (or-no (ltb (s .target) p))
     go false false ex ey = refl
+
+-- what comes after k goes to k or back just where a jump does
+pub back-at : (w : List ℕ) (k : ℕ) → k < count w → below (suc k) (afterAt w k) ≡ isJump (insAt w k) && leb (insAt w k .a) k
+unfolding below afterAt
+back-at w k l = go (eqb (insAt w k .op) ReturnR) (eqb (insAt w k .op) Jump) (isJump (insAt w k)) refl refl refl
+  where
+    on-goes : ltb (k + 1) (suc k) ≡ false
+    on-goes = le-ltb (k + 1) (suc k) (omega arith)
+
+    to : ltb (min (insAt w k .a) (count w)) (suc k) ≡ leb (insAt w k .a) k
+    to = at (decLt k (insAt w k .a))
+      where
+        at : Dec (k < insAt w k .a) → ltb (min (insAt w k .a) (count w)) (suc k) ≡ leb (insAt w k .a) k
+        at (yes h) = le-ltb (min (insAt w k .a) (count w)) (suc k) (omega arith) ∙ sym (lt-leb (insAt w k .a) k h)
+        at (no n) = lt-ltb (min (insAt w k .a) (count w)) (suc k) (omega arith) ∙ sym (le-leb (insAt w k .a) k (omega arith))
+
+    go : (p q j : Bool) → eqb (insAt w k .op) ReturnR ≡ p → eqb (insAt w k .op) Jump ≡ q → isJump (insAt w k) ≡ j
+        → below (suc k) (cond p [] (cond q (min (insAt w k .a) (count w) ∷ []) (cond j ((k + 1) ∷ min (insAt w k .a) (count w) ∷ []) ((k + 1) ∷ []))))
+        ≡ j && leb (insAt w k .a) k
+    go true q j ep eq ej = rw (sym ej ∙ return-stays (insAt w k) (eqb-true (insAt w k .op) ReturnR ep))
+    go false true j ep eq ej = rw (sym ej ∙ jump-jumps (insAt w k) (eqb-true (insAt w k .op) Jump eq)) (or-no (ltb (min (insAt w k .a) (count w)) (suc k)) ∙ to)
+    go false false true ep eq ej = rw on-goes (or-no (ltb (min (insAt w k .a) (count w)) (suc k)) ∙ to)
+    go false false false ep eq ej = rw on-goes
 
 -- ---- a call's store
 

@@ -2,7 +2,8 @@
 use Prim.Native.Nat.{ℕ, _+_, _-_, min}
 use mathlib.Core.Bool.{Bool, cond, _&&_, _||_}
 use mathlib.Core.List.{List, [], _∷_}
-use lib.Dec.{eqb, ltb}
+use lib.Dec.{eqb, leb, ltb}
+use Rattle.laws.specs.All.{many}
 use Rattle.code.specs.Op.{Jump, ReturnR, PushRegs, StoreTopR, PopTop}
 use Rattle.code.specs.Ins.{insAt, count, isCall, wide}
 use Rattle.roles.specs.Kinds.{isJump}
@@ -42,6 +43,10 @@ afterAt w k =
     let i = insAt w k in
     let t = min (i .a) (count w) in
     cond (eqb (i .op) ReturnR) [] (cond (eqb (i .op) Jump) (t ∷ []) (cond (isJump i) ((k + 1) ∷ t ∷ []) ((k + 1) ∷ [])))
+
+-- the jumps to their own position or back
+abbrev pub jumpsBack : List ℕ → ℕ
+jumpsBack w = many (λ k. isJump (insAt w k) && leb (insAt w k .a) k) (count w)
 
 -- the set of some registers; those not below the register count never appear
 abbrev pub setOf : ℕ → List ℕ → ℕ

@@ -3,7 +3,7 @@
 use mathlib.Core.Path.{_≡_, sym, ap, _∙_}
 use mathlib.Core.Bool.{Bool}
 use mathlib.Core.List.{List}
-use Prim.Native.Nat.{ℕ, _+_}
+use Prim.Native.Nat.{ℕ, _+_, _<_}
 use lib.ListN.{length}
 use Rattle.code.specs.Ins.{count}
 use Rattle.code.specs.Check.{checkOf, insideOf, triedOf, roomOf}
@@ -21,7 +21,9 @@ use Rattle.lent.specs.declared.Counts.{Counts}
 use Rattle.optimizer.specs.Fold.{Buffers, Outcome}
 use Rattle.optimizer.specs.declared.FoldAnswer.{FoldAnswer}
 use Rattle.clear.specs.Clear as clearing
-use Rattle.turniploom.specs.Answers.{By, filledTold, truthTold, keptTold, foldTold, TargetsTold, LoopsTold, DeadTold, GenTold, KeptTold, FoldTold, clearTold, ClearTold}
+use Rattle.turniploom.specs.Answers.{By, filledTold, truthTold, keptTold, foldTold, TargetsTold, LoopsTold, DeadTold, GenTold, KeptTold, FoldTold, clearTold, ClearTold, MadeTold, EnterTold, LeaveTold}
+use Rattle.saver.specs.Saver.{Saver, Back, Ends}
+use Rattle.saver.specs.Answers.{saverTold}
 
 -- equal cases are told alike
 by-one : {A : Type 0} (f : A → Answer) {P Q : A → Type 0} {r r′ : Answer} (x : By f P r) (y : By f Q r′) → x .told ≡ y .told → r ≡ r′
@@ -48,11 +50,11 @@ one-gen w seen todo r r′ a a′ b b′ x y =
     let (e, z, t) = one-answer (roomBoth (checkOf w) w seen todo) (GenPure w) (count w + 1) seen todo (x .told) (y .told) a a′ b b′ (x .allowed) (y .allowed) in
     (by-one truthTold x y e, z, t)
 
--- the scratch is words of 64 bits, as every lent u64 is
-pub one-kept : (w : List ℕ) (regs : ℕ) (tries : List ℕ) (wide : Bool) (rows offsets list : List ℕ) (r r′ : Answer) (a a′ b b′ c c′ : List ℕ) → Small 64 a → Small 64 a′
-    → KeptTold w regs tries wide rows offsets list a b c r → KeptTold w regs tries wide rows offsets list a′ b′ c′ r′ → (r ≡ r′) × (a ≡ a′) × (b ≡ b′) × (c ≡ c′)
-one-kept w regs tries wide rows offsets list r r′ a a′ b b′ c c′ s s′ x y =
-    let (p, q, t, e) = outcome-one w regs tries wide rows offsets list s s′ (x .allowed) (y .allowed) in
+-- the scratch is words of so many bits, as every lent u64 or u32 is
+pub one-kept : (bits : ℕ) → 0 < bits → (w : List ℕ) (regs : ℕ) (tries : List ℕ) (wide : Bool) (rows offsets list : List ℕ) (r r′ : Answer) (a a′ b b′ c c′ : List ℕ) → Small bits a → Small bits a′
+    → KeptTold bits w regs tries wide rows offsets list a b c r → KeptTold bits w regs tries wide rows offsets list a′ b′ c′ r′ → (r ≡ r′) × (a ≡ a′) × (b ≡ b′) × (c ≡ c′)
+one-kept bits some w regs tries wide rows offsets list r r′ a a′ b b′ c c′ s s′ x y =
+    let (p, q, t, e) = outcome-one bits some w regs tries wide rows offsets list s s′ (x .allowed) (y .allowed) in
     (by-one keptTold x y e, p, q, t)
 
 pub one-fold : (strict : Bool) (b : Buffers) (c : Counts) (r r′ : Answer) (a a′ : Buffers) → FoldTold strict b c r a → FoldTold strict b c r′ a′ → (r ≡ r′) × (a ≡ a′)
@@ -64,3 +66,16 @@ pub one-clear : (b : clearing.Buffers) (m : ℕ) (r r′ : Answer) (a a′ : cle
 one-clear b m r r′ a a′ x y =
     let e = x .allowed ∙ sym (y .allowed) in
     (by-one clearTold x y (ap (λ (o : clearing.Outcome). o .answer) e), ap (λ (o : clearing.Outcome). o .after) e)
+
+pub one-make : (regs : ℕ) (head : List ℕ) (r r′ : Answer) (a a′ : List ℕ) → MadeTold regs head a r → MadeTold regs head a′ r′ → (r ≡ r′) × (a ≡ a′)
+one-make regs head r r′ a a′ x y = (by-one saverTold x y (x .allowed .answer ∙ sym (y .allowed .answer)), x .allowed .words ∙ sym (y .allowed .words))
+
+pub one-enter : (s : Saver) (l : List ℕ) (q : ℕ) (r r′ : Answer) (a a′ : Saver) → EnterTold s l q a r → EnterTold s l q a′ r′ → (r ≡ r′) × (a ≡ a′)
+one-enter s l q r r′ a a′ x y =
+    let e = sym (x .allowed) ∙ y .allowed in
+    (by-one saverTold x y (ap (λ (o : Ends). o .answer) e), ap (λ (o : Ends). o .left) e)
+
+pub one-leave : (s : Saver) (back : Back) (r r′ : Answer) (a a′ : Saver) → LeaveTold s back a r → LeaveTold s back a′ r′ → (r ≡ r′) × (a ≡ a′)
+one-leave s back r r′ a a′ x y =
+    let e = sym (x .allowed) ∙ y .allowed in
+    (by-one saverTold x y (ap (λ (o : Ends). o .answer) e), ap (λ (o : Ends). o .left) e)

@@ -37,6 +37,8 @@ use Rattle.clear.specs.declared.ClearAnswer.the-variants as clear
 use Rattle.kept.specs.Answers.{Outcome}
 use Rattle.kept.specs.declared.KeptAnswer.{KeptAnswer}
 use Rattle.kept.specs.declared.KeptAnswer.the-variants as kept
+use Rattle.saver.specs.Saver.{Made, Saver, Back, ends, enterOf, leaveOf}
+use Rattle.saver.specs.Answers.{saverTold}
 
 -- truth is 1, falsehood 0
 abbrev pub truthTold : Told → Answer
@@ -110,8 +112,8 @@ abbrev pub keptTold : KeptAnswer → Answer
 keptTold (kept.Is n full abandoned) = answerOf n full abandoned 0
 keptTold (kept.No r) = refusedOf r
 
-abbrev pub KeptTold : List ℕ → ℕ → List ℕ → Bool → List ℕ → List ℕ → List ℕ → List ℕ → List ℕ → List ℕ → Answer → Type 0
-KeptTold w regs tries wide rows offsets list rows′ offsets′ list′ r = By keptTold (λ v. Outcome w regs tries wide rows offsets list rows′ offsets′ list′ v) r
+abbrev pub KeptTold : ℕ → List ℕ → ℕ → List ℕ → Bool → List ℕ → List ℕ → List ℕ → List ℕ → List ℕ → List ℕ → Answer → Type 0
+KeptTold bits w regs tries wide rows offsets list rows′ offsets′ list′ r = By keptTold (λ v. Outcome bits w regs tries wide rows offsets list rows′ offsets′ list′ v) r
 
 -- instructions, constants, phi_map count, phi_sources count
 abbrev pub foldTold : FoldAnswer → Answer
@@ -128,3 +130,13 @@ clearTold (clear.No r) = refusedOf r
 
 abbrev pub ClearTold : clearing.Buffers → ℕ → Answer → clearing.Buffers → Type 0
 ClearTold b m r b′ = By clearTold (λ v. clearing.outcome v b′ ≡ clearCall b m) r
+
+-- the saver's calls: the words in use, and every word of head, area and file
+abbrev pub MadeTold : ℕ → List ℕ → List ℕ → Answer → Type 0
+MadeTold regs head head′ r = By saverTold (λ v. Made regs head head′ v) r
+
+abbrev pub EnterTold : Saver → List ℕ → ℕ → Saver → Answer → Type 0
+EnterTold s l q s′ r = By saverTold (λ v. enterOf s l q ≡ ends s′ v) r
+
+abbrev pub LeaveTold : Saver → Back → Saver → Answer → Type 0
+LeaveTold s back s′ r = By saverTold (λ v. leaveOf s back ≡ ends s′ v) r

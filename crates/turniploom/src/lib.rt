@@ -7,6 +7,11 @@ ghost use Rattle.callee.specs.Answers.{globalAnswer, pushAnswer, stackAnswer};
 ghost use Rattle.turniploom.specs.Answers.{truthTold, kindsTold, roleTold, fieldTold, bitsTold, filledTold, TargetsTold, LoopsTold, DeadTold, GenTold, globalTold, pushTold, stackTold, keptTold as keptAnswered, KeptTold, foldTold, FoldTold, clearTold, ClearTold};
 ghost use Rattle.optimizer.specs.Fold.{buffers};
 ghost use Rattle.clear.specs.Clear.{buffers as clearable};
+ghost use Rattle.levels.specs.Answers.{levelAnswer};
+ghost use lib.ListN.{length};
+ghost use Rattle.figures.specs.Answers.{reports, addCall, joinCall};
+ghost use Rattle.saver.specs.Saver.{saver as words, returned, thrown};
+ghost use Rattle.turniploom.specs.Answers.{MadeTold, EnterTold, LeaveTold};
 use callee::GlobalAnswer;
 use callee::PushAnswer;
 use callee::StackAnswer;
@@ -248,9 +253,24 @@ pub extern "C" fn turniploom_kept(
     offsets: &mut [u32],
     list: &mut [u16],
 ) -> Answer
-    ensures { λ r. ⌜ KeptTold (now (code .entry)) regs (now (tries .entry)) wide (now (rows .entry)) (now (offsets .entry)) (now (list .entry)) (now (rows .exit)) (now (offsets .exit)) (now (list .exit)) r ⌝ }
+    ensures { λ r. ⌜ KeptTold 64 (now (code .entry)) regs (now (tries .entry)) wide (now (rows .entry)) (now (offsets .entry)) (now (list .entry)) (now (rows .exit)) (now (offsets .exit)) (now (list .exit)) r ⌝ }
 {
     kept_told(kept::kept(code, regs, tries, wide, rows, offsets, list))
+}
+
+#[no_mangle]
+pub extern "C" fn turniploom_kept32(
+    code: &[u16],
+    regs: usize,
+    tries: &[u32],
+    wide: bool,
+    rows: &mut [u32],
+    offsets: &mut [u32],
+    list: &mut [u16],
+) -> Answer
+    ensures { λ r. ⌜ KeptTold 32 (now (code .entry)) regs (now (tries .entry)) wide (now (rows .entry)) (now (offsets .entry)) (now (list .entry)) (now (rows .exit)) (now (offsets .exit)) (now (list .exit)) r ⌝ }
+{
+    kept_told(kept32::kept32(code, regs, tries, wide, rows, offsets, list))
 }
 
 #[no_mangle]
@@ -305,4 +325,76 @@ pub extern "C" fn turniploom_clear(
 {
     let a = clear::clear(code, kinds, words, constants, scratch);
     cleared(a)
+}
+
+#[no_mangle]
+pub extern "C" fn turniploom_level(code: &[u16], at: usize) -> Answer
+    ensures { λ r. ⌜ r ≡ levelAnswer (now (code .entry)) at ⌝ }
+{
+    levels::level(code, at)
+}
+
+#[no_mangle]
+pub extern "C" fn turniploom_saver_make(head: &mut [u64; 2], regs: usize) -> Answer
+    ensures { λ r. ⌜ MadeTold regs (now (head .entry)) (now (head .exit)) r ⌝ }
+{
+    saver::told(saver::make(head, regs))
+}
+
+#[no_mangle]
+pub extern "C" fn turniploom_saver_enter(
+    head: &mut [u64; 2],
+    area: &mut [u64; 4096],
+    file: &[u64; 64],
+    list: &[u16],
+    result: u64,
+) -> Answer
+    ensures { λ r. ⌜ EnterTold (words (now (head .entry)) (now (area .entry)) (now (file .entry))) (now (list .entry)) result
+        (words (now (head .exit)) (now (area .exit)) (now (file .entry))) r ⌝ }
+{
+    saver::told(saver::enter(head, area, file, list, result))
+}
+
+#[no_mangle]
+pub extern "C" fn turniploom_saver_return(
+    head: &mut [u64; 2],
+    area: &[u64; 4096],
+    file: &mut [u64; 64],
+    value: u64,
+) -> Answer
+    ensures { λ r. ⌜ LeaveTold (words (now (head .entry)) (now (area .entry)) (now (file .entry))) (returned value)
+        (words (now (head .exit)) (now (area .entry)) (now (file .exit))) r ⌝ }
+{
+    saver::told(saver::leave_by_return(head, area, file, value))
+}
+
+#[no_mangle]
+pub extern "C" fn turniploom_saver_exception(
+    head: &mut [u64; 2],
+    area: &[u64; 4096],
+    file: &mut [u64; 64],
+) -> Answer
+    ensures { λ r. ⌜ LeaveTold (words (now (head .entry)) (now (area .entry)) (now (file .entry))) thrown
+        (words (now (head .exit)) (now (area .entry)) (now (file .exit))) r ⌝ }
+{
+    saver::told(saver::leave_by_exception(head, area, file))
+}
+
+#[no_mangle]
+pub extern "C" fn turniploom_figures_add(
+    code: &[u16],
+    offsets: &[u32],
+    list: &[u16],
+    report: &mut [u64; 7],
+) -> Answer
+    ensures { λ r. ⌜ addCall (now (code .entry)) (now (offsets .entry)) (length (now (list .entry))) (now (report .entry)) ≡ reports (now (report .exit)) r ⌝ }
+{
+    figures::add(code, offsets, list, report)
+}
+
+#[no_mangle]
+pub extern "C" fn turniploom_figures_join(later: &[u64; 7], report: &mut [u64; 7]) -> Answer
+    ensures { λ r. ⌜ joinCall (now (later .entry)) (now (report .entry)) ≡ reports (now (report .exit)) r ⌝ }
+{
+    figures::join(later, report)
 }

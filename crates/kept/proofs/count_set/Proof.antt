@@ -7,7 +7,7 @@ use Rattle.kept.proofs.count_set.Statement.{statement}
 use Rattle.kept.proofs.count_set.Tie as tie
 
 abbrev Inv-loop : tie.InvT-loop
-Inv-loop words set n₀ j₀ n j = Counting words set n j
+Inv-loop words set n₀ j₀ n j = Counting 64 words set n j
 
 abbrev μ-loop : tie.MeasureT-loop
 μ-loop words set n₀ j₀ n j = words - j

@@ -7,7 +7,7 @@ use Rattle.kept.proofs.join_tries.Statement.{statement}
 use Rattle.kept.proofs.join_tries.Tie as tie
 
 abbrev Inv-loop : tie.InvT-loop
-Inv-loop rows n words k tries all₀ i₀ all i = Holding n k words rows tries all₀ all i
+Inv-loop rows n words k tries all₀ i₀ all i = Holding 64 n k words rows tries all₀ all i
 
 abbrev μ-loop : tie.MeasureT-loop
 μ-loop rows n words k tries all₀ i₀ all i = length tries - i
@@ -49,10 +49,10 @@ loop-less : tie.Need-loop-less Inv-loop μ-loop
 loop-less c = search needs
 
 loop-again : tie.Need-loop-again Inv-loop μ-loop
-loop-again c = holding-more _ _ _ _ _ _ _ _ (c .before .before .before .before .before .before .loop .inv) (c .before .before .before .before .before .loop-test .taken) _ _ (c .before .before .before .wide-of .ensures) (c .before .wide-of2 .ensures) _ (c .join-try .ensures)
+loop-again c = holding-more _ _ _ _ _ _ _ _ _ (c .before .before .before .before .before .before .loop .inv) (c .before .before .before .before .before .loop-test .taken) _ _ (c .before .before .before .wide-of .ensures) (c .before .wide-of2 .ensures) _ (c .join-try .ensures)
 
 returns : tie.Need-returns Inv-loop μ-loop
-returns c = holding-end _ _ _ _ _ _ _ _ (c .before .loop .inv) (c .loop-test .left)
+returns c = holding-end _ _ _ _ _ _ _ _ _ (c .before .loop .inv) (c .loop-test .left)
 
 pub join-tries-spec : {M : Type 1} → statement M
 join-tries-spec =

@@ -6,7 +6,7 @@ use Rattle.kept.proofs.less_row.Statement.{statement}
 use Rattle.kept.proofs.less_row.Tie as tie
 
 abbrev Inv-loop : tie.InvT-loop
-Inv-loop rows at words less out₀ j₀ out j = Lessing rows less at words j out
+Inv-loop rows at words less out₀ j₀ out j = Lessing 16 rows less at words j out
 
 abbrev μ-loop : tie.MeasureT-loop
 μ-loop rows at words less out₀ j₀ out j = words - j

@@ -6,7 +6,7 @@ use Rattle.kept.proofs.list_set.Statement.{statement}
 use Rattle.kept.proofs.list_set.Tie as tie
 
 abbrev Inv-loop : tie.InvT-loop
-Inv-loop words out₀ m set n₀ j₀ out n j = Listings words set out₀ m out n j
+Inv-loop words out₀ m set n₀ j₀ out n j = Listings 64 words set out₀ m out n j
 
 abbrev μ-loop : tie.MeasureT-loop
 μ-loop words out₀ m set n₀ j₀ out n j = words - j

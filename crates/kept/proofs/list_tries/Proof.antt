@@ -7,7 +7,7 @@ use Rattle.kept.proofs.list_tries.Statement.{statement}
 use Rattle.kept.proofs.list_tries.Tie as tie
 
 abbrev Inv-loop : tie.InvT-loop
-Inv-loop rows n words k tries out₀ m all₀ at₀ i₀ out all at i = Keeping n k words rows tries all₀ out₀ m out all at i
+Inv-loop rows n words k tries out₀ m all₀ at₀ i₀ out all at i = Keeping 64 n k words rows tries all₀ out₀ m out all at i
 
 abbrev μ-loop : tie.MeasureT-loop
 μ-loop rows n words k tries out₀ m all₀ at₀ i₀ out all at i = length tries - i
@@ -40,7 +40,7 @@ wide-of-requires-2 : tie.Need-wide-of-requires-2 Inv-loop μ-loop
 wide-of-requires-2 c κs = search needs
 
 list-try-requires : tie.Need-list-try-requires Inv-loop μ-loop
-list-try-requires c κs = (search needs, search needs, search needs, search needs, search needs, keeping-try _ _ _ _ _ _ _ _ _ _ _ _ (c .before .before .before .before .before .before .loop .inv) (c .before .before .before .before .before .loop-test .taken) _ _ (c .before .before .before .wide-of .ensures) (c .before .wide-of2 .ensures))
+list-try-requires c κs = (search needs, search needs, search needs, search needs, search needs, keeping-try _ _ _ _ _ _ _ _ _ _ _ _ _ (c .before .before .before .before .before .before .loop .inv) (c .before .before .before .before .before .loop-test .taken) _ _ (c .before .before .before .wide-of .ensures) (c .before .wide-of2 .ensures))
 
 join-try-requires : tie.Need-join-try-requires Inv-loop μ-loop
 join-try-requires c κs = search needs
@@ -52,13 +52,13 @@ loop-less : tie.Need-loop-less Inv-loop μ-loop
 loop-less c = search needs
 
 loop-again : tie.Need-loop-again Inv-loop μ-loop
-loop-again c = keeping-more _ _ _ _ _ _ _ _ _ _ _ _ (c .before .before .before .before .before .before .before .before .before .before .loop .inv) (c .before .before .before .before .before .before .before .before .before .loop-test .taken) _ _ (c .before .before .before .before .before .before .before .wide-of .ensures) (c .before .before .before .before .before .wide-of2 .ensures) _ _ (c .before .before .before .list-try .ensures) _ (c .join-try .ensures)
+loop-again c = keeping-more _ _ _ _ _ _ _ _ _ _ _ _ _ (c .before .before .before .before .before .before .before .before .before .before .loop .inv) (c .before .before .before .before .before .before .before .before .before .loop-test .taken) _ _ (c .before .before .before .before .before .before .before .wide-of .ensures) (c .before .before .before .before .before .wide-of2 .ensures) _ _ (c .before .before .before .list-try .ensures) _ (c .join-try .ensures)
 
 same-length : tie.Need-same-length Inv-loop μ-loop
-same-length c = keeping-long _ _ _ _ _ _ _ _ _ _ _ _ (c .before .loop .inv)
+same-length c = keeping-long _ _ _ _ _ _ _ _ _ _ _ _ _ (c .before .loop .inv)
 
 returns : tie.Need-returns Inv-loop μ-loop
-returns c = keeping-end _ _ _ _ _ _ _ _ _ _ _ _ (c .before .loop .inv) (c .loop-test .left)
+returns c = keeping-end _ _ _ _ _ _ _ _ _ _ _ _ _ (c .before .loop .inv) (c .loop-test .left)
 
 pub list-tries-spec : {M : Type 1} → statement M
 list-tries-spec =

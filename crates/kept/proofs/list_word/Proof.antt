@@ -7,13 +7,13 @@ use Rattle.kept.proofs.list_word.Statement.{statement}
 use Rattle.kept.proofs.list_word.Tie as tie
 
 abbrev Inv-loop : tie.InvT-loop
-Inv-loop word base out₀ m rest₀ n₀ out rest n = Walked base word out₀ m out n rest
+Inv-loop word base out₀ m rest₀ n₀ out rest n = Walked 64 base word out₀ m out n rest
 
 abbrev μ-loop : tie.MeasureT-loop
 μ-loop word base out₀ m rest₀ n₀ out rest n = rest
 
 loop-holds : tie.Need-loop-holds Inv-loop μ-loop
-loop-holds c = walked-start (c .args .base) (c .args .word) (now (c .args .out)) (c .args .m) (c .fits .word .fits) (c .pre .1)
+loop-holds c = walked-start 64 (c .args .base) (c .args .word) (now (c .args .out)) (c .args .m) (c .fits .word .fits) (c .pre .1)
 
 cast-out : tie.Need-cast-out Inv-loop μ-loop
 cast-out c = omega (arith, trailing-le 64 (c .before .loop .rest))

@@ -14,7 +14,7 @@ join-if-requires-2 : tie.Need-join-if-requires-2
 join-if-requires-2 c κs = search (needs, fits)
 
 returns : tie.Need-returns
-returns c = search after-holds
+returns c = search (needs, after-holds)
 
 pub after-wide-spec : {M : Type 1} → statement M
 after-wide-spec = tie.close (tie.spec add-join-if join-if-requires join-if-requires-2 returns)

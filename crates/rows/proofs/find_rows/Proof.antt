@@ -14,7 +14,7 @@ same-length : tie.Need-same-length
 same-length c = search needs
 
 returns : tie.Need-returns
-returns c = search by-wide
+returns c = search (needs, by-wide)
 
 live-word-requires : tie.Need-live-word-requires
 live-word-requires c κs = search (needs, word-few, word-long)

@@ -6,7 +6,7 @@ use Rattle.rows.proofs.join_row.Statement.{statement}
 use Rattle.rows.proofs.join_row.Tie as tie
 
 abbrev Inv-loop : tie.InvT-loop
-Inv-loop rows at words out₀ j₀ out j = Joining out₀ rows at words j out
+Inv-loop rows at words out₀ j₀ out j = Joining 16 out₀ rows at words j out
 
 abbrev μ-loop : tie.MeasureT-loop
 μ-loop rows at words out₀ j₀ out j = words - j

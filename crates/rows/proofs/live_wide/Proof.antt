@@ -28,7 +28,7 @@ clear-requires : tie.Need-clear-requires Inv-loop2 μ-loop2 Inv-loop μ-loop
 clear-requires c κs = search needs
 
 loop-holds : tie.Need-loop-holds Inv-loop2 μ-loop2 Inv-loop μ-loop
-loop-holds c = (search wide-starts, search cleared)
+loop-holds c = (search (needs, wide-starts), search cleared)
 
 loop2-holds : tie.Need-loop2-holds Inv-loop2 μ-loop2 Inv-loop μ-loop
 loop2-holds c = (search sweep-starts, search needs)

@@ -23,7 +23,7 @@ returns : tie.Need-returns
 returns c =
     let small : Small 64 (now (c .before .before .before .before .before .before .before .args .rows)) =
     λ j. omega (arith, c .before .before .before .before .before .before .slice-known .given j) in
-    search put-is
+    search (needs, put-is)
 
 pub put-wide-spec : {M : Type 1} → statement M
 put-wide-spec =

@@ -1,0 +1,4 @@
+pub mod Groups
+pub mod Calls
+pub mod Month
+pub mod Words

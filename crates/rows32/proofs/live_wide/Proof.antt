@@ -1,0 +1,98 @@
+-- `rows32::live_wide` meets its contract: the inner loop is a sweep that has come down to k, the outer a run between two sweeps. Assumes nothing.
+use borrow.Author.Needs.{needs}
+use mathlib.Core.Path.{_≡_}
+use Prim.Native.Nat.{suc, _*_}
+use lib.ListN.{length}
+use Rattle.code.specs.Ins.{count}
+use Rattle.flow.specs.Words.{rowsOf}
+use Rattle.rows.proofs.Sweeps.{Between, Turn, toGo, wide-starts, cleared, sweep-starts, wide-step, whole-few, whole-found, whole-again, whole-less}
+use Rattle.rows32.proofs.live_wide.Statement.{statement}
+use Rattle.rows32.proofs.live_wide.Tie as tie
+
+abbrev Inv-loop2 : tie.InvT-loop2
+Inv-loop2 code regs rows₀ words n full changed₀ back₀ k₀ rows changed back k =
+    Turn code regs 0 0 full 0 0 (rowsOf 32 words (suc (count code)) rows₀) (rowsOf 32 words (suc (count code)) rows) changed back k
+    × (length rows ≡ suc (count code) * words)
+
+abbrev μ-loop2 : tie.MeasureT-loop2
+μ-loop2 code regs rows₀ words n full changed₀ back₀ k₀ rows changed back k = k
+
+abbrev Inv-loop : tie.InvT-loop
+Inv-loop code regs rows₀ words n full₀ rows full =
+    Between code regs 0 0 full 0 (rowsOf 32 words (suc (count code)) rows) × (length rows ≡ suc (count code) * words)
+
+abbrev μ-loop : tie.MeasureT-loop
+μ-loop code regs rows₀ words n full₀ rows full = toGo code regs 0 full 0
+
+clear-requires : tie.Need-clear-requires Inv-loop2 μ-loop2 Inv-loop μ-loop
+clear-requires c κs = search needs
+
+loop-holds : tie.Need-loop-holds Inv-loop2 μ-loop2 Inv-loop μ-loop
+loop-holds c = (search (needs, wide-starts), search cleared)
+
+loop2-holds : tie.Need-loop2-holds Inv-loop2 μ-loop2 Inv-loop μ-loop
+loop2-holds c = (search sweep-starts, search needs)
+
+sub-step-at : tie.Need-sub-step-at Inv-loop2 μ-loop2 Inv-loop μ-loop
+sub-step-at c = search needs
+
+step-at-requires : tie.Need-step-at-requires Inv-loop2 μ-loop2 Inv-loop μ-loop
+step-at-requires c κs = search needs
+
+sub-put-wide : tie.Need-sub-put-wide Inv-loop2 μ-loop2 Inv-loop μ-loop
+sub-put-wide c = search needs
+
+put-wide-requires : tie.Need-put-wide-requires Inv-loop2 μ-loop2 Inv-loop μ-loop
+put-wide-requires c κs = search needs
+
+goes-before-requires : tie.Need-goes-before-requires Inv-loop2 μ-loop2 Inv-loop μ-loop
+goes-before-requires c κs = search needs
+
+sub-k : tie.Need-sub-k Inv-loop2 μ-loop2 Inv-loop μ-loop
+sub-k c = search needs
+
+loop2-less : tie.Need-loop2-less Inv-loop2 μ-loop2 Inv-loop μ-loop
+loop2-less c = search needs
+
+loop2-again : tie.Need-loop2-again Inv-loop2 μ-loop2 Inv-loop μ-loop
+loop2-again c = (wide-step (c .before .before .before .before .before .before .before .loop2 .inv .0) (c .before .before .before .before .before .step-at .ensures) (c .before .before .before .before .before .before .loop2-test .taken) (c .before .before .before .put-wide .ensures) (c .goes-before .ensures), search needs)
+
+add-full : tie.Need-add-full Inv-loop2 μ-loop2 Inv-loop μ-loop
+add-full c = record { fits = whole-few (c .before .loop2 .inv .0) (c .loop2-test .left) }
+
+same-length : tie.Need-same-length Inv-loop2 μ-loop2 Inv-loop μ-loop
+same-length c = search needs
+
+returns : tie.Need-returns Inv-loop2 μ-loop2 Inv-loop μ-loop
+returns c = whole-found (c .before .before .loop2 .inv .0) (c .before .loop2-test .left) (c .if1 .taken)
+
+loop-less : tie.Need-loop-less Inv-loop2 μ-loop2 Inv-loop μ-loop
+loop-less c = whole-less (c .before .before .loop2 .inv .0) (c .before .loop2-test .left) (c .if1 .left)
+
+loop-again : tie.Need-loop-again Inv-loop2 μ-loop2 Inv-loop μ-loop
+loop-again c = (whole-again (c .before .before .loop2 .inv .0) (c .before .loop2-test .left) (c .if1 .left), c .before .before .loop2 .inv .1)
+
+pub live-wide-spec : {M : Type 1} → statement M
+live-wide-spec =
+    tie.close
+    (tie.spec
+    Inv-loop2
+    μ-loop2
+    Inv-loop
+    μ-loop
+    clear-requires
+    loop-holds
+    loop2-holds
+    sub-step-at
+    step-at-requires
+    sub-put-wide
+    put-wide-requires
+    goes-before-requires
+    sub-k
+    loop2-less
+    loop2-again
+    add-full
+    same-length
+    returns
+    loop-less
+    loop-again)

@@ -1,0 +1,18 @@
+-- What a host does with the exported saver: calls that are entered and left, and registers overwritten between them. Assumes nothing.
+use Prim.Native.Nat.{ℕ}
+use mathlib.Core.Path.{_≡_}
+use mathlib.Core.List.{List, [], _∷_}
+use lib.ListN.{length}
+use Rattle.code.specs.declared.Answer.{Answer}
+use Rattle.saver.specs.Saver.{Saver, saver, Back}
+use Rattle.saver.specs.Frames.{Event, enters, writes, leaves}
+use Rattle.turniploom.specs.Answers.{EnterTold, LeaveTold}
+
+-- From one saver to another by exported calls in order. An entry here is one that is answered; overwriting keeps the file's length; a leaving
+-- is whatever the call makes of it.
+pub data Called : Saver → List Event → Saver → Type 0 where
+  done : {s : Saver} → Called s [] s
+  enter : {s m t : Saver} {l : List ℕ} {q : ℕ} {es : List Event} {r : Answer} → EnterTold s l q m r → r .refusal ≡ 0 → Called m es t → Called s (enters l q ∷ es) t
+  write : {s t : Saver} {new : List ℕ} {es : List Event} → length new ≡ length (s .file) → Called (saver (s .head) (s .area) new) es t
+      → Called s (writes new ∷ es) t
+  leave : {s m t : Saver} {back : Back} {es : List Event} {r : Answer} → LeaveTold s back m r → Called m es t → Called s (leaves back ∷ es) t

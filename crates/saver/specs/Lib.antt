@@ -1,0 +1,3 @@
+pub mod Saver
+pub mod Frames
+pub mod Answers

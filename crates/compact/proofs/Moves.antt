@@ -32,16 +32,6 @@ module _ (dead : List ℕ) where
   unfolding remapOf
   remap-of map e = record { whole = e; long = rw e (each-word (live dead) (length dead + 1)); at = λ i h. rw e (each-at (live dead) (length dead + 1) i (omega arith)) }
 
-  pub remap-on : (map last : List ℕ) → last ≡ map → map ≡ remapOf dead → Remap dead last
-  remap-on map last f e = remap-of last (f ∙ e)
-
-  -- a dead entry has the next one's number already
-  pub remap-same : (map old : List ℕ) (i : ℕ) → map ≡ old → Remap dead old → 0 < i → i ≤ length dead → (getD dead (i - 1) 0 ≡ 0 → ⊥)
-      → set map (i - 1) (getD map (i - 1 + 1) 0) ≡ old
-  remap-same map old i e r p h d =
-      rw e
-      (ap (set old (i - 1)) (r .at (i - 1 + 1) (omega arith) ∙ live-off (i - 1) d ∙ sym (r .at (i - 1) (omega arith))) ∙ set-getD old (i - 1) 0)
-
   module _ (map : List ℕ) (r : Remap dead map) (v : ℕ) where
     pub moved-in : v ≤ length dead → getD map v 0 ≡ mapped dead v
     unfolding mapped
@@ -54,7 +44,7 @@ module _ (dead : List ℕ) where
   unfolding mapped
   moved-out v h = rw (lt-leb v (length dead) h)
 
--- where the first walk stands at i, with `at` counted
+-- where the walk stands at i, with `at` counted
 pub record Counted (dead xs old : List ℕ) (at i : ℕ) : Type 0 where
   pub walked : Walked xs old (each (λ k. live dead k ∷ []) i) i i
   pub counts : at ≡ live dead i

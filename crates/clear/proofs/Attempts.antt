@@ -184,36 +184,36 @@ module _ {s t : Chunk} (z : Sim s t) (p q i : ℕ) (h : p < count (s .code)) whe
   put-sim (Truth false) few a b c d = truth-sim LoadFalse refl
 
 -- one attempt
-module _ (strict : Bool) (i : ℕ) (s : Chunk) where
-  pub try-live : (plan : Plan) → eqb (getD (s .dead) i 0) 0 ≡ true → planAt strict i s ≡ plan → tryFold strict i s ≡ applied plan i s
+module _ (bars : ℕ → Bool) (i : ℕ) (s : Chunk) where
+  pub try-live : (plan : Plan) → eqb (getD (s .dead) i 0) 0 ≡ true → planAt bars i s ≡ plan → tryFold bars i s ≡ applied plan i s
   unfolding tryFold
   try-live plan e f = rw e (ap (λ (x : Plan). applied x i s) f)
 
-  pub try-dead : eqb (getD (s .dead) i 0) 0 ≡ false → tryFold strict i s ≡ s
+  pub try-dead : eqb (getD (s .dead) i 0) 0 ≡ false → tryFold bars i s ≡ s
   unfolding tryFold
   try-dead e = rw e
 
-applied-sim : (strict : Bool) (i : ℕ) (s t : Chunk) → Sim s t → s .constants < 65535 → Ready s i → Ready t i → (plan : Plan) → planAt strict i s ≡ plan → planAt strict i t ≡ plan
+applied-sim : (bars : ℕ → Bool) (i : ℕ) (s t : Chunk) → Sim s t → s .constants < 65535 → Ready s i → Ready t i → (plan : Plan) → planAt bars i s ≡ plan → planAt bars i t ≡ plan
     → Sim (applied plan i s) (applied plan i t)
 unfolding applied
-applied-sim strict i s t z few r r′ Stay e f = z
-applied-sim strict i s t z few r r′ (Put p q v) e f =
-    let x = planned strict i s e in
-    let y = planned strict i t f in
+applied-sim bars i s t z few r r′ Stay e f = z
+applied-sim bars i s t z few r r′ (Put p q v) e f =
+    let x = planned bars i s e in
+    let y = planned bars i t f in
     let m = r .room (x .operator) in
     let m′ = r′ .room (y .operator) in
     let w = fewer (z .pools) in
     put-sim z p q i (omega (arith, x .first, r .readable .here)) v few (m .kinds-more few) (m .words-more few) (m′ .kinds-more (omega arith)) (m′ .words-more (omega arith))
 
-pub try-sim : (strict : Bool) (i : ℕ) (s t : Chunk) → Sim s t → s .constants < 65535 → Ready s i → Ready t i → Sim (tryFold strict i s) (tryFold strict i t)
-try-sim strict i s t z few r r′ = go (eqb (getD (s .dead) i 0) 0) refl
+pub try-sim : (bars : ℕ → Bool) (i : ℕ) (s t : Chunk) → Sim s t → s .constants < 65535 → Ready s i → Ready t i → Sim (tryFold bars i s) (tryFold bars i t)
+try-sim bars i s t z few r r′ = go (eqb (getD (s .dead) i 0) 0) refl
   where
-    go : (b : Bool) → eqb (getD (s .dead) i 0) 0 ≡ b → Sim (tryFold strict i s) (tryFold strict i t)
+    go : (b : Bool) → eqb (getD (s .dead) i 0) 0 ≡ b → Sim (tryFold bars i s) (tryFold bars i t)
     go true e =
         let f : eqb (getD (t .dead) i 0) 0 ≡ true = ap (λ (d : List ℕ). eqb (getD d i 0) 0) (sym (z .alike .dead)) ∙ e in
-        let plan = planAt strict i t in
-        let g = plan-same (z .alike) strict i in
-        rw (try-live strict i s plan e g, try-live strict i t plan f refl) (applied-sim strict i s t z few r r′ plan g refl)
+        let plan = planAt bars i t in
+        let g = plan-same (z .alike) bars i in
+        rw (try-live bars i s plan e g, try-live bars i t plan f refl) (applied-sim bars i s t z few r r′ plan g refl)
     go false e =
         let f : eqb (getD (t .dead) i 0) 0 ≡ false = ap (λ (d : List ℕ). eqb (getD d i 0) 0) (sym (z .alike .dead)) ∙ e in
-        rw (try-dead strict i s e, try-dead strict i t f) z
+        rw (try-dead bars i s e, try-dead bars i t f) z

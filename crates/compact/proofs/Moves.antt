@@ -17,7 +17,7 @@ use Rattle.laws.proofs.Each.{each-more, each-word, each-at}
 use Rattle.laws.proofs.InPlace.{Walked, walk-none, walk-read, walk-pass, walk-put, walk-three, walk-at, walk-as, walk-count, walk-whole, word-put}
 use Rattle.lent.specs.Chunk.{stride, opAt, markAt, operandAt, jumps}
 use Rattle.compact.specs.Remap.{alive, live, Remap, remapOf, mapped}
-use Rattle.compact.specs.Tables.{operandOf, leftAt, left, compacted, pairAt, placed, Compacted}
+use Rattle.compact.specs.Tables.{operandOf, leftAt, left, compacted, pairAt, placed, movedAll, Compacted}
 
 -- ---- remap
 
@@ -213,6 +213,29 @@ module _ {dead xs old : List ℕ} {k : ℕ} (p : Placed dead xs old k) where
   pub placed-whole : length old / 2 ≤ k → k ≤ length old / 2 → length old % 2 ≡ 0 → xs ≡ placed dead old
   unfolding placed
   placed-whole h l z = let e : k ≡ length old / 2 = omega arith in walk-whole (p .walked) (omega arith) ∙ ap (each (pairAt dead old)) e
+
+-- ---- every word
+
+pub record Moving (dead xs old : List ℕ) (k : ℕ) : Type 0 where
+  pub walked : Walked xs old (each (λ j. mapped dead (getD old j 0) ∷ []) k) k k
+
+pub moving-none : (dead old : List ℕ) → Moving dead old old 0
+unfolding each
+moving-none dead old = record { walked = walk-none old }
+
+module _ {dead xs old : List ℕ} {k : ℕ} (p : Moving dead xs old k) where
+  pub moving-more : (v : ℕ) → v ≡ mapped dead (getD xs k 0) → k < length xs → Moving dead (set xs k v) old (k + 1)
+  moving-more v e h =
+      record { walked = word-put (λ j. mapped dead (getD old j 0)) (p .walked) (omega (arith, p .walked .same)) v (e ∙ ap (mapped dead) (walk-read (p .walked) k (le-refl k))) }
+
+  pub moving-same : length xs ≡ length old
+  moving-same = p .walked .same
+
+  pub moving-whole : length xs ≤ k → k ≤ length old → xs ≡ movedAll dead old
+  unfolding movedAll
+  moving-whole h l =
+      let e : k ≡ length old = omega (arith, p .walked .same) in
+      walk-whole (p .walked) (omega (arith, p .walked .same)) ∙ ap (each (λ j. mapped dead (getD old j 0) ∷ [])) e
 
 -- ---- all of it
 

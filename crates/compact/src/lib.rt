@@ -5,7 +5,7 @@ ghost use Prim.Native.Nat.{_+_, _-_, _*_, _%_, _≤_, _<_};
 ghost use lib.ListN.{length, take, replicate, set};
 ghost use Rattle.lent.specs.Chunk.{stride, count, opAt, markAt};
 ghost use Rattle.compact.specs.Remap.{live, Remap, remapOf, mapped};
-ghost use Rattle.compact.specs.Tables.{operandOf, compacted, placed, Compacted};
+ghost use Rattle.compact.specs.Tables.{operandOf, compacted, placed, movedAll, Compacted};
 use lent::STRIDE;
 
 // remap(0) to remap(n), front to back: the number of live instructions before each position.
@@ -105,6 +105,19 @@ fn place(pairs: &mut [u32], dead: &[u8], remap: &[u32])
         let at = 2 * k;
         let v = moved(dead, remap, pairs[at]);
         pairs[at] = v;
+        k += 1;
+    }
+}
+
+// Every word follows: the tries are pairs of positions.
+pub fn place_words(words: &mut [u32], dead: &[u8], remap: &[u32])
+    requires { ⌜ Remap (now dead) (now remap) ⌝ }
+    ensures { λ _. ⌜ now (words .exit) ≡ movedAll (now (dead .entry)) (now (words .entry)) ⌝ }
+{
+    let mut k: usize = 0;
+    while k < words.len() {
+        let v = moved(dead, remap, words[k]);
+        words[k] = v;
         k += 1;
     }
 }

@@ -4,3 +4,4 @@ pub mod Ways
 pub mod Planned
 pub mod Grown
 pub mod Passed
+pub mod Landed

@@ -1,6 +1,9 @@
+pub mod Ruled
 pub mod Again
 pub mod Anew
 pub mod Idle
-pub mod Examples
 pub mod Tested
 pub mod Whole
+pub mod Settled
+pub mod Examples
+pub mod Readied

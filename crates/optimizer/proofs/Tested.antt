@@ -7,22 +7,26 @@ use mathlib.Core.Bool.{Bool, true, false, cond, not, _&&_, _||_}
 use mathlib.Core.List.{List}
 use lib.Dec.{eqb, leb, ltb}
 use lib.ListN.{length}
+use mir.Val.{boolByte}
 use borrow.Author.Tests.{eqb-true, leb-true, ltb-false, not-false}
 use Rattle.laws.specs.All.{every}
 use Rattle.laws.proofs.Branch.{and-true, or-false}
-use Rattle.code.specs.Check.{roomOf}
+use Rattle.code.specs.Op.{LoadConst}
+use Rattle.code.specs.Check.{pairs, firstBadTry, triedOf, roomOf}
 use Rattle.code.proofs.Stages.{room-before, room-there}
 use Rattle.code.specs.declared.Refusal.{Refusal}
-use Rattle.code.specs.declared.Refusal.the-variants.{Length, Record, Table}
+use Rattle.code.specs.declared.Refusal.the-variants.{Length, Record, Try, Table}
 use Rattle.code.specs.declared.Checked.{Checked}
 use Rattle.code.specs.declared.Checked.the-variants.{Count, No}
-use Rattle.lent.specs.Chunk.{stride, count}
+use Rattle.lent.specs.Chunk.{stride, count, opAt, markAt, jumps, folds, rules}
+use Rattle.landings.specs.Landings.{Unmarked}
 use Rattle.lent.specs.Tables.{constantKept, within, constantsKept, mapKept, pairsKept, tableOf}
 use Rattle.lent.specs.Check.{uneven, firstBad, checkOf, tablesOf, tallyOf, constantRoom, sourceRoom, roomsOf, readyOf}
 use Rattle.lent.specs.declared.Counts.{Counts}
 use Rattle.lent.specs.declared.Lens.{Lens}
 use Rattle.lent.proofs.Kept.{few}
 use Rattle.optimizer.specs.Fold.{Buffers, lensOf, Held}
+use Rattle.optimizer.proofs.Ruled.{ruled-of}
 
 never : {A : Type 0} (n : ℕ) (r : Refusal) → Count n ≡ No r → A
 never n r e = let z : _≡_ {A = ℕ} 0 1 = cc in absurd (omega arith)
@@ -67,11 +71,46 @@ whole-of w e = omega arith
 pairs-in : (s phis : ℕ) → s % 2 ≡ 0 → s ≤ sourceRoom s phis
 pairs-in s phis e = omega arith
 
-module _ (b : Buffers) (c : Counts) (n : ℕ) where
-  pub held-of : (v : Checked) → v ≡ readyOf (b .code) (b .kinds) (b .words) c (lensOf b) → v ≡ Count n → Held b c
+tried-met : (n : ℕ) (v : Checked) (t : List ℕ) → Count n ≡ triedOf v t → v ≡ Count n
+tried-met n (No r) t e = never n r e
+tried-met n (Count m) t e = go (ltb (firstBadTry t m) (pairs t)) e
+  where
+    go : (u : Bool) → Count n ≡ cond u (No (Try (firstBadTry t m))) (Count m) → Count m ≡ Count n
+    go true e = never n (Try (firstBadTry t m)) e
+    go false e = sym e
+
+-- a LoadConst that keeps its record rule has no jump mark
+load-calm : (m : ℕ) → rules LoadConst m ≡ true → eqb (m % 2) 1 ≡ false
+unfolding rules folds
+load-calm m e = go (eqb (m % 2) 1) (eqb (m / 2 % 2) 1) (leb m 3) e
+  where
+    go : (j k l : Bool) → true && l && (not j || false) && ((false || k) && (not k || not (j || false || false))) ≡ true → j ≡ false
+    go false k l e = refl
+    go true k true e = absurd (let z : _≡_ {A = ℕ} 0 1 = ap boolByte e in omega arith)
+    go true k false e = absurd (let z : _≡_ {A = ℕ} 0 1 = ap boolByte e in omega arith)
+
+pub unmarked-of : (w : List ℕ) (n : ℕ) → Count n ≡ checkOf w → Unmarked w
+unfolding checkOf
+unmarked-of w n h k o = go (uneven w) refl (ltb (firstBad w) (count w)) refl h
+  where
+    go : (u : Bool) → uneven w ≡ u → (b : Bool) → ltb (firstBad w) (count w) ≡ b → Count n ≡ checkOf w → jumps w k ≡ false
+    go true p b q h = never n (Length (length w)) (rw p at h)
+    go false p true q h = never n (Record (firstBad w)) (rw (p, q) at h)
+    go false p false q h =
+        let l : length w % stride ≡ 0 = eqb-true (length w % stride) 0 (not-false _ (or-false (not (eqb (length w % stride) 0)) (ltb 65535 (count w)) p .0)) in
+        let r : rules (opAt w k) (markAt w k) ≡ true = ruled-of w (omega arith) (ltb-false (firstBad w) (count w) q) k in
+        load-calm (markAt w k) (rw o at r)
+
+module _ (b : Buffers) (tries : List ℕ) (c : Counts) (landings n : ℕ) (v : Checked) (e : v ≡ readyOf (b .code) tries (b .kinds) (b .words) c (lensOf b) landings) (f : v ≡ Count n) where
+  pub table-there : count (b .code) + 1 ≤ landings
+  unfolding readyOf
+  table-there = room-met n (roomsOf (tablesOf (triedOf (checkOf (b .code)) tries) (count (b .code)) (b .kinds) (b .words) c (lensOf b)) (b .code) c (lensOf b)) 7 landings (count (b .code) + 1) (sym f ∙ e) .1
+
+  pub held-of : Held b c
   unfolding readyOf roomsOf tablesOf
-  held-of v e f =
-      let r₆ = room-met n _ 6 _ _ (sym f ∙ e) in
+  held-of =
+      let r₇ = room-met n (roomsOf (tablesOf (triedOf (checkOf (b .code)) tries) (count (b .code)) (b .kinds) (b .words) c (lensOf b)) (b .code) c (lensOf b)) 7 landings (count (b .code) + 1) (sym f ∙ e) in
+      let r₆ = room-met n _ 6 _ _ (sym (r₇ .0)) in
       let r₅ = room-met n _ 5 _ _ (sym (r₆ .0)) in
       let r₄ = room-met n _ 4 _ _ (sym (r₅ .0)) in
       let r₃ = room-met n _ 3 _ _ (sym (r₄ .0)) in
@@ -82,7 +121,8 @@ module _ (b : Buffers) (c : Counts) (n : ℕ) where
       let t₃ = table-met n _ 3 _ (sym (t₄ .0)) in
       let t₂ = table-met n _ 2 _ (sym (t₃ .0)) in
       let t₁ = table-met n _ 1 _ (sym (t₂ .0)) in
-      let k = check-met n (b .code) (sym (t₁ .0)) in
+      let y = tried-met n (checkOf (b .code)) tries (sym (t₁ .0)) in
+      let k = check-met n (b .code) (sym y) in
       let s = pairs-whole (c .sources) (length (b .sources)) (t₃ .1) in
       let p = pairs-whole (c .stmts) (length (b .stmts)) (t₄ .1) in
       let q = pairs-whole (c .calls) (length (b .calls)) (t₅ .1) in
@@ -103,4 +143,5 @@ module _ (b : Buffers) (c : Counts) (n : ℕ) where
         calls = q .1;
         dead = r₅ .1;
         remap = r₆ .1;
+        unmarked = unmarked-of (b .code) n (sym y);
       }

@@ -21,39 +21,11 @@ use Rattle.fold.specs.Pass.{loadOf, constLoad, markOf, put, landed, applied, tr
 use Rattle.fold.specs.declared.Plan.{Plan}
 use Rattle.fold.specs.declared.Plan.the-variants.{Stay, Put}
 use Rattle.fold.proofs.Planned.{planned}
-use Rattle.fold.proofs.Grown.{put-other, put-here, put-long}
+use Rattle.fold.proofs.Put.{put-long, put-other, mark-other, operand-other, put-here, mark-here, operand-here, jump-here, jump-other}
 use Rattle.clear.proofs.Alike.{SameLoad, Alike, plan-same}
 use Rattle.clear.proofs.Pools.{cases, Grew, grew-none, Pools, fewer, stepped}
 
 -- ---- a load that is put at p
-
-module _ (w : List ℕ) (p o x : ℕ) where
-  mark-other : (k : ℕ) → (k ≡ p → ⊥) → markAt (put w p o x) k ≡ markAt w k
-  unfolding put
-  mark-other k h =
-      getD-set-other (set (set w (stride * p) o) (stride * p + 1) (markOf o)) (stride * p + 2) (stride * k + 1) x 0 (λ e. omega arith)
-      ∙ getD-set-other (set w (stride * p) o) (stride * p + 1) (stride * k + 1) (markOf o) 0 (λ e. h (omega arith))
-      ∙ getD-set-other w (stride * p) (stride * k + 1) o 0 (λ e. omega arith)
-
-  operand-other : (k : ℕ) → (k ≡ p → ⊥) → operandAt (put w p o x) k ≡ operandAt w k
-  unfolding put
-  operand-other k h =
-      getD-set-other (set (set w (stride * p) o) (stride * p + 1) (markOf o)) (stride * p + 2) (stride * k + 2) x 0 (λ e. h (omega arith))
-      ∙ getD-set-other (set w (stride * p) o) (stride * p + 1) (stride * k + 2) (markOf o) 0 (λ e. omega arith)
-      ∙ getD-set-other w (stride * p) (stride * k + 2) o 0 (λ e. omega arith)
-
-  module _ (h : p < count w) where
-    mark-here : markAt (put w p o x) p ≡ markOf o
-    unfolding put
-    mark-here =
-        getD-set-other (set (set w (stride * p) o) (stride * p + 1) (markOf o)) (stride * p + 2) (stride * p + 1) x 0 (λ e. omega arith)
-        ∙ getD-set-same (set w (stride * p) o) (stride * p + 1) (markOf o) 0 (rw (length-set w (stride * p) o) (omega arith))
-
-    operand-here : operandAt (put w p o x) p ≡ x
-    unfolding put
-    operand-here =
-        getD-set-same (set (set w (stride * p) o) (stride * p + 1) (markOf o)) (stride * p + 2) x 0
-        (rw (length-set (set w (stride * p) o) (stride * p + 1) (markOf o), length-set w (stride * p) o) (omega arith))
 
 names-of : (o : ℕ) → eqb (markOf o / 2 % 2) 1 ≡ eqb o LoadConst
 unfolding markOf
@@ -63,19 +35,8 @@ names-of o = go (eqb o LoadConst)
     go true = refl
     go false = refl
 
-jumps-of : (o : ℕ) → eqb (markOf o % 2) 1 ≡ false
-unfolding markOf
-jumps-of o = go (eqb o LoadConst)
-  where
-    go : (b : Bool) → eqb (cond b 2 0 % 2) 1 ≡ false
-    go true = refl
-    go false = refl
-
 abbrev nameMark : ℕ → Bool
 nameMark x = eqb (x / 2 % 2) 1
-
-abbrev jumpMark : ℕ → Bool
-jumpMark x = eqb (x % 2) 1
 
 -- the chunk with it
 abbrev wrote : Chunk → (p q i o x : ℕ) → (kinds words : List ℕ) → ℕ → Chunk
@@ -135,8 +96,8 @@ module _ {s t : Chunk} (a : Alike s t) (p q i o x y : ℕ) (h : p < count (s .co
             (λ z. names-other k z ∙ a .consts k (sym (ap (λ (u : ℕ). eqb u LoadConst) (put-other (s .code) p o x k z)) ∙ e));
         apart = λ k e.
             cases k p
-            (λ z. rw z (ap jumpMark (mark-here (s .code) p o x h) ∙ jumps-of o))
-            (λ z. ap jumpMark (mark-other (s .code) p o x k z) ∙ a .apart k (sym (names-other k z) ∙ e));
+            (λ z. rw z (jump-here (s .code) p o x h))
+            (λ z. jump-other (s .code) p o x k z ∙ a .apart k (sym (names-other k z) ∙ e));
       }
 
 -- ---- both chunks, with their pools

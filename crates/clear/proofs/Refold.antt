@@ -28,7 +28,8 @@ use Rattle.fold.specs.Plan.{Chunk, chunk, planAt}
 use Rattle.fold.specs.Pass.{constLoad, put, landed, applied, tryFold, Bars, byScan, folded, foldAll, Lent}
 use Rattle.fold.specs.declared.Plan.{Plan}
 use Rattle.fold.specs.declared.Plan.the-variants.{Stay, Put}
-use Rattle.fold.proofs.Grown.{put-long, Held, held-none, held-more, held-ready}
+use Rattle.fold.proofs.Put.{put-long}
+use Rattle.fold.proofs.Grown.{Held, held-none, held-more, held-ready}
 use Rattle.clear.specs.Unused.{named, before, pooled, recoded}
 use Rattle.clear.proofs.Kept.{named-by, in-order, onto, pooled-kept}
 use Rattle.clear.proofs.Loads.{recoded-length, recoded-count, recoded-op, recoded-mark, unmarked-stays, near-moves}

@@ -6,12 +6,12 @@ use mathlib.Core.Path.{_≡_, refl, sym, ap, _∙_}
 use mathlib.Core.Bool.{Bool, true, false, cond}
 use mathlib.Core.List.{List}
 use lib.Dec.{eqb}
-use lib.ListN.{length, getD, set, length-set}
-use lib.Seq.{getD-set-same, getD-set-other}
+use lib.ListN.{length, getD}
 use mir.Val.{boolByte}
 use Rattle.laws.specs.All.{many}
-use Rattle.lent.specs.Chunk.{stride, count, opAt, folds}
+use Rattle.lent.specs.Chunk.{count, opAt, folds}
 use Rattle.lent.specs.Check.{constantRoom}
+use Rattle.lent.proofs.Counting.{many-le}
 use Rattle.values.specs.declared.Val.{Val}
 use Rattle.values.specs.declared.Val.the-variants.{Int, Float as Real, Bool as Truth}
 use Rattle.chunk.specs.Pool.{Room, Stored, findOrPushConst}
@@ -20,37 +20,19 @@ use Rattle.chunk.specs.declared.Kept.the-variants.{At, Full}
 use Rattle.chunk.proofs.Store.{kept-few}
 use Rattle.landings.specs.Latest.{latest, isLanding}
 use Rattle.fold.specs.Plan.{Chunk, after, planAt}
-use Rattle.fold.specs.Pass.{Loading, loadOf, constLoad, markOf, put, landed, applied, tryFold, Bars, byTable, folded, foldAll, Readable, Ready, Lent}
+use Rattle.fold.specs.Pass.{Loading, loadOf, constLoad, landed, applied, tryFold, Bars, byTable, folded, foldAll, Readable, Ready, Lent}
 use Rattle.fold.specs.declared.Loaded.{Loaded}
 use Rattle.fold.specs.declared.Loaded.the-variants.{As, No}
 use Rattle.fold.specs.declared.Plan.{Plan}
 use Rattle.fold.specs.declared.Plan.the-variants.{Stay, Put}
 use Rattle.fold.proofs.Planned.{Planned, planned}
+use Rattle.fold.proofs.Put.{put-other}
 
 -- ---- one attempt
 
 pub record Grown (s t : Chunk) (i : ℕ) : Type 0 where
   pub later : (k : ℕ) → i ≤ k → opAt (t .code) k ≡ opAt (s .code) k
   pub few : t .constants ≤ constantRoom (s .constants) (boolByte (folds (opAt (s .code) i)))
-
--- an instruction put elsewhere, and here
-pub put-other : (w : List ℕ) (p o x k : ℕ) → (k ≡ p → ⊥) → opAt (put w p o x) k ≡ opAt w k
-unfolding put
-put-other w p o x k h =
-    getD-set-other (set (set w (stride * p) o) (stride * p + 1) (markOf o)) (stride * p + 2) (stride * k) x 0 (λ e. omega arith)
-    ∙ getD-set-other (set w (stride * p) o) (stride * p + 1) (stride * k) (markOf o) 0 (λ e. omega arith)
-    ∙ getD-set-other w (stride * p) (stride * k) o 0 (λ e. h (omega arith))
-
-pub put-here : (w : List ℕ) (p o x : ℕ) → p < count w → opAt (put w p o x) p ≡ o
-unfolding put
-put-here w p o x h =
-    getD-set-other (set (set w (stride * p) o) (stride * p + 1) (markOf o)) (stride * p + 2) (stride * p) x 0 (λ e. omega arith)
-    ∙ getD-set-other (set w (stride * p) o) (stride * p + 1) (stride * p) (markOf o) 0 (λ e. omega arith)
-    ∙ getD-set-same w (stride * p) o 0 (omega arith)
-
-pub put-long : (w : List ℕ) (p o x : ℕ) → length (put w p o x) ≡ length w
-unfolding put
-put-long w p o x = simp length-set
 
 abbrev countOf : Loaded → ℕ → ℕ
 countOf (As o x m) n = m
@@ -123,16 +105,6 @@ held-none bars s =
 many-here : (f : ℕ → Bool) (k : ℕ) → many f (suc k) ≡ many f k + boolByte (f k)
 unfolding many
 many-here f k = refl
-
-many-on : (f : ℕ → Bool) (d k : ℕ) → many f k ≤ many f (d + k)
-unfolding many
-many-on f zero k = let e : 0 + k ≡ k = omega arith in rw e (omega arith)
-many-on f (suc d) k =
-    let e : suc d + k ≡ suc (d + k) = omega arith in
-    rw e (omega (arith, many-on f d k))
-
-many-le : (f : ℕ → Bool) (k n : ℕ) → k ≤ n → many f k ≤ many f n
-many-le f k n h = let e : (n - k) + k ≡ n = omega arith in rw e at (many-on f (n - k) k)
 
 module _ {bars : Bars} {s t : Chunk} {i n : ℕ} (h : Held bars s t i) (z : n ≡ count (s .code)) (l′ : i < n) (b : Lent s) where
   l : i < count (s .code)

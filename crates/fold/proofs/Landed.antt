@@ -23,52 +23,21 @@ use Rattle.fold.specs.declared.Loaded.the-variants.{As, No}
 use Rattle.fold.specs.declared.Plan.{Plan}
 use Rattle.fold.specs.declared.Plan.the-variants.{Stay, Put}
 use Rattle.fold.proofs.Planned.{Planned, planned}
-use Rattle.fold.proofs.Grown.{put-other, put-here, put-long}
+use Rattle.fold.proofs.Put.{put-long, put-other, operand-other, jump-other, jump-here}
 
--- ---- a load that is put has no jump mark
-
-mark-calm : (o : ℕ) → eqb (markOf o % 2) 1 ≡ false
-unfolding markOf
-mark-calm o = go (eqb o LoadConst)
-  where
-    go : (b : Bool) → eqb (cond b 2 0 % 2) 1 ≡ false
-    go true = refl
-    go false = refl
+-- ---- a load that is put
 
 module _ (w : List ℕ) (p o x : ℕ) where
-  mark-put : p < count w → jumps (put w p o x) p ≡ false
-  unfolding put
-  mark-put h =
-      let e : markAt (put w p o x) p ≡ markOf o =
-      getD-set-other (set (set w (stride * p) o) (stride * p + 1) (markOf o)) (stride * p + 2) (stride * p + 1) x 0 (λ e. omega arith)
-      ∙ getD-set-same (set w (stride * p) o) (stride * p + 1) (markOf o) 0 (omega (arith, length-set w (stride * p) o)) in
-      ap (λ (m : ℕ). eqb (m % 2) 1) e ∙ mark-calm o
-
-  mark-else : (k : ℕ) → (k ≡ p → ⊥) → jumps (put w p o x) k ≡ jumps w k
-  unfolding put
-  mark-else k h =
-      ap (λ (m : ℕ). eqb (m % 2) 1)
-      (getD-set-other (set (set w (stride * p) o) (stride * p + 1) (markOf o)) (stride * p + 2) (stride * k + 1) x 0 (λ e. omega arith)
-      ∙ getD-set-other (set w (stride * p) o) (stride * p + 1) (stride * k + 1) (markOf o) 0 (λ e. h (omega arith))
-      ∙ getD-set-other w (stride * p) (stride * k + 1) o 0 (λ e. omega arith))
-
-  operand-else : (k : ℕ) → (k ≡ p → ⊥) → operandAt (put w p o x) k ≡ operandAt w k
-  unfolding put
-  operand-else k h =
-      getD-set-other (set (set w (stride * p) o) (stride * p + 1) (markOf o)) (stride * p + 2) (stride * k + 2) x 0 (λ e. h (omega arith))
-      ∙ getD-set-other (set w (stride * p) o) (stride * p + 1) (stride * k + 2) (markOf o) 0 (λ e. omega arith)
-      ∙ getD-set-other w (stride * p) (stride * k + 2) o 0 (λ e. omega arith)
-
   module _ (h : p < count w) (u : Unmarked w) (l : opAt w p ≡ LoadConst) where
     put-jumps : SameJumps w (put w p o x)
-    put-jumps = record { long = put-long w p o x; mark = mark; goal = λ k j. operand-else k (λ e. apart k e j) }
+    put-jumps = record { long = put-long w p o x; mark = mark; goal = λ k j. operand-other w p o x k (λ e. apart k e j) }
       where
         mark : (k : ℕ) → jumps (put w p o x) k ≡ jumps w k
         mark k = go (eqb k p) refl
           where
             go : (b : Bool) → eqb k p ≡ b → jumps (put w p o x) k ≡ jumps w k
-            go true e = let q = eqb-true k p e in rw q (mark-put h ∙ sym (u p l))
-            go false e = mark-else k (eqb-false k p e)
+            go true e = let q = eqb-true k p e in rw q (jump-here w p o x h ∙ sym (u p l))
+            go false e = jump-other w p o x k (eqb-false k p e)
 
         apart : (k : ℕ) → k ≡ p → jumps w k ≡ true → ⊥
         apart k e j =
@@ -80,8 +49,8 @@ module _ (w : List ℕ) (p o x : ℕ) where
     put-unmarked k e = go (eqb k p) refl
       where
         go : (b : Bool) → eqb k p ≡ b → jumps (put w p o x) k ≡ false
-        go true q = let s = eqb-true k p q in rw s (mark-put h)
-        go false q = let n = eqb-false k p q in mark-else k n ∙ u k (sym (put-other w p o x k n) ∙ e)
+        go true q = let s = eqb-true k p q in rw s (jump-here w p o x h)
+        go false q = let n = eqb-false k p q in jump-other w p o x k n ∙ u k (sym (put-other w p o x k n) ∙ e)
 
 -- ---- one attempt
 

@@ -24,7 +24,7 @@ use Rattle.fold.specs.declared.Loaded.the-variants.{As, No}
 use Rattle.fold.specs.declared.Plan.{Plan}
 use Rattle.fold.specs.declared.Plan.the-variants.{Stay, Put}
 use Rattle.fold.proofs.Planned.{Planned, planned}
-use Rattle.fold.proofs.Grown.{put-other, put-here, put-long}
+use Rattle.fold.proofs.Put.{put-other, put-here, put-long}
 
 -- a mark stays or becomes 1
 abbrev pub Mark : ℕ → ℕ → Type 0

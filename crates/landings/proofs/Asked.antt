@@ -3,7 +3,7 @@ use Prim.Native.Nat.{ℕ, zero, suc, _+_, _*_, _/_, _≤_, _<_}
 use native.Mathlib.Omega.{arith}
 use native.Mathlib.Numerals.{add-one}
 use mathlib.Core.Path.{_≡_, refl, sym, ap, _∙_}
-use mathlib.Core.Bool.{Bool, true, false, not, cond, _&&_, _||_}
+use mathlib.Core.Bool.{Bool, true, false, not, cond, _&&_, _||_, false≢true}
 use mathlib.Core.List.{List, [], _∷_}
 use mathlib.Core.Logic.{_⊎_, inl, inr, ⊎-elim}
 use lib.Dec.{eqb, ltb, leb}
@@ -12,7 +12,7 @@ use borrow.Author.Tests.{lt-ltb, le-leb, ltb-true, ltb-false, leb-true, eqb-true
 use mir.Val.{boolByte}
 use Rattle.laws.specs.All.{many}
 use Rattle.laws.specs.Some.{some}
-use Rattle.laws.proofs.Each.{each-at}
+use Rattle.laws.proofs.Each.{each-at, each-word}
 use Rattle.laws.proofs.Some.{passes-at}
 use Rattle.laws.proofs.Branch.{and-true}
 use Rattle.lent.specs.Chunk.{count, operandAt, jumps}
@@ -20,9 +20,6 @@ use Rattle.landings.specs.Landings.{handlerAt, jumpsTo, handledAt, landi
 use Rattle.landings.specs.Latest.{latest, isLanding}
 
 -- ---- two tests that hold together are one
-
-false-true : {X : Type 0} → false ≡ true → X
-false-true e = absurd (let z : _≡_ {A = ℕ} 0 1 = ap boolByte e in omega arith)
 
 together : (a b : Bool) → (a ≡ true → b ≡ true) → (b ≡ true → a ≡ true) → a ≡ b
 together true b f g = sym (f refl)
@@ -51,7 +48,7 @@ latest-last f (suc k) t e h = go (f k) refl (latest-last f k t e)
     go false q ih = ih (below (eqb t k) refl)
       where
         below : (c : Bool) → eqb t k ≡ c → t < k
-        below true s = false-true (sym q ∙ ap f (sym (eqb-true t k s)) ∙ e)
+        below true s = absurd (false≢true (sym q ∙ ap f (sym (eqb-true t k s)) ∙ e))
         below false s = let n = eqb-false t k s in near t k n h
           where
             near : (t k : ℕ) → (t ≡ k → ⊥) → t < suc k → t < k
@@ -70,7 +67,7 @@ pub record Somewhere (f : ℕ → Bool) (n : ℕ) : Type 0 where
 
 pub somewhere-of : (f : ℕ → Bool) (n : ℕ) → some f n ≡ true → Somewhere f n
 unfolding some
-somewhere-of f zero e = false-true e
+somewhere-of f zero e = absurd (false≢true e)
 somewhere-of f (suc n) e = go (some f n) (f n) refl refl e (somewhere-of f n)
   where
     go : (a b : Bool) → some f n ≡ a → f n ≡ b → a || b ≡ true → (some f n ≡ true → Somewhere f n) → Somewhere f (suc n)
@@ -103,12 +100,16 @@ many-there f (suc n) k h e = go (ltb k n) refl (λ l. many-there f n k l e)
 
 -- ---- the table
 
+pub table-long : (w tries : List ℕ) → length (landingsOf w tries) ≡ count w + 1
+unfolding landingsOf
+table-long w tries = each-word (landingsAt w tries) (count w + 1)
+
 pub table-at : (w tries : List ℕ) (t : ℕ) → t ≤ count w → getD (landingsOf w tries) t 0 ≡ landingsAt w tries t
 unfolding landingsOf
 table-at w tries t h = each-at (landingsAt w tries) (count w + 1) t (omega arith)
 
 not-zero : (x : ℕ) → not (eqb x 0) ≡ true → x ≡ 0 → ⊥
-not-zero x e z = let q : not true ≡ true = rw (eq-eqb x 0 z) at e in false-true q
+not-zero x e z = let q : not true ≡ true = rw (eq-eqb x 0 z) at e in absurd (false≢true q)
 
 positive : (x : ℕ) → 0 < x → not (eqb x 0) ≡ true
 positive x h = rw (ne-eqb x 0 (λ z. omega arith)) refl

@@ -16,17 +16,13 @@ use Rattle.laws.proofs.Many.{many-more, many-few}
 use Rattle.laws.proofs.Each.{each-word, each-at}
 use Rattle.laws.proofs.Table.{fill-on}
 use Rattle.lent.specs.Chunk.{count, operandAt, jumps}
+use Rattle.lent.proofs.Counting.{zeros-at}
 use Rattle.landings.specs.Landings.{handlerAt, jumpsTo, handledAt, landingsAt, landingsOf, bumped, Counts, Low, Zeros, Jumped, Handled}
 
 -- ---- all 0
 
 zeros-low : (l : List ℕ) (m : ℕ) → l ≡ replicate m 0 → Low l 0
-zeros-low l m e = record { each = λ t. rw e (go m t) }
-  where
-    go : (m t : ℕ) → getD (replicate m 0) t 0 ≤ 0
-    go zero t = omega arith
-    go (suc m) zero = omega arith
-    go (suc m) (suc t) = go m t
+zeros-low l m e = record { each = λ t. rw e (omega (arith, zeros-at m t)) }
 
 pub record Zeroed (l₀ l : List ℕ) (i : ℕ) : Type 0 where
   pub is : l ≡ replicate i 0 ++ drop i l₀

@@ -11,6 +11,7 @@ use Rattle.laws.specs.All.{many}
 use Rattle.laws.specs.Each.{each}
 use Rattle.laws.proofs.Each.{each-ext}
 use Rattle.lent.specs.Chunk.{stride, count, operandAt, jumps}
+use Rattle.lent.proofs.Counting.{many-ext}
 use Rattle.landings.specs.Landings.{jumpsTo, handledAt, landingsAt, landingsOf}
 
 -- the same jumps, to the same places
@@ -18,11 +19,6 @@ pub record SameJumps (w w′ : List ℕ) : Type 0 where
   pub long : length w′ ≡ length w
   pub mark : (k : ℕ) → jumps w′ k ≡ jumps w k
   pub goal : (k : ℕ) → jumps w k ≡ true → operandAt w′ k ≡ operandAt w k
-
-many-ext : (f g : ℕ → Bool) (n : ℕ) → ((k : ℕ) → f k ≡ g k) → many f n ≡ many g n
-unfolding many
-many-ext f g zero h = refl
-many-ext f g (suc n) h = rw (many-ext f g n h, h n) refl
 
 module _ (w w′ tries : List ℕ) (s : SameJumps w w′) where
   to-same : (t k : ℕ) → jumpsTo w′ t k ≡ jumpsTo w t k
@@ -34,7 +30,7 @@ module _ (w w′ tries : List ℕ) (s : SameJumps w w′) where
 
   at-same : (t : ℕ) → landingsAt w′ tries t ≡ landingsAt w tries t
   unfolding landingsAt
-  at-same t = rw (s .long, many-ext (jumpsTo w′ t) (jumpsTo w t) (count w) (to-same t)) refl
+  at-same t = rw (s .long, many-ext (jumpsTo w′ t) (jumpsTo w t) (count w) (λ k h. to-same t k)) refl
 
   pub landings-same : landingsOf w′ tries ≡ landingsOf w tries
   unfolding landingsOf

@@ -24,6 +24,7 @@ use Rattle.lent.specs.Chunk.{stride, count, opAt, markAt, folds, rules, breaksA
 use Rattle.lent.specs.Check.{uneven, firstBad, checkOf, readyOf}
 use Rattle.lent.specs.declared.Counts.{Counts}
 use Rattle.lent.proofs.Checks.{accepted}
+use Rattle.lent.proofs.Counting.{zeros-at}
 use Rattle.values.specs.declared.Val.{Val}
 use Rattle.values.specs.declared.Val.the-variants.{Int, Float as Real, Bool as Truth}
 use Rattle.chunk.specs.Pool.{findOrPushConst}
@@ -36,9 +37,10 @@ use Rattle.fold.specs.declared.Loaded.the-variants.{As, No as Unloaded}
 use Rattle.fold.specs.declared.Plan.{Plan}
 use Rattle.fold.specs.declared.Plan.the-variants.{Stay, Put}
 use Rattle.fold.proofs.Planned.{Planned, planned}
-use Rattle.fold.proofs.Grown.{put-other, put-here, put-long}
+use Rattle.fold.proofs.Put.{put-long, put-other, mark-other, put-here, mark-here}
 use Rattle.compact.specs.Remap.{alive, live}
 use Rattle.compact.specs.Tables.{operandOf, leftAt, left, compacted}
+use Rattle.compact.proofs.Left.{left-long}
 use Rattle.phi_pass.specs.Phi.{marked}
 use Rattle.phi_pass.proofs.Pairs.{marked-length}
 use Rattle.optimizer.specs.Finish.{Tables, tables, mapOf, sourcesOf, renewed, finished}
@@ -62,25 +64,12 @@ both p q = record { ruled = λ r. q .ruled (p .ruled r); long = q .long ∙ p .l
 -- ---- a load with its mark
 
 module _ (w : List ℕ) (p o x : ℕ) where
-  mark-other : (k : ℕ) → (k ≡ p → ⊥) → markAt (put w p o x) k ≡ markAt w k
-  unfolding put
-  mark-other k h =
-      getD-set-other (set (set w (stride * p) o) (stride * p + 1) (markOf o)) (stride * p + 2) (stride * k + 1) x 0 (λ e. omega arith)
-      ∙ getD-set-other (set w (stride * p) o) (stride * p + 1) (stride * k + 1) (markOf o) 0 (λ e. h (omega arith))
-      ∙ getD-set-other w (stride * p) (stride * k + 1) o 0 (λ e. omega arith)
-
-  mark-here : p < count w → markAt (put w p o x) p ≡ markOf o
-  unfolding put
-  mark-here h =
-      getD-set-other (set (set w (stride * p) o) (stride * p + 1) (markOf o)) (stride * p + 2) (stride * p + 1) x 0 (λ e. omega arith)
-      ∙ getD-set-same (set w (stride * p) o) (stride * p + 1) (markOf o) 0 (rw (length-set w (stride * p) o) (omega arith))
-
   put-keeps : rules o (markOf o) ≡ true → p < count w → Keeps w (put w p o x)
   put-keeps e h = record { ruled = λ r k. go r k (eqb k p) refl; long = put-long w p o x }
     where
       go : Ruled w → (k : ℕ) (t : Bool) → eqb k p ≡ t → rules (opAt (put w p o x) k) (markAt (put w p o x) k) ≡ true
-      go r k true q = rw (eqb-true k p q, put-here w p o x h, mark-here h) e
-      go r k false q = rw (put-other w p o x k (eqb-false k p q), mark-other k (eqb-false k p q)) (r k)
+      go r k true q = rw (eqb-true k p q, put-here w p o x h, mark-here w p o x h) e
+      go r k false q = rw (put-other w p o x k (eqb-false k p q), mark-other w p o x k (eqb-false k p q)) (r k)
 
 abbrev Fair : Loaded → Type 0
 Fair (As o x m) = rules o (markOf o) ≡ true
@@ -164,24 +153,10 @@ one-ruled o m v e (suc k) =
     let q : markAt (o ∷ m ∷ v ∷ []) (suc k) ≡ 0 = List·getD-eq-default (o ∷ m ∷ v ∷ []) 0 {n = stride * suc k + 1} (omega arith) in
     rw (p, q) no-words
 
-zeros : (n i : ℕ) → _≡_ {A = ℕ} (getD (replicate n 0) i 0) 0
-zeros zero i = refl
-zeros (suc n) zero = refl
-zeros (suc n) (suc i) = zeros n i
-
 zero-ruled : (n : ℕ) → Ruled (replicate n 0)
-zero-ruled n k = rw (zeros n (stride * k), zeros n (stride * k + 1)) no-words
+zero-ruled n k = rw (zeros-at n (stride * k), zeros-at n (stride * k + 1)) no-words
 
 module _ (dead w : List ℕ) where
-  one-long : (k : ℕ) (t : Bool) → length (cond t (opAt w k ∷ markAt w k ∷ operandOf dead w k ∷ []) []) ≡ stride * boolByte t
-  one-long k true = refl
-  one-long k false = refl
-
-  left-long : (k : ℕ) → length (each (leftAt dead w) k) ≡ stride * live dead k
-  unfolding each many
-  left-long zero = refl
-  left-long (suc k) = length-append (each (leftAt dead w) k) (leftAt dead w k) ∙ omega (arith, left-long k, one-long k (alive dead k))
-
   at-ruled : Ruled w → (k : ℕ) (t : Bool) → Ruled (cond t (opAt w k ∷ markAt w k ∷ operandOf dead w k ∷ []) [])
   at-ruled r k true = one-ruled (opAt w k) (markAt w k) (operandOf dead w k) (r k)
   at-ruled r k false = λ j. no-words
@@ -189,17 +164,17 @@ module _ (dead w : List ℕ) where
   left-ruled : Ruled w → (k : ℕ) → Ruled (each (leftAt dead w) k)
   unfolding each
   left-ruled r zero = λ j. no-words
-  left-ruled r (suc k) = append-ruled (each (leftAt dead w) k) (leftAt dead w k) (live dead k) (left-long k) (left-ruled r k) (at-ruled r k (alive dead k))
+  left-ruled r (suc k) = append-ruled (each (leftAt dead w) k) (leftAt dead w k) (live dead k) (left-long dead w k) (left-ruled r k) (at-ruled r k (alive dead k))
 
   compacted-keeps : stride * length dead ≤ length w → Keeps w (compacted dead w)
   unfolding compacted left
   compacted-keeps h =
       let l = each (leftAt dead w) (length dead) in
       record {
-        ruled = λ r. append-ruled l (replicate (length w - length l) 0) (live dead (length dead)) (left-long (length dead)) (left-ruled r (length dead)) (zero-ruled (length w - length l));
+        ruled = λ r. append-ruled l (replicate (length w - length l) 0) (live dead (length dead)) (left-long dead w (length dead)) (left-ruled r (length dead)) (zero-ruled (length w - length l));
         long =
             length-append l (replicate (length w - length l) 0)
-            ∙ omega (arith, length-replicate {A = ℕ} (length w - length l) 0, left-long (length dead), many-few (alive dead) (length dead));
+            ∙ omega (arith, length-replicate {A = ℕ} (length w - length l) 0, left-long dead w (length dead), many-few (alive dead) (length dead));
       }
 
 finished-keeps : (t : Tables) → stride * length (t .dead) ≤ length (t .code) → Keeps (t .code) (finished t .code)

@@ -1,6 +1,6 @@
--- A test that folds to LoadTrue, a chain that folds to one constant, and crossed pairs, through the whole call and computed from the definitions. Assumes nothing.
+-- A test that folds to LoadTrue, a chain that folds to one constant, crossed pairs and a handler in a group, through the whole call and computed from the definitions. Assumes nothing.
 use mathlib.Core.Path.{_≡_, refl}
-use mathlib.Core.Bool.{false}
+use mathlib.Core.Bool.{true, false}
 use mathlib.Core.List.{[], _∷_}
 use lib.ListN.{replicate}
 use Rattle.code.specs.Op.{LoadConst, LoadTrue, Phi, Add, Mul, Lt, Minus}
@@ -12,7 +12,7 @@ use Rattle.lent.specs.Chunk.{folds, rules}
 use Rattle.lent.specs.Check.{checkOf, tablesOf, tallyOf, roomsOf, readyOf}
 use Rattle.code.specs.Check.{firstBadTry}
 use Rattle.code.specs.Rules.{tryKept}
-use Rattle.landings.specs.Landings.{landingsAt, landingsOf, lands, landsAny, handlesAny, barred}
+use Rattle.landings.specs.Landings.{landingsAt, landingsOf, lands, landsAny, handles, handlesAny, barred}
 use Rattle.compact.specs.Remap.{remapOf, mapped}
 use Rattle.compact.specs.Tables.{operandOf, left, compacted, placed, movedAll}
 use Rattle.phi_pass.specs.Phi.{paired, noop, markAt, marked, pairsLeft, indexed}
@@ -58,3 +58,30 @@ pub pairs-crossed : foldCall false
     (buffers (Phi ∷ 0 ∷ 7 ∷ Phi ∷ 0 ∷ 8 ∷ 0 ∷ 0 ∷ 0 ∷ []) [] [] (0 ∷ 1 ∷ 0 ∷ []) (3 ∷ 4 ∷ 1 ∷ 2 ∷ 0 ∷ 0 ∷ []) [] [] (0 ∷ 0 ∷ 1 ∷ []) (0 ∷ 1 ∷ 2 ∷ 2 ∷ []))) [] (replicate 4 0)
 unfolding foldCall rejoined foldLent landingsOf landingsAt movedAll barred landsAny handlesAny firstBadTry tryKept joined constantFold foldPass finished renewed sourcesAfter readyOf tablesOf roomsOf tallyOf checkOf rules folds every many each first some remapOf mapped operandOf left compacted placed paired noop markAt marked pairsLeft indexed foldAll folded tryFold applied landed put constLoad planAt planFor kindOf page tryFoldBinop tryFoldUnary foldUnary prevLive plan.operandOf blocked lands skipsInto constToVal toVal foldBinop foldNeg ints inRange findOrPushConst findOrPush
 pairs-crossed = refl
+
+-- 2 + 3 with the try (0, 2): its handler is the operator, so strict mode leaves all as lent and counts the landing
+pub handler-strict : foldCall true
+    (buffers (LoadConst ∷ 2 ∷ 0 ∷ LoadConst ∷ 2 ∷ 1 ∷ Add ∷ 0 ∷ 0 ∷ []) (1 ∷ 1 ∷ 9 ∷ []) (2 ∷ 3 ∷ 9 ∷ []) (replicate 3 9) [] [] []
+    (replicate 3 9) (replicate 4 9))
+    (0 ∷ 2 ∷ []) (replicate 5 9)
+    (record { constants = 2; map = 0; sources = 0; stmts = 0; calls = 0 })
+    ≡ called
+    (outcome (Is (record { instructions = 3; constants = 2; map = 0; sources = 0 }))
+    (buffers (LoadConst ∷ 2 ∷ 0 ∷ LoadConst ∷ 2 ∷ 1 ∷ Add ∷ 0 ∷ 0 ∷ []) (1 ∷ 1 ∷ 9 ∷ []) (2 ∷ 3 ∷ 9 ∷ []) (replicate 3 9) [] [] []
+    (replicate 3 0) (replicate 4 9)))
+    (0 ∷ 2 ∷ []) (0 ∷ 0 ∷ 1 ∷ 0 ∷ 9 ∷ [])
+unfolding foldCall rejoined foldLent landingsOf landingsAt movedAll barred landsAny handlesAny handles firstBadTry tryKept joined constantFold foldPass finished renewed sourcesAfter readyOf tablesOf roomsOf tallyOf checkOf rules folds every many each first some remapOf mapped operandOf left compacted placed paired noop markAt marked pairsLeft indexed foldAll folded tryFold applied landed put constLoad planAt planFor kindOf page tryFoldBinop prevLive plan.operandOf blocked lands skipsInto constToVal toVal foldBinop ints inRange findOrPushConst findOrPush
+handler-strict = refl
+
+-- plain mode folds it, and the handler follows
+pub handler-plain : foldCall false
+    (buffers (LoadConst ∷ 2 ∷ 0 ∷ LoadConst ∷ 2 ∷ 1 ∷ Add ∷ 0 ∷ 0 ∷ []) (1 ∷ 1 ∷ 9 ∷ []) (2 ∷ 3 ∷ 9 ∷ []) (replicate 3 9) [] [] []
+    (replicate 3 9) (replicate 4 9))
+    (0 ∷ 2 ∷ []) (replicate 5 9)
+    (record { constants = 2; map = 0; sources = 0; stmts = 0; calls = 0 })
+    ≡ called
+    (outcome (Is (record { instructions = 1; constants = 3; map = 0; sources = 0 }))
+    (buffers (LoadConst ∷ 2 ∷ 2 ∷ replicate 6 0) (1 ∷ 1 ∷ 1 ∷ []) (2 ∷ 3 ∷ 5 ∷ []) (replicate 3 0) [] [] [] (0 ∷ 1 ∷ 1 ∷ []) (0 ∷ 1 ∷ 1 ∷ 1 ∷ [])))
+    (0 ∷ 1 ∷ []) (0 ∷ 1 ∷ 0 ∷ 0 ∷ 9 ∷ [])
+unfolding foldCall rejoined foldLent landingsOf landingsAt movedAll barred landsAny handlesAny handles firstBadTry tryKept joined constantFold foldPass finished renewed sourcesAfter readyOf tablesOf roomsOf tallyOf checkOf rules folds every many each first some remapOf mapped operandOf left compacted placed paired noop markAt marked pairsLeft indexed foldAll folded tryFold applied landed put constLoad planAt planFor kindOf page tryFoldBinop prevLive plan.operandOf blocked lands skipsInto constToVal toVal foldBinop ints inRange findOrPushConst findOrPush
+handler-plain = refl

@@ -14,6 +14,7 @@ use Rattle.laws.specs.All.{every}
 use Rattle.laws.proofs.Branch.{and-true}
 use Rattle.laws.proofs.Each.{each-at}
 use Rattle.lent.specs.Chunk.{count}
+use Rattle.lent.proofs.Counting.{every-at}
 use Rattle.lent.specs.declared.Counts.{Counts}
 use Rattle.compact.specs.Remap.{alive}
 use Rattle.phi_pass.specs.Phi.{markAt, marked}
@@ -24,16 +25,6 @@ use Rattle.fold.proofs.Passed.{Passed, Died}
 use Rattle.optimizer.specs.Finish.{Tables, tables, mapOf, sourcesOf, renewed, finished}
 use Rattle.optimizer.specs.Fold.{Buffers, buffers, outcome, foldPass, constantFold}
 use Rattle.optimizer.proofs.Whole.{pass-kept}
-
-every-at : (f : ℕ → Bool) (n k : ℕ) → every f n ≡ true → k < n → f k ≡ true
-unfolding every
-every-at f zero k e h = absurd (omega arith)
-every-at f (suc n) k e h =
-    let p = and-true (every f n) (f n) e in
-    ⊎-elim (λ q. rw q (p .1)) (λ q. every-at f n k (p .0) q) (eq-or-lt-of-le (below k n h))
-  where
-    below : (k n : ℕ) → k < suc n → k ≤ n
-    below k n h = omega arith
 
 -- marks that are all alive are 0
 all-zero : (d : List ℕ) (n : ℕ) → length d ≡ n → every (alive d) (length d) ≡ true → d ≡ replicate n 0
@@ -50,7 +41,7 @@ in-list l k e = go (ltb k (length l)) refl
     go false q = let z : getD l k 0 ≡ 0 = List·getD-eq-default l 0 (ltb-false k (length l) q) in absurd (omega arith)
 
 module _ (t : Tables) where
-  finished-dead : finished t .dead ≡ marked (t .code) (mapOf t) (sourcesOf t) (t .dead)
+  pub finished-dead : finished t .dead ≡ marked (t .code) (mapOf t) (sourcesOf t) (t .dead)
   unfolding finished renewed
   finished-dead = go (every (alive (marked (t .code) (mapOf t) (sourcesOf t) (t .dead))) (length (marked (t .code) (mapOf t) (sourcesOf t) (t .dead))))
     where

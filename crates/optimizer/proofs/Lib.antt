@@ -7,3 +7,5 @@ pub mod Whole
 pub mod Settled
 pub mod Examples
 pub mod Readied
+pub mod Answered
+pub mod Tries

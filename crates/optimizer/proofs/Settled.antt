@@ -4,21 +4,20 @@ use native.Mathlib.Omega.{arith}
 use mathlib.Core.Path.{_≡_, sym, ap, _∙_}
 use mathlib.Core.List.{List, [], _∷_}
 use lib.ListN.{length}
-use Rattle.laws.proofs.Each.{each-word}
 use Rattle.lent.specs.Chunk.{stride, count}
 use Rattle.lent.specs.declared.Counts.{Counts}
-use Rattle.landings.specs.Landings.{landingsAt, landingsOf}
+use Rattle.landings.specs.Landings.{landingsOf}
+use Rattle.landings.proofs.Asked.{table-long}
 use Rattle.fold.specs.Pass.{Bars}
 use Rattle.optimizer.specs.Fold.{Buffers, buffers, Outcome, outcome, constantFold, Exact}
 use Rattle.optimizer.specs.declared.Folded.{Folded}
 use Rattle.optimizer.proofs.Again.{fold-keeps}
 
 table-is : (w tries l : List ℕ) → l ≡ landingsOf w tries → length l ≡ count w + 1
-unfolding landingsOf
-table-is w tries l e = ap length e ∙ each-word (landingsAt w tries) (count w + 1)
+table-is w tries l e = ap length e ∙ table-long w tries
 
-pub table-long : (w tries l : List ℕ) → l ≡ landingsOf w tries → count w ≤ length l
-table-long w tries l e = omega (arith, table-is w tries l e)
+pub table-fits : (w tries l : List ℕ) → l ≡ landingsOf w tries → count w ≤ length l
+table-fits w tries l e = omega (arith, table-is w tries l e)
 
 module _ (bars : Bars) (b : Buffers) (c : Counts) (a : Folded) (code′ kinds′ words′ map′ sources′ stmts′ calls′ dead′ remap′ : List ℕ) (x : Exact b c)
     (e : outcome a (buffers code′ kinds′ words′ map′ sources′ stmts′ calls′ dead′ remap′) ≡ constantFold bars b c) where

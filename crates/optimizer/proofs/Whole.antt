@@ -29,6 +29,7 @@ use Rattle.fold.proofs.Landed.{same-folds}
 use Rattle.compact.specs.Remap.{alive, live, Remap, mapped}
 use Rattle.compact.specs.Tables.{movedAll}
 use Rattle.compact.proofs.Moves.{remap-of}
+use Rattle.compact.proofs.Mapped.{none-moved}
 use Rattle.phi_pass.specs.Phi.{marked}
 use Rattle.fold.proofs.Passed.{Passed, all-passed}
 use Rattle.optimizer.specs.Finish.{Tables, tables, mapOf, sourcesOf, renewed, finished, Fit}
@@ -190,45 +191,12 @@ pub mapped-after : (bars : Bars) (b : Buffers) (c : Counts) (a : Folded) (code�
 mapped-after bars b c a code′ kinds′ words′ map′ sources′ stmts′ calls′ dead′ remap′ e =
     subst (λ (o : Outcome Folded). Mapped (o .after .dead) (o .after .remap)) (sym e) (fold-mapped bars b c)
 
--- where nothing died every position stays
-all-live : (dead : List ℕ) (n : ℕ) → every (alive dead) n ≡ true → live dead n ≡ n
-unfolding every many
-all-live dead zero e = refl
-all-live dead (suc n) e =
-    let p = and-true (every (alive dead) n) (alive dead n) e in
-    rw (all-live dead n (p .0), p .1) (omega arith)
-
-every-less : (f : ℕ → Bool) (d k : ℕ) → every f (d + k) ≡ true → every f k ≡ true
-unfolding every
-every-less f zero k e = let z : 0 + k ≡ k = omega arith in rw z at e
-every-less f (suc d) k e =
-    let z : suc d + k ≡ suc (d + k) = omega arith in
-    let g : every f (suc (d + k)) ≡ true = rw z at e in
-    every-less f d k (and-true (every f (d + k)) (f (d + k)) g .0)
-
-mapped-stays : (dead : List ℕ) (v : ℕ) → every (alive dead) (length dead) ≡ true → mapped dead v ≡ v
-unfolding mapped
-mapped-stays dead v e = go (leb v (length dead)) refl
-  where
-    go : (t : Bool) → leb v (length dead) ≡ t → cond t (live dead v) v ≡ v
-    go true q =
-        let h = leb-true v (length dead) q in
-        let z : (length dead - v) + v ≡ length dead = omega arith in
-        all-live dead v (every-less (alive dead) (length dead - v) v (rw z e))
-    go false q = refl
-
 module _ (dead : List ℕ) (t : Bool) (e : t ≡ every (alive dead) (length dead)) where
   pub map-there : (remap : List ℕ) → Mapped dead remap → t ≡ false → Remap dead remap
   map-there remap m f = remap-of dead remap (m .filled (sym e ∙ f))
 
-  pub none-moved : (tries : List ℕ) → t ≡ true → tries ≡ movedAll dead tries
-  unfolding movedAll
-  none-moved tries f =
-      ext-getD 0 tries (each (λ k. mapped dead (getD tries k 0) ∷ []) (length tries)) (sym (each-word (λ k. mapped dead (getD tries k 0)) (length tries)))
-      (λ k h. sym (each-at (λ k. mapped dead (getD tries k 0)) (length tries) k h ∙ stays (getD tries k 0)))
-    where
-      stays : (v : ℕ) → mapped dead v ≡ v
-      stays v = mapped-stays dead v (sym e ∙ f)
+  pub tries-stay : (tries : List ℕ) → t ≡ true → tries ≡ movedAll dead tries
+  tries-stay tries f = none-moved dead tries (sym e ∙ f)
 
 -- the call: a refusal leaves all that is lent as it is
 module _ (strict : Bool) (b : Buffers) (tries landings : List ℕ) (c : Counts) (v : Checked) (e : v ≡ readyOf (b .code) tries (b .kinds) (b .words) c (lensOf b) (length landings)) where

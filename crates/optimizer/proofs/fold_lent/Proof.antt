@@ -1,7 +1,7 @@
 -- `optimizer::fold_lent` meets its contract. Assumes nothing.
 use native.Mathlib.Omega.{arith}
 use borrow.Author.Needs.{needs}
-use Rattle.optimizer.proofs.Settled.{table-long, fits-again}
+use Rattle.optimizer.proofs.Settled.{table-fits, fits-again}
 use Rattle.optimizer.proofs.Whole.{mapped-after, lends}
 use Rattle.optimizer.proofs.fold_lent.Statement.{statement}
 use Rattle.optimizer.proofs.fold_lent.Tie as tie
@@ -10,7 +10,7 @@ fill-requires : tie.Need-fill-requires
 fill-requires c κs = search needs
 
 constant-fold-requires : tie.Need-constant-fold-requires
-constant-fold-requires c κs = (c .before .before .before .before .before .before .before .before .before .before .before .before .before .before .before .before .before .before .before .before .before .before .before .before .before .before .before .pre .0, table-long _ _ _ (c .before .before .before .before .before .before .before .before .before .before .before .before .fill .ensures))
+constant-fold-requires c κs = (c .before .before .before .before .before .before .before .before .before .before .before .before .before .before .before .before .before .before .before .before .before .before .before .before .before .before .before .pre .0, table-fits _ _ _ (c .before .before .before .before .before .before .before .before .before .before .before .before .fill .ensures))
 
 move-tries-requires : tie.Need-move-tries-requires
 move-tries-requires c κs = mapped-after _ _ _ _ _ _ _ _ _ _ _ _ _ (c .before .before .before .before .before .before .before .before .before .before .before .before .before .before .before .before .before .before .before .before .before .constant-fold .ensures)

@@ -1,6 +1,6 @@
 -- `optimizer::move_tries` meets its contract. Assumes nothing.
 use borrow.Author.Needs.{needs}
-use Rattle.optimizer.proofs.Whole.{map-there, none-moved}
+use Rattle.optimizer.proofs.Whole.{map-there, tries-stay}
 use Rattle.optimizer.proofs.move_tries.Statement.{statement}
 use Rattle.optimizer.proofs.move_tries.Tie as tie
 
@@ -8,7 +8,7 @@ all-alive-requires : tie.Need-all-alive-requires
 all-alive-requires c κs = search needs
 
 returns : tie.Need-returns
-returns c = search none-moved
+returns c = search tries-stay
 
 place-words-requires : tie.Need-place-words-requires
 place-words-requires c κs = search map-there

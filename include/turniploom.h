@@ -2,8 +2,8 @@
  *
  * A slice is a pointer and a length in elements. No call asks anything of its input but that each pointer has as many elements
  * as its length says (a length of 0 may come with any pointer that is not null), that buffers lent to be written do not overlap
- * anything else, and that a bool is one. Nothing is allocated. docs/BUFFERS.md has the order of the tests and what each buffer
- * holds afterwards. */
+ * anything else, and that a bool is one. Nothing is allocated. No call needs more than 4 KiB of stack. docs/BUFFERS.md has the
+ * order of the tests and what each buffer holds afterwards. */
 #ifndef TURNIPLOOM_H
 #define TURNIPLOOM_H
 
@@ -42,46 +42,96 @@ enum turniploom_chunk_mark { TURNIPLOOM_IS_JUMP = 1, TURNIPLOOM_NAMES_CONSTANT =
 /* The kind of a constant. */
 enum turniploom_kind { TURNIPLOOM_OTHER = 0, TURNIPLOOM_INT = 1, TURNIPLOOM_FLOAT = 2, TURNIPLOOM_BOOL = 3 };
 
-/* Roles. kinds: the bits 1 writes a; 2, 4, 8 reads a, b, c; 16 jumps to a; 32 none. role: 1, writes a, read fields, jumps; or 0. */
+/* The calls. A refusal's first and second are told above; a value that is not named is 0. n is the number of instructions. */
+
+/* The role of an instruction as bits.
+ * first: 1 writes a; 2, 4, 8 reads a, b, c; 16 jumps to a; 32 no role. */
 turniploom_answer turniploom_kinds(const uint16_t *code, size_t code_len, size_t at);
+
+/* The role of an instruction.
+ * first: 1 if it has one, else 0; second: 1 if a is written; third: the fields that are read, bit 0 a, 1 b, 2 c; fourth: 1 if a is a jump's
+ * target. */
 turniploom_answer turniploom_role(const uint16_t *code, size_t code_len, size_t at);
+
+/* A field of an instruction: a for f of 0, b for 1, else c.
+ * first: the field. */
 turniploom_answer turniploom_field(const uint16_t *code, size_t code_len, size_t at, uint8_t f);
+
+/* Whether an instruction writes register r.
+ * first: 1 if so, else 0. */
 turniploom_answer turniploom_writes(const uint16_t *code, size_t code_len, size_t at, uint16_t r);
 
-/* Walks. Truth is 1; params_written and passed give bits. Marks, waiting positions and out are n + 1 long. */
+/* Whether code may be laid as a section.
+ * first: 1 if so, else 0. */
 turniploom_answer turniploom_pure(const uint16_t *code, size_t code_len);
+
+/* Whether laid code leaves nothing of its own on the stack.
+ * first: 1 if so, else 0. */
 turniploom_answer turniploom_flat(const uint16_t *code, size_t code_len);
+
+/* Whether code has a try or a with.
+ * first: 1 if so, else 0. */
 turniploom_answer turniploom_guarded(const uint16_t *code, size_t code_len);
+
+/* Whether a PushRegs pushes the value that a ReturnValue returns.
+ * first: 1 if so, else 0. */
 turniploom_answer turniploom_returns(const uint16_t *code, size_t code_len, size_t at);
+
+/* The parameters, the first arity registers, that some instruction writes.
+ * first: a bit for each, of the first 64. */
 turniploom_answer turniploom_params_written(const uint16_t *code, size_t code_len, size_t arity);
+
+/* The parameters that a call passes on as they are.
+ * first: a bit for each. */
 turniploom_answer turniploom_passed(const uint16_t *code, size_t code_len, size_t at, size_t arity);
-turniploom_answer turniploom_gen_pure(const uint16_t *code, size_t code_len, uint8_t *seen, size_t seen_len, uint32_t *todo, size_t todo_len);
+
+/* Whether a generator's body may be laid as a section. seen and todo are n + 1 long, and 0 after an answer.
+ * first: 1 if so, else 0. */
+turniploom_answer turniploom_gen_pure(const uint16_t *code, size_t code_len, uint8_t *seen, size_t seen_len, uint32_t *todo,
+                                      size_t todo_len);
+
+/* Whether what a Phi writes to r is read on no path. seen and todo are n + 1 long, and 0 after an answer.
+ * first: 1 if so, else 0. */
 turniploom_answer turniploom_dead_phi(const uint16_t *code, size_t code_len, size_t at, uint16_t r, uint8_t *seen, size_t seen_len,
                                       uint32_t *todo, size_t todo_len);
-turniploom_answer turniploom_loops_around(const uint16_t *code, size_t code_len, uint32_t *out, size_t out_len);
-turniploom_answer turniploom_targets(const uint16_t *code, size_t code_len, const uint32_t *tries, size_t tries_len, uint8_t *out, size_t out_len);
 
-/* Callee tracing. Nothing found is first 0; found is first 1, then binding; position; position and register. */
+/* For each position and the end, how many for loops it lies inside. out is n + 1 long. */
+turniploom_answer turniploom_loops_around(const uint16_t *code, size_t code_len, uint32_t *out, size_t out_len);
+
+/* For each position and the end, 1 if a jump or a handler lands there, else 0. out is n + 1 long. */
+turniploom_answer turniploom_targets(const uint16_t *code, size_t code_len, const uint32_t *tries, size_t tries_len, uint8_t *out,
+                                     size_t out_len);
+
+/* The module binding that a call calls.
+ * first: 1 if it is found, else 0; second: the binding. */
 turniploom_answer turniploom_global_of(const uint16_t *code, size_t code_len, size_t at);
+
+/* The PushRegs that pushed what a StoreTopR takes back into r past a call.
+ * first: 1 if it is found, else 0; second: its position. */
 turniploom_answer turniploom_pushed_back(const uint16_t *code, size_t code_len, size_t at, uint16_t r);
+
+/* The PushRegs that pushed the function of a stack call with count positionals.
+ * first: 1 if it is found, else 0; second: its position; third: the register. */
 turniploom_answer turniploom_stack_callee(const uint16_t *code, size_t code_len, size_t at, uint16_t count);
 
-/* Kept registers: list length, full sweeps, abandoned sweeps. rows is (n + 1) times max(1, registers / 64 rounded up) long,
- * offsets n + 1. A list too short is refused with the length it needs. The list of position k is list[offsets[k]] up to
- * list[offsets[k + 1]]. */
+/* The registers kept at each level. rows is (n + 1) times the words of a row long, offsets n + 1. A list too short is refused with the
+ * length it needs, and the rows are then found. The list of position k is list[offsets[k]] up to list[offsets[k + 1]].
+ * first: the length of the list; second: full sweeps; third: abandoned sweeps. */
 turniploom_answer turniploom_kept(const uint16_t *code, size_t code_len, size_t regs, const uint32_t *tries, size_t tries_len, bool wide,
                                   uint64_t *rows, size_t rows_len, uint32_t *offsets, size_t offsets_len, uint16_t *list, size_t list_len);
 
-/* Folding: instructions, constants, phi_map entries, phi_sources words. kinds and words need max(count, min(65,535, count +
- * folding operators)) entries, phi_map n, phi_sources two for each pair or Phi, dead n, remap n + 1. */
+/* Folds a chunk. kinds and words need max(count, min(65,535, count + folding operators)) entries, phi_map n, phi_sources two for each pair
+ * or Phi, dead n, remap n + 1. The counts of pair tables are in words.
+ * first: instructions; second: constants; third: entries of phi_map; fourth: words of phi_sources. */
 turniploom_answer turniploom_fold(uint16_t *code, size_t code_len, uint8_t *kinds, size_t kinds_len, uint64_t *words, size_t words_len,
                                   size_t constants, uint32_t *phi_map, size_t phi_map_len, size_t phi_map_count, uint16_t *phi_sources,
                                   size_t phi_sources_len, size_t phi_sources_count, uint32_t *stmt_pos, size_t stmt_pos_len,
                                   size_t stmt_pos_count, uint32_t *call_byte_pos, size_t call_byte_pos_len, size_t call_byte_pos_count,
                                   uint8_t *dead, size_t dead_len, uint32_t *remap, size_t remap_len, bool strict);
 
-/* Clearing: the new count of constants. Those that no instruction names are dropped, the others keep their order, what names them is
- * renumbered, and freed entries are 0. scratch needs as many entries as there are constants. */
+/* Drops the constants that no instruction names; the others keep their order, what names them is renumbered, and freed entries are 0.
+ * scratch needs an entry for each constant, and then holds how many named ones stand before it.
+ * first: constants left. */
 turniploom_answer turniploom_clear(uint16_t *code, size_t code_len, uint8_t *kinds, size_t kinds_len, uint64_t *words, size_t words_len,
                                    size_t constants, uint32_t *scratch, size_t scratch_len);
 

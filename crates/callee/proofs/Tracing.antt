@@ -16,7 +16,7 @@ use Rattle.callee.specs.declared.Step.{Step}
 use Rattle.callee.specs.declared.Step.the-variants.{Pass, Back, Tell}
 use Rattle.callee.specs.declared.Callee.{Callee}
 use Rattle.callee.specs.declared.Callee.the-variants.{Bound, Unknown}
-use Rattle.callee.specs.Trace.{storesFrom, callBefore, givesBack, pushUnder, pushedBack, setsIt, passesBy, sentBack, stepAt, heard, tracedBy, traced, ledBy, startOf}
+use Rattle.callee.specs.Trace.{storesFrom, callBefore, givesBack, pushUnder, pushedBack, setsIt, passesBy, sentBack, stepAt, heard, tracedBy, traced}
 
 stores-le : (w : List ℕ) (d : ℕ) → storesFrom w d ≤ d
 unfolding storesFrom
@@ -92,51 +92,28 @@ module _ (w : List ℕ) (a : ℕ) where
       rw (z, lt-leb (suc d) d (omega arith))
 
 -- a turn at d - 1, where what is traced from d is v
-module _ (w : List ℕ) (a d : ℕ) (v : Callee) (h : 0 < d) (whole : v ≡ traced w a d) (s : Step) (e : s ≡ stepAt w (d - 1) a) where
-  pub passed : s ≡ Pass → v ≡ traced w a (d - 1)
-  passed q = rw (by-step w a d h, ← e, q) at whole ∙ left-out w a (d - 1) (d - 1) (omega arith)
+module _ (w : List ℕ) (a d : ℕ) (v : Callee) (h : 0 < d) (whole : traced w a d ≡ v) (s : Step) (e : s ≡ stepAt w (d - 1) a) where
+  pub passed : s ≡ Pass → traced w a (d - 1) ≡ v
+  passed q = sym (left-out w a (d - 1) (d - 1) (omega arith)) ∙ rw (by-step w a d h, ← e, q) at whole
 
-  pub told : (u : Callee) → s ≡ Tell u → v ≡ u
+  pub told : (u : Callee) → s ≡ Tell u → u ≡ v
   told u q = rw (by-step w a d h, ← e, q) at whole
 
   module _ (p : ℕ) (q : s ≡ Back p) where
-    falls : p < d - 1
-    falls = step-falls w (d - 1) a p (sym q ∙ e)
+    pub falls : p < d
+    falls = omega (arith, step-falls w (d - 1) a p (sym q ∙ e))
 
-    pub sent : v ≡ traced w a p
-    sent = rw (by-step w a d h, ← e, q) at whole ∙ left-out w a (d - 1) p (omega (arith, falls))
+    pub sent : traced w a p ≡ v
+    sent = sym (left-out w a (d - 1) p (omega (arith, falls))) ∙ rw (by-step w a d h, ← e, q) at whole
 
-    pub starts : (j : ℕ) → d ≤ j → suc p ≤ j
-    starts j b = omega (arith, falls)
+    pub again : (u : Callee) → u ≡ traced w a p → u ≡ v
+    again u f = f ∙ sent
 
-pub nothing : (w : List ℕ) (a d : ℕ) (v : Callee) → d ≤ 0 → v ≡ traced w a d → v ≡ Unknown
+    pub within : (j : ℕ) → d ≤ j → p ≤ j
+    within j b = omega (arith, falls)
+
+pub nothing : (w : List ℕ) (a d : ℕ) (v : Callee) → d ≤ 0 → traced w a d ≡ v → Unknown ≡ v
 unfolding traced tracedBy
 nothing w a d v h e = let z : d ≡ 0 = omega arith in rw z at e
 
-pub ruleset turn = (passed, told, sent, starts, nothing)
-
--- the trace by a step s
-module _ (w : List ℕ) (a : ℕ) (s : Step) where
-  pub led-told : (u : Callee) → s ≡ Tell u → u ≡ ledBy w a s
-  led-told u q = rw q
-
-  pub led-none : s ≡ Pass → Unknown ≡ ledBy w a s
-  led-none q = rw q
-
-  module _ (p : ℕ) (q : s ≡ Back p) where
-    pub led-back : (u : Callee) (r : Step) → traced w a p ≡ ledBy w a r → u ≡ ledBy w a r → u ≡ ledBy w a s
-    led-back u r e f = rw q (f ∙ sym e)
-
-    start : startOf s ≡ suc p
-    start = rw q
-
-    pub led-below : (r : Step) (t : ℕ) → startOf s ≡ t → startOf r ≤ p → startOf r < t
-    led-below r t z l = omega (arith, start)
-
-    pub led-before : (n : ℕ) → startOf s ≤ n → p ≤ n
-    led-before n l = omega (arith, start)
-
-    pub led-inside : (r : Step) (n : ℕ) → startOf s ≤ n → startOf r ≤ p → startOf r ≤ n
-    led-inside r n l b = omega (arith, start)
-
-pub ruleset led = (led-told, led-none, led-back, led-below, led-before, led-inside)
+pub ruleset turn = (passed, told, falls, sent, again, within, nothing)

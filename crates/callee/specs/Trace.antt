@@ -97,18 +97,6 @@ tracedBy w a (suc d) p =
 unfoldable pub traced : List ℕ → ℕ → ℕ → Callee
 traced w a j = tracedBy w a j j
 
--- what a step leads to: what it tells, or what register a holds before the push
-abbrev pub ledBy : List ℕ → ℕ → Step → Callee
-ledBy w a (Tell v) = v
-ledBy w a (Back p) = traced w a p
-ledBy w a Pass = Unknown
-
--- the position right after the push that a step sends the trace to; 0, if it sends it nowhere
-abbrev pub startOf : Step → ℕ
-startOf (Back p) = suc p
-startOf (Tell v) = 0
-startOf Pass = 0
-
 -- the binding that the call at j calls: its own operand, or what its register holds
 unfoldable pub globalOf : List ℕ → ℕ → Callee
 globalOf w j =

@@ -4,7 +4,7 @@ ghost use Prim.Native.Nat.{_+_, _*_, _/_, _<_, _≤_};
 ghost use lib.ListN.{length};
 ghost use Rattle.code.specs.Ins.{count};
 ghost use Rattle.code.specs.Check.{Whole, Valid};
-ghost use Rattle.callee.specs.Trace.{Narrow, storesFrom, callBefore, takenAt, takesBack, pending, givesBack, pushedBack, setsIt, passesBy, stepAt, traced, ledBy, startOf, globalOf};
+ghost use Rattle.callee.specs.Trace.{Narrow, storesFrom, callBefore, takenAt, takesBack, pending, givesBack, pushedBack, setsIt, passesBy, stepAt, traced, globalOf};
 ghost use Rattle.callee.specs.Stack.{workOf, effectOf, sourceOf, turnOf, Grows, stackCallee};
 ghost use Rattle.callee.specs.Answers.{globalAnswer, pushAnswer, stackAnswer};
 use code::Checked;
@@ -224,34 +224,30 @@ fn step_at(code: &[u16], d: usize, a: u16) -> Step
     Step::Tell(Callee::Unknown)
 }
 
-// What the instructions before j say of register a: the last of them that does not pass.
-fn last_step(code: &[u16], j: usize, a: u16) -> Step
+// A restart that is no further back than this is taken by the loop of the call that found it.
+const NEAR: usize = 8192;
+
+// What register a holds before j. Each restart is from the push that was found, at an earlier position: near j the loop goes on there, further back
+// the trace calls itself. Code has at most 65,535 instructions, so no more than 8 calls are ever open.
+fn trace(code: &[u16], j: usize, a: u16) -> Callee
     requires { ⌜ Valid (now code) × (j ≤ count (now code)) ⌝ }
-    ensures { λ s. ⌜ (traced (now (code .entry)) a j ≡ ledBy (now (code .entry)) a s) × (startOf s ≤ j) ⌝ }
+    ensures { λ v. ⌜ v ≡ traced (now (code .entry)) a j ⌝ }
 {
     let mut d = j;
     while 0 < d {
         d -= 1;
         match step_at(code, d, a) {
             Step::Pass => {}
-            Step::Back(p) => return Step::Back(p),
-            Step::Tell(v) => return Step::Tell(v),
+            Step::Back(p) => {
+                d = p as usize;
+                if d + NEAR < j {
+                    return trace(code, d, a);
+                }
+            }
+            Step::Tell(v) => return v,
         }
     }
-    Step::Pass
-}
-
-// What register a holds, by the step that was found. Each restart is from the push, at an earlier position.
-// The walk is a function of its own, so that a restart takes 64 bytes of stack.
-fn trace(code: &[u16], s: Step, a: u16) -> Callee
-    requires { ⌜ Valid (now code) × (startOf s ≤ count (now code)) ⌝ }
-    ensures { λ v. ⌜ v ≡ ledBy (now (code .entry)) a s ⌝ }
-{
-    match s {
-        Step::Back(p) => trace(code, last_step(code, p as usize, a), a),
-        Step::Tell(v) => v,
-        Step::Pass => Callee::Unknown,
-    }
+    Callee::Unknown
 }
 
 // The binding that the call at j calls.
@@ -264,7 +260,7 @@ pub fn global_at(code: &[u16], j: usize) -> Callee
         return Callee::Bound(i.a);
     }
     if i.op == CallR {
-        return trace(code, last_step(code, j, i.a), i.a);
+        return trace(code, j, i.a);
     }
     Callee::Unknown
 }

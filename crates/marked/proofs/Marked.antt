@@ -42,7 +42,7 @@ use Rattle.fold.specs.Pass.{constLoad, put, landed, applied, tryFold, folded, f
 use Rattle.compact.specs.Remap.{remapOf, mapped}
 use Rattle.compact.specs.Tables.{operandOf, left, compacted, placed}
 use Rattle.phi_pass.specs.Phi.{paired, noop, markAt, marked as phisMarked, pairsLeft, indexed}
-use Rattle.optimizer.specs.Finish.{sourcesAfter, renewed, finished}
+use Rattle.finish.specs.Finish.{sourcesAfter, renewed, finished}
 use Rattle.optimizer.specs.Fold.{foldPass, constantFold, joined, foldLent, rejoined, foldCall}
 use Rattle.marked.specs.Marked.{K, rowsK, code4, code5, code6, room, Marked}
 

@@ -21,7 +21,7 @@ use Rattle.chunk.specs.Pool.{toVal, constToVal, findOrPush, findOrPushConst}
 use Rattle.fold.specs.Plan.{page, kindOf, prevLive, skipsInto, blocked, foldUnary, tryFoldBinop, tryFoldUnary, planFor, planAt}
 use Rattle.fold.specs.Plan as plan
 use Rattle.fold.specs.Pass.{constLoad, put, landed, applied, tryFold, folded, foldAll}
-use Rattle.optimizer.specs.Finish.{sourcesAfter, renewed, finished}
+use Rattle.finish.specs.Finish.{sourcesAfter, renewed, finished}
 use Rattle.optimizer.specs.Fold.{buffers, outcome, foldPass, constantFold, joined, foldLent, called, rejoined, foldCall}
 use Rattle.optimizer.specs.declared.FoldAnswer.the-variants.{Is}
 

@@ -22,7 +22,7 @@ use Rattle.phi_pass.proofs.Pairs.{marked-length, dead-stays}
 use Rattle.fold.specs.Plan.{Chunk, chunk}
 use Rattle.fold.specs.Pass.{Bars}
 use Rattle.fold.proofs.Passed.{Passed, Died}
-use Rattle.optimizer.specs.Finish.{Tables, tables, mapOf, sourcesOf, renewed, finished}
+use Rattle.finish.specs.Finish.{Tables, tables, mapOf, sourcesOf, renewed, finished}
 use Rattle.optimizer.specs.Fold.{Buffers, buffers, outcome, foldPass, constantFold}
 use Rattle.optimizer.proofs.Whole.{pass-kept}
 

@@ -1,6 +1,5 @@
 pub mod Ruled
 pub mod Again
-pub mod Anew
 pub mod Idle
 pub mod Tested
 pub mod Whole

@@ -25,7 +25,7 @@ use Rattle.compact.proofs.Left.{from, mark-left, operand-left, mark-past}
 use Rattle.compact.proofs.Mapped.{map-out, pair-kept, moved-long, moved-at}
 use Rattle.phi_pass.specs.Phi.{marked}
 use Rattle.phi_pass.proofs.Pairs.{marked-length}
-use Rattle.optimizer.specs.Finish.{Tables, tables, mapOf, sourcesOf, renewed, finished}
+use Rattle.finish.specs.Finish.{Tables, tables, mapOf, sourcesOf, renewed, finished}
 use Rattle.optimizer.specs.Fold.{Buffers, needed, foldPass, constantFold, joined, foldLent, Called, rejoined, foldCall, Exact}
 use Rattle.optimizer.specs.declared.Folded.{Folded}
 use Rattle.optimizer.specs.declared.FoldAnswer.the-variants.{Is}

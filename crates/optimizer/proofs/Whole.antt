@@ -32,9 +32,9 @@ use Rattle.compact.proofs.Moves.{remap-of}
 use Rattle.compact.proofs.Mapped.{none-moved}
 use Rattle.phi_pass.specs.Phi.{marked}
 use Rattle.fold.proofs.Passed.{Passed, all-passed}
-use Rattle.optimizer.specs.Finish.{Tables, tables, mapOf, sourcesOf, renewed, finished, Fit}
+use Rattle.finish.specs.Finish.{Tables, tables, mapOf, sourcesOf, renewed, finished, Fit}
 use Rattle.optimizer.specs.Fold.{Buffers, buffers, lensOf, needed, sourcesNeeded, Outcome, outcome, constantFold, foldPass, joined, Settled, settled, foldLent, Called, called, rejoined, foldCall, Held, Exact, Mapped}
-use Rattle.optimizer.specs.declared.Left.{Left}
+use Rattle.finish.specs.declared.Left.{Left}
 use Rattle.optimizer.specs.declared.Folded.{Folded}
 use Rattle.optimizer.specs.declared.FoldAnswer.{FoldAnswer}
 use Rattle.optimizer.specs.declared.FoldAnswer.the-variants.{Is, No}

@@ -15,7 +15,7 @@ use Rattle.landings.specs.Landings.{landingsOf, Unmarked}
 use Rattle.fold.specs.Pass.{Bars, byScan, foldAll}
 use Rattle.compact.specs.Remap.{alive, remapOf}
 use Rattle.compact.specs.Tables.{movedAll}
-use Rattle.optimizer.specs.Finish.{Tables, tables, finished}
+use Rattle.finish.specs.Finish.{Tables, tables, finished}
 use Rattle.optimizer.specs.declared.Folded.{Folded}
 use Rattle.optimizer.specs.declared.FoldAnswer.{FoldAnswer}
 use Rattle.optimizer.specs.declared.FoldAnswer.the-variants.{Is, No}

@@ -49,15 +49,12 @@ fn run(case: Case, measure: Measure) {
 fn keeping(code: &[Ins], regs: usize, measure: Measure) {
     let words = abi::words(code).to_vec();
     let lowered = rust::lowered(&words);
-    #[cfg(exported = "kept")]
-    {
-        let n = code.len();
-        let total = turniploom::kept(code, regs, &[], false).expect("good code").list.len();
-        measure(&mut || {
-            let (words, mut rows, mut offsets, mut list) = (words.clone(), vec![0; (n + 1) * abi::row_words(regs)], vec![0; n + 1], vec![0; total]);
-            Box::new(move || assert_eq!(black_box(abi::kept(&words, regs, &[], false, &mut rows, &mut offsets, &mut list)).refusal, 0))
-        });
-    }
+    let n = code.len();
+    let total = turniploom::kept(code, regs, &[], false).expect("good code").list.len();
+    measure(&mut || {
+        let (words, mut rows, mut offsets, mut list) = (words.clone(), vec![0; (n + 1) * abi::row_words(regs)], vec![0; n + 1], vec![0; total]);
+        Box::new(move || assert_eq!(black_box(abi::kept(&words, regs, &[], false, &mut rows, &mut offsets, &mut list)).refusal, 0))
+    });
     measure(&mut || {
         let lowered = lowered.clone();
         Box::new(move || { black_box(live_across(&lowered, regs, &[])); })
@@ -65,7 +62,6 @@ fn keeping(code: &[Ins], regs: usize, measure: Measure) {
 }
 
 fn folding(q: &Question, measure: Measure) {
-    #[cfg(exported = "fold")]
     measure(&mut || {
         let q = q.clone();
         let mut lent = q.lent();
@@ -87,10 +83,10 @@ fn folding(q: &Question, measure: Measure) {
 }
 
 /// What each side of each case costs, the port first: instructions, or nanoseconds.
-type Costs = Vec<(Option<u64>, u64)>;
+type Costs = Vec<(u64, u64)>;
 
 fn paired(cases: &[Case], mut costs: impl Iterator<Item = u64>) -> Option<Costs> {
-    cases.iter().map(|&c| Some((if c.call.exported() { Some(costs.next()?) } else { None }, costs.next()?))).collect()
+    cases.iter().map(|_| Some((costs.next()?, costs.next()?))).collect()
 }
 
 /// Runs this program under callgrind, which writes a file for each measured run.
@@ -139,14 +135,13 @@ fn report(cases: &[Case], costs: &Costs, unit: &str) {
     for (c, &(port, rust)) in cases.iter().zip(costs) {
         let regs = if c.call == Kept { grouped(c.regs as u64) } else { String::new() };
         let per = |v: u64| format!("{:.1}", v as f64 / c.n as f64);
-        let (told, times, each) = port.map_or(("-".into(), "-".into(), "-".into()), |p| (grouped(p), ratio(p, rust), per(p)));
+        let (told, times, each) = (grouped(port), ratio(port, rust), per(port));
         println!("{:<5} {:<14}{:>8}{regs:>11}{told:>17}{:>17}{times:>13}{each:>10}{:>10}", c.call.name(), c.shape, grouped(c.n as u64), grouped(rust), per(rust));
     }
     println!("\nGrowth, each to the one before it:");
     let of = |c: Case| cases.iter().position(|&d| d == c).map(|k| costs[k]);
-    let line = |what: String, by: String, a: (Option<u64>, u64), b: (Option<u64>, u64)| {
-        let port = a.0.zip(b.0).map_or("-".into(), |(a, b)| ratio(b, a));
-        println!("{what:<44}{by:>22}   port × {port:>7}   Rust × {:>7}", ratio(b.1, a.1));
+    let line = |what: String, by: String, a: (u64, u64), b: (u64, u64)| {
+        println!("{what:<44}{by:>22}   port × {:>7}   Rust × {:>7}", ratio(b.0, a.0), ratio(b.1, a.1));
     };
     for &c in cases {
         let smaller = match c.n { 65_535 => 10_000, 10_000 => 100, _ => continue };

@@ -1,8 +1,8 @@
-//! What the listing of a body shows, found by the archive's calls where it has them.
+//! What the listing of a body shows, found by the archive's calls.
 
-use crate::{and, count, missing, notation::{Body, ins_text}};
-use model::{code::{self, is_call}, roles, rows};
-use turniploom::{Ins, Kept, Refusal, op};
+use crate::{and, count, notation::{Body, ins_text}};
+use model::{code::is_call, roles, rows};
+use turniploom::{Ins, Kept, Refusal, abi, op};
 
 /// A body with all that is known of it.
 pub struct View {
@@ -12,8 +12,6 @@ pub struct View {
     /// A line for each position, the end's too.
     pub lines: Vec<Line>,
     pub tries: Vec<(usize, usize)>,
-    /// Whether the rows are known.
-    pub rows: bool,
     pub remarks: Vec<String>,
 }
 
@@ -33,8 +31,8 @@ pub struct Level {
     pub resume: usize,
     pub result: Option<u16>,
     pub callee: Option<String>,
-    /// What is kept for the resume point, and what each handler adds; none if the archive can't say.
-    pub kept: Option<Vec<Part>>,
+    /// What is kept for the resume point, and what each handler adds.
+    pub kept: Vec<Part>,
 }
 
 pub struct Part {
@@ -48,57 +46,36 @@ impl View {
         let code = &body.code;
         let n = code.len();
         let tries: Vec<(usize, usize)> = body.tries.chunks(2).map(|t| (t[0] as usize, t[1] as usize)).collect();
-        let row = |k: usize| kept.as_ref().map_or(vec![], |f| members(f, k.min(n)));
+        let row = |k: usize| members(&kept, k.min(n));
         let mut lines: Vec<Line> = (0..n).map(|k| {
             let (used, given_up) = sets(code, k, body.registers);
-            let level = rows::level(&code[k]).then(|| level(code, k, kept.as_ref(), &tries));
+            let level = rows::level(&code[k]).then(|| level(code, k, &kept, &tries));
             Line { text: ins_text(code, k), used, given_up, row: row(k), level, notes: notes(code, k, &tries) }
         }).collect();
         lines.push(Line { text: "end".into(), used: vec![], given_up: vec![], row: row(n), level: None, notes: notes(code, n, &tries) });
         let columns = columns(&lines, body.registers);
         let heading = format!("{}, {}, {}", count(n, "instruction"), count(body.registers, "register"), count(tries.len(), "try"));
-        let remarks = remarks(body, &lines, kept.as_ref());
-        Ok(View { heading, columns, lines, tries, rows: kept.is_some(), remarks })
+        let remarks = remarks(body, &lines, &kept);
+        Ok(View { heading, columns, lines, tries, remarks })
     }
 }
 
 /// The kept-register call.
-#[cfg(exported = "kept")]
-fn found(body: &Body) -> Result<Option<Kept>, Refusal> {
-    // The last word of an odd number of them is a try without a handler, which is refused.
-    let tries: Vec<(usize, usize)> = body.tries.chunks(2).map(|t| (t[0] as usize, t.get(1).map_or(0, |&h| h as usize))).collect();
-    if body.tries.len() % 2 != 0 { return unknown(body) }
-    turniploom::kept(&body.words(), body.registers, &tries, body.wide).map(Some)
-}
-
-#[cfg(not(exported = "kept"))]
-fn found(body: &Body) -> Result<Option<Kept>, Refusal> { unknown(body) }
-
-/// The archive can't say; what is refused is refused all the same.
-fn unknown(body: &Body) -> Result<Option<Kept>, Refusal> {
-    let checked = || {
-        let code = code::code(&body.words())?;
-        code::registers(body.registers as u64)?;
-        code::tries(&body.tries, code.len())
-    };
-    checked().map(|_| None).map_err(crate::refused::by_the_model)
+fn found(body: &Body) -> Result<Kept, Refusal> {
+    // An odd last word is a try without a handler, which is refused before any buffer is looked at.
+    if body.tries.len() % 2 != 0 { abi::kept(&body.words(), body.registers, &body.tries, body.wide, &mut [], &mut [], &mut []).granted()?; }
+    let tries: Vec<(usize, usize)> = body.tries.chunks_exact(2).map(|t| (t[0] as usize, t[1] as usize)).collect();
+    turniploom::kept(&body.words(), body.registers, &tries, body.wide)
 }
 
 fn members(kept: &Kept, k: usize) -> Vec<u16> {
     (0..64 * kept.words).filter(|r| kept.rows[k * kept.words + r / 64] >> (r % 64) & 1 != 0).map(|r| r as u16).collect()
 }
 
-fn kinds(code: &[Ins], k: usize) -> u8 {
-    #[cfg(exported = "kinds")]
-    return turniploom::kinds(code, k).expect("good code");
-    #[cfg(not(exported = "kinds"))]
-    roles::kinds(&code[k])
-}
-
 /// The registers used and given up, as the row equations have them.
 fn sets(code: &[Ins], k: usize, registers: usize) -> (Vec<u16>, Vec<u16>) {
     if rows::pending(code, k) { return (vec![], vec![]) }
-    let (used, given_up) = rows::touched(&code[k], kinds(code, k));
+    let (used, given_up) = rows::touched(&code[k], turniploom::kinds(code, k).expect("good code"));
     let inside = |mut set: Vec<u16>| {
         set.retain(|&r| (r as usize) < registers);
         set.sort();
@@ -108,9 +85,9 @@ fn sets(code: &[Ins], k: usize, registers: usize) -> (Vec<u16>, Vec<u16>) {
     (inside(used), inside(given_up))
 }
 
-fn level(code: &[Ins], k: usize, kept: Option<&Kept>, tries: &[(usize, usize)]) -> Level {
+fn level(code: &[Ins], k: usize, kept: &Kept, tries: &[(usize, usize)]) -> Level {
     let (resume, result) = rows::resume(code, k);
-    Level { resume, result, callee: callee(code, k), kept: kept.map(|f| parts(code, f, k, resume, result, tries)) }
+    Level { resume, result, callee: callee(code, k), kept: parts(code, kept, k, resume, result, tries) }
 }
 
 /// The kept list of the archive, taken apart by what each register is kept for.
@@ -132,13 +109,10 @@ fn parts(code: &[Ins], kept: &Kept, k: usize, resume: usize, result: Option<u16>
 
 /// What a call calls, if the archive can trace it.
 fn callee(code: &[Ins], k: usize) -> Option<String> {
-    let _ = (code, k);
-    #[cfg(exported = "global_of")]
     if is_call(&code[k]) {
         let binding = turniploom::global_of(code, k).expect("good code");
         return Some(binding.map_or("calls a function not known here".into(), |b| format!("calls binding {b}")));
     }
-    #[cfg(exported = "stack_callee")]
     if code[k].op == op::Call && code[k].a < 256 {
         let found = turniploom::stack_callee(code, k, code[k].a).expect("good code");
         return Some(found.map_or("calls a function not known here".into(), |(p, r)| format!("calls r{r}, pushed at {p}")));
@@ -173,23 +147,22 @@ fn columns(lines: &[Line], registers: usize) -> Vec<u16> {
     all
 }
 
-fn remarks(body: &Body, lines: &[Line], kept: Option<&Kept>) -> Vec<String> {
+fn remarks(body: &Body, lines: &[Line], kept: &Kept) -> Vec<String> {
     let n = body.code.len();
-    let mut remarks = vec![];
-    if let Some(f) = kept {
-        let first = body.code.iter().position(rows::level).unwrap_or(n);
-        let start = if body.registers > 64 || body.wide || f.abandoned > 0 { 0 } else { first };
-        let from = if start == 0 { String::new() } else if first == n { " No level: no row is looked for.".into() } else { format!(" Rows are looked for from {start} on, the first level; before it they are empty.") };
-        remarks.push(format!("Sweeps: {} full, {} abandoned.{from}", f.full, f.abandoned));
-        let untrue = untrue(body, lines, start);
-        if !untrue.is_empty() { remarks.push(format!("ROWS THAT BREAK THEIR EQUATION: {}", and(&untrue))) }
-    }
+    let first = body.code.iter().position(rows::level).unwrap_or(n);
+    let start = if body.registers > 64 || body.wide || kept.abandoned > 0 { 0 } else { first };
+    let from = match start {
+        0 => String::new(),
+        _ if first == n => " No level: no row is looked for.".into(),
+        _ => format!(" Rows are looked for from {start} on, the first level; before it they are empty."),
+    };
+    let mut remarks = vec![format!("Sweeps: {} full, {} abandoned.{from}", kept.full, kept.abandoned)];
+    let untrue = untrue(body, lines, start);
+    if !untrue.is_empty() { remarks.push(format!("ROWS THAT BREAK THEIR EQUATION: {}", and(&untrue))) }
     let outside = outside(body);
     if !outside.is_empty() { remarks.push(format!("Not below the register count, so never kept: {}.", and(&outside))) }
     remarks.extend(section(&body.code));
-    remarks.extend(missing(&["kept", "kinds", "global_of", "stack_callee", "pure", "flat", "guarded"]));
-    let by = if cfg!(exported = "kinds") { "the archive" } else { "the plain model" };
-    remarks.push(format!("Uses and gives up: roles by {by}, laid out by the row equations of document 01."));
+    remarks.push("Uses and gives up: roles by the archive, laid out by the row equations of document 01.".into());
     remarks
 }
 
@@ -225,16 +198,12 @@ fn outside(body: &Body) -> Vec<String> {
 
 /// What the walks say of the body as a whole.
 fn section(code: &[Ins]) -> Option<String> {
-    let _ = code;
-    #[cfg(all(exported = "pure", exported = "flat", exported = "guarded"))]
-    return Some(format!(
+    Some(format!(
         "As a section: {}, {}, {}.",
         if turniploom::pure(code).ok()? { "it may be laid" } else { "it may not be laid" },
         if turniploom::flat(code).ok()? { "it leaves nothing on the stack" } else { "it works on the stack" },
         if turniploom::guarded(code).ok()? { "it has a try or a with" } else { "it has no try and no with" },
-    ));
-    #[cfg(not(all(exported = "pure", exported = "flat", exported = "guarded")))]
-    None
+    ))
 }
 
 impl Level {
@@ -246,13 +215,12 @@ impl Level {
     }
 
     /// What is kept, in words.
-    pub fn keeps(&self) -> Option<String> {
-        let parts = self.kept.as_ref()?;
-        let told: Vec<String> = parts.iter().filter(|p| !p.registers.is_empty()).map(|p| {
+    pub fn keeps(&self) -> String {
+        let told: Vec<String> = self.kept.iter().filter(|p| !p.registers.is_empty()).map(|p| {
             let regs = registers(&p.registers);
             p.handler.map_or(regs.clone(), |h| format!("{regs} for the handler at {h}"))
         }).collect();
-        Some(if told.is_empty() { "nothing".into() } else { told.join("; ") })
+        if told.is_empty() { "nothing".into() } else { told.join("; ") }
     }
 }
 

@@ -1,6 +1,6 @@
 //! What the listing of a chunk shows: what folded into what.
 
-use crate::{count, missing, notation::{Chunk, constant_text, instruction_text}, refused::folds};
+use crate::{count, notation::{Chunk, constant_text, instruction_text}, refused::folds};
 use model::facts::fact;
 use turniploom::{JUMP, NAMES, Refusal, op};
 
@@ -8,8 +8,6 @@ use turniploom::{JUMP, NAMES, Refusal, op};
 pub struct View {
     pub heading: String,
     pub before: Vec<Line>,
-    /// Whether the archive folded it.
-    pub folded: bool,
     pub remarks: Vec<String>,
 }
 
@@ -32,8 +30,8 @@ struct Folded {
     stmt_pos: Vec<u32>,
     call_byte_pos: Vec<u32>,
     pairs: usize,
-    /// The constants that the clearing call leaves of it, if the archive has that call.
-    shipped: Option<Vec<(u8, u64)>>,
+    /// The constants that the clearing call leaves of it.
+    shipped: Vec<(u8, u64)>,
 }
 
 impl View {
@@ -41,15 +39,12 @@ impl View {
         let folded = fold(chunk)?;
         let n = chunk.code.len();
         let mut before: Vec<Line> = (0..n).map(|k| Line { text: shown(chunk.code[k], &chunk.constants), after: None, into: None, result: false, notes: vec![] }).collect();
-        if let Some(f) = &folded {
-            let live = before.iter_mut().zip(&f.dead).filter(|(_, dead)| !**dead);
-            for (to, (line, _)) in live.enumerate() { line.after = Some((to, shown(f.code[to], &f.constants))) }
-            for k in 0..n { note(chunk, f, k, &mut before) }
-        }
+        let live = before.iter_mut().zip(&folded.dead).filter(|(_, dead)| !**dead);
+        for (to, (line, _)) in live.enumerate() { line.after = Some((to, shown(folded.code[to], &folded.constants))) }
+        for k in 0..n { note(chunk, &folded, k, &mut before) }
         let mode = if chunk.strict { "strict" } else { "plain" };
         let heading = format!("a chunk of {}, {}; {mode} mode", count(n, "instruction"), count(chunk.constants.len(), "constant"));
-        let remarks = remarks(chunk, folded.as_ref());
-        Ok(View { heading, before, folded: folded.is_some(), remarks })
+        Ok(View { heading, before, remarks: remarks(chunk, &folded) })
     }
 }
 
@@ -62,8 +57,7 @@ fn shown(i: [u16; 3], constants: &[(u8, u64)]) -> String {
 }
 
 /// The folding call.
-#[cfg(exported = "fold")]
-fn fold(chunk: &Chunk) -> Result<Option<Folded>, Refusal> {
+fn fold(chunk: &Chunk) -> Result<Folded, Refusal> {
     let (n, constants) = (chunk.code.len(), chunk.constants.len());
     let (mut kinds, mut values): (Vec<u8>, Vec<u64>) = chunk.constants.iter().copied().unzip();
     let (mut code, room) = (chunk.words(), constants + n);
@@ -81,7 +75,7 @@ fn fold(chunk: &Chunk) -> Result<Option<Folded>, Refusal> {
     ).granted()?;
     let code: Vec<[u16; 3]> = code.chunks(3).take(a.first as usize).map(|w| [w[0], w[1], w[2]]).collect();
     let constants: Vec<(u8, u64)> = (0..a.second as usize).map(|k| (kinds[k], values[k])).collect();
-    Ok(Some(Folded {
+    Ok(Folded {
         shipped: shipped(&code, &constants)?,
         code,
         constants,
@@ -89,32 +83,14 @@ fn fold(chunk: &Chunk) -> Result<Option<Folded>, Refusal> {
         stmt_pos: stmts,
         call_byte_pos: calls,
         pairs: a.fourth as usize / 2,
-    }))
+    })
 }
 
 /// What the clearing call leaves of the constants.
-#[cfg(exported = "clear")]
-fn shipped(code: &[[u16; 3]], constants: &[(u8, u64)]) -> Result<Option<Vec<(u8, u64)>>, Refusal> {
+fn shipped(code: &[[u16; 3]], constants: &[(u8, u64)]) -> Result<Vec<(u8, u64)>, Refusal> {
     let (mut kinds, mut values): (Vec<u8>, Vec<u64>) = constants.iter().copied().unzip();
     let a = turniploom::abi::clear(&mut code.as_flattened().to_vec(), &mut kinds, &mut values, constants.len(), &mut vec![0; constants.len()]).granted()?;
-    Ok(Some((0..a.first as usize).map(|k| (kinds[k], values[k])).collect()))
-}
-
-#[cfg(all(exported = "fold", not(exported = "clear")))]
-fn shipped(_: &[[u16; 3]], _: &[(u8, u64)]) -> Result<Option<Vec<(u8, u64)>>, Refusal> { Ok(None) }
-
-/// The archive can't say; what is refused is refused all the same.
-#[cfg(not(exported = "fold"))]
-fn fold(chunk: &Chunk) -> Result<Option<Folded>, Refusal> {
-    use model::code::{self, Tables};
-    let (kinds, words): (Vec<u8>, Vec<u64>) = chunk.constants.iter().copied().unzip();
-    let checked = || {
-        let code = code::chunk(&chunk.words())?;
-        let pairs = [chunk.phi_sources.len(), chunk.stmt_pos.len(), chunk.call_byte_pos.len()].map(|c| (c, c as u64));
-        let phi_map = (chunk.phi_map.len(), chunk.phi_map.len() as u64);
-        code::tables(&Tables { kinds: &kinds, words: &words, constants: kinds.len() as u64, phi_map, pairs }, code.len())
-    };
-    checked().map(|()| None).map_err(crate::refused::by_the_model)
+    Ok((0..a.first as usize).map(|k| (kinds[k], values[k])).collect())
 }
 
 /// Says what became of the instruction at `k`.
@@ -182,24 +158,19 @@ fn unfolded(chunk: &Chunk, f: &Folded, k: usize) -> Option<String> {
     Some(jump.map_or("not folded: it has no result that is a constant".into(), |j| format!("not folded: the jump at {j} lands on {}", chunk.code[j][2])))
 }
 
-fn remarks(chunk: &Chunk, folded: Option<&Folded>) -> Vec<String> {
-    let mut remarks = vec![];
-    if let Some(f) = folded {
-        let (old, new) = (chunk.code.len(), f.code.len());
-        remarks.push(if old == new { "Nothing folded.".into() } else { format!("{} became {new}.", count(old, "instruction")) });
-        let constants = f.constants.iter().enumerate().map(|(k, &(kind, word))| format!("{}{k}: {}", if k >= chunk.constants.len() { "new " } else { "" }, constant_text(kind, word)));
-        if !f.constants.is_empty() { remarks.push(format!("Constants: {}.", constants.collect::<Vec<_>>().join(", "))) }
-        if let Some(left) = &f.shipped {
-            let names: Vec<String> = left.iter().map(|&(kind, word)| constant_text(kind, word)).collect();
-            remarks.push(format!("Cleared, it ships {}{}{}.", count(left.len(), "constant"), if left.is_empty() { "" } else { ": " }, names.join(", ")));
-        }
-        for (name, old, new) in [("stmt_pos", &chunk.stmt_pos, &f.stmt_pos), ("call_byte_pos", &chunk.call_byte_pos, &f.call_byte_pos)] {
-            let moved: Vec<String> = old.chunks(2).zip(new.chunks(2)).filter(|(a, b)| a != b).map(|(a, b)| format!("{} to {}", a[0], b[0])).collect();
-            if !moved.is_empty() { remarks.push(format!("{name} moved: {}.", moved.join(", "))) }
-        }
-        if f.pairs != chunk.phi_sources.len() / 2 { remarks.push(format!("phi_sources: {} became {}.", count(chunk.phi_sources.len() / 2, "pair"), f.pairs)) }
+fn remarks(chunk: &Chunk, f: &Folded) -> Vec<String> {
+    let (old, new) = (chunk.code.len(), f.code.len());
+    let mut remarks = vec![if old == new { "Nothing folded.".into() } else { format!("{} became {new}.", count(old, "instruction")) }];
+    let new = |k: usize| if k >= chunk.constants.len() { "new " } else { "" };
+    let constants: Vec<String> = f.constants.iter().enumerate().map(|(k, &(kind, word))| format!("{}{k}: {}", new(k), constant_text(kind, word))).collect();
+    if !constants.is_empty() { remarks.push(format!("Constants: {}.", constants.join(", "))) }
+    let names: Vec<String> = f.shipped.iter().map(|&(kind, word)| constant_text(kind, word)).collect();
+    remarks.push(format!("Cleared, it ships {}{}{}.", count(names.len(), "constant"), if names.is_empty() { "" } else { ": " }, names.join(", ")));
+    for (name, old, new) in [("stmt_pos", &chunk.stmt_pos, &f.stmt_pos), ("call_byte_pos", &chunk.call_byte_pos, &f.call_byte_pos)] {
+        let moved: Vec<String> = old.chunks(2).zip(new.chunks(2)).filter(|(a, b)| a != b).map(|(a, b)| format!("{} to {}", a[0], b[0])).collect();
+        if !moved.is_empty() { remarks.push(format!("{name} moved: {}.", moved.join(", "))) }
     }
+    if f.pairs != chunk.phi_sources.len() / 2 { remarks.push(format!("phi_sources: {} became {}.", count(chunk.phi_sources.len() / 2, "pair"), f.pairs)) }
     remarks.push(if chunk.strict { "Strict mode: no group folds that some jump lands in." } else { "Plain mode: a group stays only if the jump right before it lands in it." }.into());
-    remarks.extend(missing(&["fold", "clear"]));
     remarks
 }

@@ -7,12 +7,6 @@ pub mod page;
 pub mod refused;
 pub mod text;
 
-/// One line for each call that the archive at hand does not have and the listing would use.
-pub fn missing(calls: &[&'static str]) -> Option<String> {
-    let lacking: Vec<&str> = calls.iter().copied().filter(|c| !turniploom::abi::EXPORTED.contains(c)).collect();
-    (!lacking.is_empty()).then(|| format!("The archive does not export {} yet.", and(&lacking)))
-}
-
 /// Words joined as in a sentence.
 pub fn and<T: ToString>(words: &[T]) -> String {
     let words: Vec<String> = words.iter().map(T::to_string).collect();

@@ -363,7 +363,7 @@ pub fn asked(q: &Question) -> String {
     if !q.call.of_a_chunk() {
         let whole = words.len() / 6 * 6;
         let code = words[..whole].chunks(6).map(|w| Ins { op: w[0], marks: w[1], a: w[2], b: w[3], c: w[4], x: w[5] }).collect();
-        let takes = |name: &str| q.call.params().contains(&name);
+        let takes = |name: &str| q.call.takes(name);
         let body = Body {
             code,
             tail: words[whole..].to_vec(),
@@ -376,7 +376,7 @@ pub fn asked(q: &Question) -> String {
     }
     let whole = words.len() / 3 * 3;
     // The clearing call has no table but the constants.
-    let takes = |name: &str| q.call.params().contains(&name);
+    let takes = |name: &str| q.call.takes(name);
     let counted = |count: &str, have: usize| (q.n(count) as usize).min(have);
     let (kinds, values) = (q.arg("kinds").numbers(), q.arg("words").numbers());
     let constants = counted("constants", kinds.len().min(values.len()) - 1);

@@ -39,20 +39,19 @@ fn bands(view: &body::View, k: usize) -> String {
 const WIDEST: usize = 256;
 
 pub fn body(view: &body::View) -> String {
-    let drawn = view.rows && view.columns.len() <= WIDEST;
+    let drawn = view.columns.len() <= WIDEST;
     let mut out = format!("<table class=\"body{}\">\n<tr><th></th>", if view.columns.len() > 24 { " many" } else { "" });
     for _ in &view.tries { out += "<th></th>" }
     out += "<th class=\"left\">instruction</th><th class=\"left\">uses</th><th class=\"left\">gives up</th>";
-    if drawn { for r in &view.columns { write!(out, "<th class=\"reg\">{r}</th>").unwrap() } } else if view.rows { out += "<th class=\"left\">row</th>" }
+    if drawn { for r in &view.columns { write!(out, "<th class=\"reg\">{r}</th>").unwrap() } } else { out += "<th class=\"left\">row</th>" }
     out += "<th class=\"left\">level, jumps, handlers</th></tr>\n";
     for (k, l) in view.lines.iter().enumerate() {
         let class = if l.level.is_some() { " class=\"level\"" } else { "" };
         write!(out, "<tr{class}><td class=\"at\">{k}</td>{}<td class=\"ins\">{}</td><td>{}</td><td>{}</td>", bands(view, k), escaped(&l.text), tags(&l.used, "used"), tags(&l.given_up, "given")).unwrap();
-        if drawn { for &r in &view.columns { out += &cell(view, k, r) } } else if view.rows { write!(out, "<td class=\"note\">{}</td>", registers(&l.row)).unwrap() }
+        if drawn { for &r in &view.columns { out += &cell(view, k, r) } } else { write!(out, "<td class=\"note\">{}</td>", registers(&l.row)).unwrap() }
         out += "<td class=\"note\">";
         if let Some(v) = &l.level {
-            write!(out, "<div>{}</div>", escaped(&v.says())).unwrap();
-            if let Some(keeps) = v.keeps() { write!(out, "<div class=\"keeps\">keeps {}</div>", escaped(&keeps)).unwrap() }
+            write!(out, "<div>{}</div><div class=\"keeps\">keeps {}</div>", escaped(&v.says()), escaped(&v.keeps())).unwrap();
         }
         writeln!(out, "{}</td></tr>", escaped(&l.notes.join("; "))).unwrap();
     }
@@ -69,7 +68,7 @@ const LEGEND: &str = "<p class=\"legend\"><span class=\"cell row\"></span> in th
 fn cell(view: &body::View, k: usize, r: u16) -> String {
     let l = &view.lines[k];
     let (row, used, given) = (l.row.contains(&r), l.used.contains(&r), l.given_up.contains(&r));
-    let part = l.level.iter().flat_map(|v| v.kept.iter().flatten()).find(|p| p.registers.contains(&r));
+    let part = l.level.iter().flat_map(|v| &v.kept).find(|p| p.registers.contains(&r));
     let mut class = String::from("cell");
     let mut says = vec![];
     if row { class += " row"; says.push("needed before it".to_string()) }
@@ -91,19 +90,16 @@ fn cell(view: &body::View, k: usize, r: u16) -> String {
 
 pub fn chunk(view: &chunk::View) -> String {
     let mut out = String::from("<table class=\"chunk\">\n<tr><th></th><th class=\"left\">before</th>");
-    if view.folded { out += "<th></th><th></th><th class=\"left\">after</th>" }
-    out += "<th></th></tr>\n";
+    out += "<th></th><th></th><th class=\"left\">after</th><th></th></tr>\n";
     let mut colour = 0;
     for (k, l) in view.before.iter().enumerate() {
         if l.result { colour = colour % 5 + 1 }
         let group = if l.result || l.into.is_some() { format!(" class=\"group{colour}\"") } else { String::new() };
-        write!(out, "<tr{group}><td class=\"at\">{k}</td><td class=\"ins{}\">{}</td>", if view.folded && l.after.is_none() { " dead" } else { "" }, escaped(&l.text)).unwrap();
-        if view.folded {
-            match (&l.after, l.into) {
-                (Some((to, text)), _) => write!(out, "<td class=\"arrow\">→</td><td class=\"at\">{to}</td><td class=\"ins\">{}</td>", escaped(text)).unwrap(),
-                (None, Some(to)) => write!(out, "<td class=\"arrow\">↗</td><td></td><td class=\"note\">into {to}</td>").unwrap(),
-                (None, None) => out += "<td class=\"arrow\">×</td><td></td><td></td>",
-            }
+        write!(out, "<tr{group}><td class=\"at\">{k}</td><td class=\"ins{}\">{}</td>", if l.after.is_none() { " dead" } else { "" }, escaped(&l.text)).unwrap();
+        match (&l.after, l.into) {
+            (Some((to, text)), _) => write!(out, "<td class=\"arrow\">→</td><td class=\"at\">{to}</td><td class=\"ins\">{}</td>", escaped(text)).unwrap(),
+            (None, Some(to)) => write!(out, "<td class=\"arrow\">↗</td><td></td><td class=\"note\">into {to}</td>").unwrap(),
+            (None, None) => out += "<td class=\"arrow\">×</td><td></td><td></td>",
         }
         writeln!(out, "<td class=\"note\">{}</td></tr>", escaped(&l.notes.join("; "))).unwrap();
     }

@@ -1,8 +1,8 @@
 //! A refusal in words, with the rule that was broken and the line it stands on.
 
 use crate::notation::{Body, Chunk};
-use model::{code::{No, is_call}, facts::fact};
-use turniploom::{DUNDER, Ins, JUMP, NAMES, REGISTER, Refusal, WIDE, abi::Answer, op};
+use model::{code::is_call, facts::fact};
+use turniploom::{DUNDER, Ins, JUMP, NAMES, REGISTER, Refusal, WIDE, op};
 
 /// The refusal of a body in words.
 pub fn body(refusal: Refusal, body: &Body) -> String {
@@ -66,11 +66,6 @@ fn broken(code: &[Ins], k: usize) -> String {
         _ if i.marks & WIDE != 0 => "a wide call is followed by its ArgsR".into(),
         _ => format!("b is {}, and {name} writes registers from b on past 65,535", i.b),
     }
-}
-
-/// A refusal that the plain model gives, where the archive does not have the call.
-pub fn by_the_model(No(refusal, first, second): No) -> Refusal {
-    Answer { refusal, first, second, third: 0, fourth: 0 }.granted().expect_err("a refusal")
 }
 
 /// Whether an opcode is a folding operator.

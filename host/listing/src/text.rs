@@ -33,7 +33,7 @@ fn numbers(columns: &[u16]) -> Vec<String> {
 }
 
 pub fn body(view: &body::View) -> String {
-    let drawn = view.rows && view.columns.len() <= WIDEST;
+    let drawn = view.columns.len() <= WIDEST;
     let told: Vec<[String; 3]> = view.lines.iter().map(|l| [l.text.clone(), registers(&l.used), registers(&l.given_up)]).collect();
     let heads = ["instruction", "uses", "gives up"];
     let width = |c: usize| widest(told.iter().map(|t| t[c].as_str()).chain([heads[c]]));
@@ -51,17 +51,17 @@ pub fn body(view: &body::View) -> String {
         for n in above { line("", "", ["", "", ""], n, "") }
         line("", "", heads, last, "");
     } else {
-        line("", "", heads, "", if view.rows { "row" } else { "" });
+        line("", "", heads, "", "row");
     }
     for (k, l) in view.lines.iter().enumerate() {
         let mut notes = l.notes.clone();
         if let Some(v) = &l.level { notes.insert(0, v.says()) }
-        if view.rows && !drawn { notes.insert(0, format!("[{}]", registers(&l.row))) }
+        if !drawn { notes.insert(0, format!("[{}]", registers(&l.row))) }
         let row = if drawn { picture(&view.columns, |r| if l.row.contains(&r) { '●' } else { '·' }) } else { String::new() };
         line(&k.to_string(), &gutter(view, k, false), [&told[k][0], &told[k][1], &told[k][2]], &row, &notes.join("; "));
-        let Some((v, keeps)) = l.level.as_ref().and_then(|v| Some((v, v.keeps()?))) else { continue };
+        let Some(v) = &l.level else { continue };
         let row = if drawn { picture(&view.columns, |r| kept_mark(v, r)) } else { String::new() };
-        line("", &gutter(view, k, true), ["  keeps", "", ""], &row, &keeps);
+        line("", &gutter(view, k, true), ["  keeps", "", ""], &row, &v.keeps());
     }
     out.push('\n');
     if drawn && !view.columns.is_empty() { writeln!(out, "{}", legend(view)).unwrap() }
@@ -70,7 +70,7 @@ pub fn body(view: &body::View) -> String {
 }
 
 fn legend(view: &body::View) -> String {
-    let parts = || view.lines.iter().flat_map(|l| &l.level).flat_map(|v| v.kept.iter().flatten());
+    let parts = || view.lines.iter().flat_map(|l| &l.level).flat_map(|v| &v.kept);
     let mut text = String::from("● needed before the instruction");
     if parts().any(|p| p.handler.is_none()) { text += ", ▲ kept for the resume point" }
     if parts().any(|p| p.handler.is_some() && !p.registers.is_empty()) { text += ", △ kept for a handler" }
@@ -79,7 +79,7 @@ fn legend(view: &body::View) -> String {
 
 /// `▲` for the resume point, `△` for a handler.
 fn kept_mark(level: &Level, r: u16) -> char {
-    let part = level.kept.iter().flatten().find(|p| p.registers.contains(&r));
+    let part = level.kept.iter().find(|p| p.registers.contains(&r));
     part.map_or('·', |p| if p.handler.is_some() { '△' } else { '▲' })
 }
 
@@ -91,12 +91,11 @@ pub fn chunk(view: &chunk::View) -> String {
     let mut out = String::new();
     let mut line = |a: &str, mark: char, b: &str, note: &str| writeln!(out, "{}", format!("{}  {mark}  {}  {note}", pad(a, left), pad(b, right)).trim_end()).unwrap();
     let indent = " ".repeat(place + 1);
-    line(&format!("{indent}before"), ' ', &if view.folded { format!("{indent}after") } else { String::new() }, "");
+    line(&format!("{indent}before"), ' ', &format!("{indent}after"), "");
     for (k, l) in view.before.iter().enumerate() {
-        let mark = match (view.folded, l.after.is_some(), l.into.is_some()) {
-            (false, ..) => ' ',
-            (_, true, _) => '→',
-            (_, _, true) => '┘',
+        let mark = match (&l.after, l.into) {
+            (Some(_), _) => '→',
+            (_, Some(_)) => '┘',
             _ => '×',
         };
         line(&before[k], mark, &after[k], &l.notes.join("; "));

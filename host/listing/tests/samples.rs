@@ -21,7 +21,6 @@ fn every_sample_is_listed() {
 }
 
 #[test]
-#[cfg(exported = "kept")]
 fn code_k() {
     let (text, _) = listed("K.txt");
     assert!(text.starts_with(
@@ -41,21 +40,18 @@ Sweeps: 1 full, 0 abandoned. Rows are looked for from 2 on, the first level; bef
 }
 
 #[test]
-#[cfg(exported = "kept")]
 fn a_try_around_the_recursive_call() {
     assert!(listed("jacket.txt").0.contains("r1 r3; r5 for the handler at 13"));
     assert!(listed("P5.txt").0.contains("Sweeps: 3 full, 1 abandoned."));
 }
 
 #[test]
-#[cfg(exported = "fold")]
 fn p13() {
     let (text, _) = listed("P13.txt");
     assert!(text.contains("0 LoadConst 0 (2)  →  0 LoadConst 2 (5)  2 + 3 = 5, new constant 2") && text.contains("3 Jump 2           →  1 Jump 1"), "{text}");
 }
 
 #[test]
-#[cfg(all(exported = "fold", exported = "clear"))]
 fn operands_that_all_folded_away_ship_one_constant() {
     let (text, _) = listed("ships.txt");
     assert!(text.contains("9 instructions became 2.") && text.contains("Cleared, it ships 1 constant: -10."), "{text}");

@@ -1,72 +1,42 @@
 //! A question to one of the exported calls, and the reply: the same for the port, the Rust and the model.
 
-use turniploom::abi::Answer;
+use turniploom::abi::{self, Answer, Kind, Param};
 
-/// The exported calls, in the order of the table that documents them, from 1.
-#[derive(Clone, Copy, Debug, PartialEq, Eq)]
-pub enum Call {
-    Kinds = 1,
-    Role,
-    Field,
-    Writes,
-    Pure,
-    Flat,
-    Guarded,
-    Returns,
-    ParamsWritten,
-    Passed,
-    GenPure,
-    DeadPhi,
-    LoopsAround,
-    Targets,
-    GlobalOf,
-    PushedBack,
-    StackCallee,
-    Kept,
-    Fold,
-    Clear,
+macro_rules! calls {
+    ($first:ident, $($name:ident),*) => {
+        /// The exported calls, in the order of the safe crate's table, from 1.
+        #[derive(Clone, Copy, Debug, PartialEq, Eq)]
+        pub enum Call { $first = 1, $($name),* }
+
+        impl Call {
+            /// Every call.
+            pub const ALL: &[Call] = &[Call::$first, $(Call::$name),*];
+        }
+    };
+}
+
+calls! {
+    Kinds, Role, Field, Writes, Pure, Flat, Guarded, Returns, ParamsWritten, Passed, GenPure, DeadPhi, LoopsAround, Targets, GlobalOf, PushedBack,
+    StackCallee, Kept, Fold, Clear
 }
 
 pub use Call::*;
 
-/// Each call with its name and its parameters; those that begin with `&mut ` are lent to be written.
-pub const CALLS: [(Call, &str, &[&str]); 20] = [
-    (Kinds, "kinds", &["code", "at"]),
-    (Role, "role", &["code", "at"]),
-    (Field, "field", &["code", "at", "f"]),
-    (Writes, "writes", &["code", "at", "r"]),
-    (Pure, "pure", &["code"]),
-    (Flat, "flat", &["code"]),
-    (Guarded, "guarded", &["code"]),
-    (Returns, "returns", &["code", "at"]),
-    (ParamsWritten, "params_written", &["code", "arity"]),
-    (Passed, "passed", &["code", "at", "arity"]),
-    (GenPure, "gen_pure", &["code", "&mut seen", "&mut todo"]),
-    (DeadPhi, "dead_phi", &["code", "at", "r", "&mut seen", "&mut todo"]),
-    (LoopsAround, "loops_around", &["code", "&mut out"]),
-    (Targets, "targets", &["code", "tries", "&mut out"]),
-    (GlobalOf, "global_of", &["code", "at"]),
-    (PushedBack, "pushed_back", &["code", "at", "r"]),
-    (StackCallee, "stack_callee", &["code", "at", "count"]),
-    (Kept, "kept", &["code", "regs", "tries", "wide", "&mut rows", "&mut offsets", "&mut list"]),
-    (Fold, "fold", &[
-        "&mut code", "&mut kinds", "&mut words", "constants", "&mut phi_map", "phi_map_count", "&mut phi_sources",
-        "phi_sources_count", "&mut stmt_pos", "stmt_pos_count", "&mut call_byte_pos", "call_byte_pos_count", "&mut dead",
-        "&mut remap", "strict",
-    ]),
-    (Clear, "clear", &["&mut code", "&mut kinds", "&mut words", "constants", "&mut scratch"]),
-];
-
 impl Call {
-    pub fn name(self) -> &'static str { CALLS[self as usize - 1].1 }
-    pub fn params(self) -> &'static [&'static str] { CALLS[self as usize - 1].2 }
-    pub fn named(name: &str) -> Option<Call> { CALLS.iter().find(|c| c.1 == name).map(|c| c.0) }
+    /// Its entry in the safe crate's table.
+    pub fn entry(self) -> &'static abi::Call { &abi::CALLS[self as usize - 1] }
+    pub fn name(self) -> &'static str { self.entry().name }
+    pub fn params(self) -> &'static [Param] { self.entry().params }
+    /// Whether it has a parameter of that name.
+    pub fn takes(self, name: &str) -> bool { self.params().iter().any(|p| p.name == name) }
+    pub fn named(name: &str) -> Option<Call> { Call::ALL.iter().copied().find(|c| c.name() == name) }
     /// Whether it takes a chunk, and how many words an instruction then has.
     pub fn of_a_chunk(self) -> bool { matches!(self, Fold | Clear) }
     pub fn stride(self) -> usize { if self.of_a_chunk() { 3 } else { 6 } }
-    /// Whether the archive at hand has the call.
-    pub fn exported(self) -> bool { turniploom::abi::EXPORTED.contains(&self.name()) }
 }
+
+/// Whether a parameter is lent to be written.
+pub fn lent(p: &Param) -> bool { matches!(p.kind, Kind::Buffer(_)) }
 
 /// A number or a slice.
 #[derive(Clone, Debug, PartialEq, Eq)]
@@ -106,7 +76,7 @@ pub struct Question {
 }
 
 impl Question {
-    /// The argument of that name, without `&mut `.
+    /// The argument of that name.
     pub fn arg(&self, name: &str) -> &Arg { &self.args[self.place(name)] }
 
     pub fn n(&self, name: &str) -> u64 { self.arg(name).n() }
@@ -114,14 +84,13 @@ impl Question {
     pub fn u32(&self, name: &str) -> &[u32] { if let Arg::U32(v) = self.arg(name) { v } else { panic!("{name}") } }
 
     fn place(&self, name: &str) -> usize {
-        self.call.params().iter().position(|p| p.strip_prefix("&mut ").unwrap_or(p) == name).unwrap_or_else(|| panic!("no {name}"))
+        self.call.params().iter().position(|p| p.name == name).unwrap_or_else(|| panic!("no {name}"))
     }
 
     /// The buffers that are lent to be written, as they are lent.
-    pub fn lent(&self) -> Lent { Lent { call: self.call, buffers: self.writable().map(|(_, a)| a.clone()).collect() } }
-
-    fn writable(&self) -> impl Iterator<Item = (&'static str, &Arg)> {
-        self.call.params().iter().zip(&self.args).filter_map(|(p, a)| Some((p.strip_prefix("&mut ")?, a)))
+    pub fn lent(&self) -> Lent {
+        let buffers = self.call.params().iter().zip(&self.args).filter(|(p, _)| lent(p)).map(|(_, a)| a.clone()).collect();
+        Lent { call: self.call, buffers }
     }
 }
 
@@ -134,8 +103,7 @@ pub struct Lent {
 
 impl Lent {
     pub fn get(&mut self, name: &str) -> &mut Arg {
-        let mut names = self.call.params().iter().filter_map(|p| p.strip_prefix("&mut "));
-        let at = names.position(|p| p == name).unwrap_or_else(|| panic!("no {name}"));
+        let at = self.call.params().iter().filter(|p| lent(p)).position(|p| p.name == name).unwrap_or_else(|| panic!("no {name}"));
         &mut self.buffers[at]
     }
     pub fn u8(&mut self, name: &str) -> &mut Vec<u8> { self.get(name).u8() }

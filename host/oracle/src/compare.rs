@@ -55,20 +55,14 @@ struct Judged {
 impl Comparison {
     pub fn new(whom: Whom) -> Comparison { Comparison { whom, rows: Mutex::default(), failures: Mutex::default(), failed: AtomicUsize::new(0) } }
 
-    /// The calls that are compared.
-    pub fn calls(&self) -> Vec<Call> {
-        CALLS.iter().map(|c| c.0).filter(|c| self.whom == Whom::ModelAlone || c.exported()).collect()
-    }
-
     /// Asks all systematic questions once, then 1,000 random ones of each call in every round, on so many threads.
     pub fn run(&self, seed: u64, until: Until, threads: usize) {
-        let calls = self.calls();
         let start = Instant::now();
         let more = |round: u64| match until {
             Until::Rounds(rounds) => round <= rounds,
             Until::Minutes(minutes) => round == 0 || start.elapsed() < Duration::from_secs(60 * minutes),
         };
-        let next = Mutex::new((0..).flat_map(|round| calls.iter().map(move |&c| (c, round))));
+        let next = Mutex::new((0..).flat_map(|round| Call::ALL.iter().map(move |&c| (c, round))));
         let work = || {
             let mut rows = BTreeMap::new();
             loop {
@@ -114,8 +108,8 @@ impl Comparison {
         let (mut rust, mut listed, mut wrong) = (false, false, vec![]);
         if self.whom == Whom::Port {
             match catch_unwind(AssertUnwindSafe(|| port::ask(q))) {
-                Ok(Some(port)) if port == model => {}
-                Ok(port) => wrong.push(("the port", port.map_or("none".into(), |p| shown(&p)))),
+                Ok(port) if port == model => {}
+                Ok(port) => wrong.push(("the port", shown(&port))),
                 Err(e) => wrong.push(("the port", panicked(e))),
             }
         }
@@ -143,7 +137,7 @@ impl Comparison {
         let mut total = Row::default();
         let line = |name: &str, r: &Row| println!("{name:<16}{:>10}{:>10}{:>10}{:>10}{:>8}{:>8}", r.calls, r.refused, r.telling, r.rust, r.listed, r.wrong);
         for (&call, row) in self.rows.lock().unwrap().iter() {
-            line(CALLS[call - 1].1, row);
+            line(Call::ALL[call - 1].name(), row);
             total.add(*row);
         }
         line("all", &total);
@@ -182,9 +176,9 @@ fn shown(r: &Reply) -> String {
 
 /// The call, its numbers and its tables, as a comment of the listing's notation.
 fn described(q: &Question) -> String {
-    let told = q.call.params().iter().zip(&q.args).filter(|(p, _)| !p.ends_with("code")).map(|(name, arg)| match arg {
-        Arg::N(v) => format!(" {name}={v}"),
-        _ => format!(" {name}={}", slice(arg)),
+    let told = q.call.params().iter().zip(&q.args).filter(|(p, _)| p.name != "code").map(|(p, arg)| match arg {
+        Arg::N(v) => format!(" {}={v}", p.name),
+        _ => format!(" {}={}", p.name, slice(arg)),
     });
     format!("# {}{}\n", q.call.name(), told.collect::<String>())
 }

@@ -3,6 +3,7 @@
 use crate::{house::{Alone, House, Pages}, model, port, question::*, questions, rng::Rng};
 use listing::notation;
 use std::{env, process::{Command, Stdio}};
+use turniploom::abi::Kind;
 
 /// A question with a few of its words, numbers and lengths made extreme.
 fn question(rng: &mut Rng, call: Call) -> Question {
@@ -12,7 +13,7 @@ fn question(rng: &mut Rng, call: Call) -> Question {
         let extreme = rng.pick(&[0, 1, 255, 256, 1_024, 1_025, 65_535, 65_536, u64::from(u32::MAX), u64::MAX, u64::MAX / 2 + 1]);
         let number = rng.next();
         match &mut q.args[k] {
-            Arg::N(v) if call.params()[k] == "strict" || call.params()[k] == "wide" => *v ^= 1,
+            Arg::N(v) if call.params()[k].kind == Kind::Bool => *v ^= 1,
             Arg::N(v) => *v = extreme,
             Arg::U8(v) => spoil(v, number, extreme as u8),
             Arg::U16(v) => spoil(v, number, extreme as u16),
@@ -34,12 +35,12 @@ fn spoil<T: Copy>(v: &mut Vec<T>, number: u64, extreme: T) {
     }
 }
 
-/// The call's parameters of f, r and count are narrower than a number.
+/// Some parameters are narrower than a number.
 fn narrowed(mut q: Question) -> Question {
     for (p, a) in q.call.params().iter().zip(&mut q.args) {
-        match (*p, a) {
-            ("f", Arg::N(v)) => *v &= 0xFF,
-            ("r" | "count", Arg::N(v)) => *v &= 0xFFFF,
+        match (p.kind, a) {
+            (Kind::U8, Arg::N(v)) => *v &= 0xFF,
+            (Kind::U16, Arg::N(v)) => *v &= 0xFFFF,
             _ => {}
         }
     }
@@ -53,7 +54,7 @@ fn round(call: Call, seed: u64, round: u64, questions: u64, house: &mut impl Hou
         let q = narrowed(question(&mut rng, call));
         if each { println!("# {} question {k}\n{}", call.name(), notation::asked(&q)) }
         let port = port::ask_in(house, &q);
-        compared && port.is_some_and(|p| p != model::ask(&q))
+        compared && port != model::ask(&q)
     }).count()
 }
 

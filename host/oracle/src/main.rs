@@ -1,9 +1,9 @@
 //! The command of the comparison.
 
-use oracle::{compare::{Comparison, Until, Whom}, hostile, question::{CALLS, Call}, record};
+use oracle::{compare::{Comparison, Until, Whom}, hostile, question::Call, record};
 use std::{env, process::ExitCode, thread};
 
-const USE: &str = "oracle [--seed S] [--rounds R | --minutes M] [--threads T]         compare the port with the Rust and the model, on every call it has
+const USE: &str = "oracle [--seed S] [--rounds R | --minutes M] [--threads T]         compare the port with the Rust and the model, on every call
 oracle model [--seed S] [--rounds R | --minutes M] [--threads T]   compare the model with the Rust, on every call
 oracle constants                                                   every folding operator over every pair of some 300 constants
 oracle hostile [--seed S] [--rounds R] [--calls NAME,..]           hostile input, watched for bad access by guard pages and by valgrind
@@ -57,14 +57,12 @@ fn run() -> Result<bool, String> {
     let compare = |whom| {
         std::panic::set_hook(Box::new(|_| {}));
         let comparison = Comparison::new(whom);
-        if comparison.calls().is_empty() { return Err("the archive exports no call: run rt staticlib turniploom".into()) }
         let until = o.minutes.map_or(Until::Rounds(o.rounds.unwrap_or(100)), Until::Minutes);
         comparison.run(o.seed, until, o.threads);
         Ok(comparison.report())
     };
     let words: Vec<&str> = o.words.iter().map(String::as_str).collect();
-    let exported = CALLS.iter().map(|c| c.0).filter(|c| c.exported()).collect();
-    let calls: Vec<Call> = if o.calls.is_empty() { exported } else { o.calls.clone() };
+    let calls: Vec<Call> = if o.calls.is_empty() { Call::ALL.to_vec() } else { o.calls.clone() };
     match words[..] {
         [] => compare(Whom::Port),
         ["model"] => compare(Whom::ModelAlone),

@@ -1,7 +1,7 @@
 //! The questions: systematic ones, the same at every seed, and random ones.
 
 use crate::{bodies::{body, damage}, chunks, model::code::is_call, question::*, rng::Rng};
-use turniploom::{Ins, WIDE, abi, op};
+use turniploom::{Ins, WIDE, abi::{self, Kind, Width}, op};
 
 /// A random question of a call.
 pub fn random(rng: &mut Rng, call: Call) -> Question {
@@ -53,7 +53,7 @@ fn ask(rng: &mut Rng, call: Call, code: &[Ins], words: Vec<u16>, regs: usize) ->
     } & 0xFFFF;
     let arity = rng.weighted(&[(4, 3), (4, 5), (2, 8), (1, 0), (1, 63), (1, 64), (1, 65), (1, u64::MAX)]);
     let count = rng.weighted(&[(8, 0), (6, 1), (3, 2), (2, 3), (1, 9), (1, 65_535)]);
-    let args = call.params().iter().map(|&p| match p {
+    let args = call.params().iter().map(|p| match p.name {
         "code" => Arg::U16(words.clone()),
         "at" => Arg::N(at),
         "f" => Arg::N(rng.weighted(&[(4, 0), (4, 1), (4, 2), (1, 3), (1, 255)])),
@@ -63,13 +63,9 @@ fn ask(rng: &mut Rng, call: Call, code: &[Ins], words: Vec<u16>, regs: usize) ->
         "regs" => Arg::N(if rng.once_in(40) { rng.pick(&[1_025, 65_536, u64::MAX]) } else { regs as u64 }),
         "tries" => Arg::U32(tries(rng, n)),
         "wide" => Arg::N(rng.once_in(3).into()),
-        "&mut seen" => Arg::U8(lend(rng, n + 1)),
-        "&mut todo" => Arg::U32(lend(rng, n + 1)),
-        "&mut out" if call == Targets => Arg::U8(lend(rng, n + 1)),
-        "&mut out" => Arg::U32(lend(rng, n + 1)),
-        "&mut rows" => Arg::U64(lend(rng, (n + 1) * crate::model::rows::words(regs))),
-        "&mut offsets" => Arg::U32(lend(rng, n + 1)),
-        "&mut list" => { let room = if rng.once_in(12) { rng.below(8) } else { n * regs.min(1_024) }; Arg::U16(junk(rng, room)) }
+        "seen" | "todo" | "out" | "offsets" => buffer(rng, p.kind, n + 1),
+        "rows" => buffer(rng, p.kind, (n + 1) * crate::model::rows::words(regs)),
+        "list" => { let room = if rng.once_in(12) { rng.below(8) } else { n * regs.min(1_024) }; Arg::U16(junk(rng, room)) }
         other => panic!("no {other}"),
     }).collect();
     Question { call, args }
@@ -79,6 +75,17 @@ fn place(rng: &mut Rng, call: Call, code: &[Ins], n: usize) -> u64 {
     if n == 0 || rng.once_in(24) { return rng.pick(&[n as u64, n as u64 + 1, u64::MAX, 65_535]) }
     let fitting: Vec<usize> = (0..code.len().min(n)).filter(|&k| asked_about(call, code, k)).collect();
     if fitting.is_empty() || rng.once_in(8) { rng.below(n) as u64 } else { rng.pick(&fitting) as u64 }
+}
+
+/// A buffer of that kind, mostly long enough.
+fn buffer(rng: &mut Rng, kind: Kind, needed: usize) -> Arg {
+    match kind {
+        Kind::Buffer(Width::U8) => Arg::U8(lend(rng, needed)),
+        Kind::Buffer(Width::U16) => Arg::U16(lend(rng, needed)),
+        Kind::Buffer(Width::U32) => Arg::U32(lend(rng, needed)),
+        Kind::Buffer(Width::U64) => Arg::U64(lend(rng, needed)),
+        other => panic!("{other:?} is no buffer"),
+    }
 }
 
 /// A buffer with anything in it, mostly long enough.
@@ -172,7 +179,7 @@ fn short_codes(rng: &mut Rng, call: Call, take: &mut dyn FnMut(Question)) {
     codes.push(vec![]);
     for code in codes {
         let words = abi::words(&code).to_vec();
-        let positions = if call.params().contains(&"at") { code.len() + 1 } else { 1 };
+        let positions = if call.takes("at") { code.len() + 1 } else { 1 };
         for at in 0..positions {
             let regs = rng.pick(&[3, 3, 64, 65]);
             let mut q = ask(rng, call, &code, words.clone(), regs);

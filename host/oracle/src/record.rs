@@ -1,10 +1,10 @@
-//! Recorded answers: a sample of the Rust's own, as whitespace-separated numbers, one record a line.
+//! Recorded answers: a sample of the Rust's own, and of the model's where it alone decides, as numbers, one record a line.
 
 use crate::{model, original, question::*, questions, rng::Rng};
 use std::{fmt::Write as _, fs, io};
 
-/// The size that a file stays below, and the instructions of a code.
-const BYTES: usize = 100_000;
+/// The records of a call, and the instructions that a code may have.
+const RECORDS: usize = 64;
 const INSTRUCTIONS: usize = 8;
 /// The numbers that a record may have.
 const NUMBERS: usize = 500;
@@ -25,20 +25,21 @@ use Shows::*;
 /// The kinds of record, in turn.
 const TURN: [Shows; 8] = [Telling, Telling, Plain, Telling, Telling, Plain, Telling, Refused];
 
-/// Writes a file with an equal share for each call, and gives the number of records.
+/// Writes a file with as many records of each call, and gives their number.
 pub fn write(file: &str, calls: &[Call], seed: u64) -> io::Result<usize> {
-    let mut text = String::new();
-    for (k, &call) in calls.iter().enumerate() {
-        let end = BYTES * (k + 1) / calls.len();
-        let mut rng = Rng::new(seed, call as u64);
-        for kind in TURN.into_iter().cycle() {
-            let line = wanted(&mut rng, call, kind);
-            if text.len() + line.len() > end { break }
-            text += &line;
-        }
-    }
+    let text = text(calls, seed);
     fs::write(file, &text)?;
     Ok(text.lines().count())
+}
+
+/// The records of these calls, one a line.
+pub fn text(calls: &[Call], seed: u64) -> String {
+    let mut text = String::new();
+    for &call in calls {
+        let mut rng = Rng::new(seed, call as u64);
+        for kind in TURN.into_iter().cycle().take(RECORDS) { text += &wanted(&mut rng, call, kind) }
+    }
+    text
 }
 
 /// A record of that kind, or after many tries of any kind.
@@ -51,12 +52,13 @@ fn wanted(rng: &mut Rng, call: Call, kind: Shows) -> String {
     }
 }
 
-/// The record of a small question, if the Rust answers it as the model does, or if it is refused.
+/// The record of a small question, if the Rust answers it as the model does, or if the model alone decides it: a refusal, and
+/// the clearing call, which the Rust does not have.
 fn record(q: &Question) -> Option<(String, Shows)> {
     if q.u16("code").len() > INSTRUCTIONS * q.call.stride() || q.args.iter().any(|a| a.numbers().len() > 64) { return None }
     let reply = model::ask(q);
     let shows = if reply.answer.refusal != 0 { Refused } else if reply.telling(q) { Telling } else { Plain };
-    if shows != Refused && original::ask(q, &reply)? != reply { return None }
+    if shows != Refused && q.call != Clear && original::ask(q, &reply)? != reply { return None }
     let mut line = (q.call as u64).to_string();
     let numbers = q.args.iter().flat_map(Arg::numbers).chain(reply.values()).chain(reply.lent.buffers.iter().flat_map(Arg::numbers));
     for v in numbers { write!(line, " {v}").unwrap() }

@@ -54,7 +54,7 @@ impl Shrink<'_> {
     /// Shortens every other slice from its end, and clears it.
     fn tables(&mut self) {
         for k in 0..self.best.args.len() {
-            if self.best.call.params()[k].ends_with("code") { continue }
+            if self.best.call.params()[k].name == "code" { continue }
             let mut cut = self.best.args[k].numbers().len();
             while cut > 0 {
                 let mut changed = self.best.clone();
@@ -89,7 +89,7 @@ impl Shrink<'_> {
     fn numbers(&mut self) {
         for k in 0..self.best.args.len() {
             // Opcodes stay as they are, and so do marks.
-            let stride = self.best.call.params()[k].ends_with("code").then_some(self.best.call.stride());
+            let stride = (self.best.call.params()[k].name == "code").then_some(self.best.call.stride());
             let length = self.best.args[k].numbers().len() - usize::from(!matches!(self.best.args[k], Arg::N(_)));
             for w in (0..length.min(1_000)).filter(|w| stride.is_none_or(|s| w % s > 1)) {
                 loop {
@@ -112,9 +112,8 @@ impl Shrink<'_> {
 fn without(q: &Question, k: usize, run: usize, stride: usize) -> Question {
     let n = q.u16("code").len() / stride;
     let mut q = q.clone();
-    let params = q.call.params();
-    for (p, a) in params.iter().zip(&mut q.args) {
-        match (p.strip_prefix("&mut ").unwrap_or(p), a) {
+    for (p, a) in q.call.params().iter().zip(&mut q.args) {
+        match (p.name, a) {
             ("code", a) => { a.u16().drain(k * stride..(k + run) * stride); }
             ("at", Arg::N(at)) if *at >= (k + run) as u64 => *at -= run as u64,
             ("phi_map", Arg::U32(map)) if map.len() >= n => { map.drain(k..k + run); }

@@ -5,11 +5,11 @@ use turniploom::{Ins, NAMES, abi, op};
 
 fn i(op: u16, a: u16, b: u16, c: u16, x: u16) -> Ins { Ins { op, marks: 0, a, b, c, x } }
 
-/// The reply on which the model, the Rust and, where it has the call, the port agree.
+/// The reply on which the model, the port and, where it answers, the Rust agree.
 fn agreed(q: &Question) -> Reply {
     let model = model::ask(q);
     if let Some(rust) = original::ask(q, &model) { assert!(rust == model || original::listed(q, &model, &rust).is_some(), "{q:?}\n{rust:?}\n{model:?}") }
-    if let Some(port) = port::ask(q) { assert_eq!(port, model) }
+    assert_eq!(port::ask(q), model);
     model
 }
 

@@ -1,8 +1,4 @@
 //! A host swaps block.rs for the port by changing imports: one text, compiled over each, on the comparison's own bodies.
-#![cfg(all(
-    exported = "role", exported = "field", exported = "writes", exported = "pure", exported = "flat", exported = "guarded", exported = "gen_pure",
-    exported = "params_written", exported = "passed", exported = "loops_around", exported = "targets", exported = "global_of", exported = "kept"
-))]
 
 use oracle::{bodies, model::facts::fact, original::opcode, question::Kept, rng::Rng};
 

@@ -1,4 +1,6 @@
 //! The exported calls over the caller's own slices: nothing is allocated, and this is the one place with `unsafe`.
+//!
+//! [`CALLS`] is the table of all calls, for those who go through every one: tests, and hosts that load by name.
 
 use crate::Ins;
 
@@ -27,6 +29,120 @@ pub fn words(code: &[Ins]) -> &[u16] {
     unsafe { core::slice::from_raw_parts(code.as_ptr().cast(), code.len() * 6) }
 }
 
+/// An exported call.
+#[derive(Clone, Copy, Debug)]
+pub struct Call {
+    /// Its name; the archive has it as `turniploom_NAME`.
+    pub name: &'static str,
+    /// What it is and what its buffers need, a line each.
+    pub says: &'static [&'static str],
+    /// Its parameters, in order.
+    pub params: &'static [Param],
+    /// What the used ones of first to fourth are.
+    pub answer: &'static [(&'static str, &'static str)],
+    /// Asks it with these arguments, in order. It panics if their number or one of their kinds is another.
+    pub ask: fn(&mut [Arg<'_>]) -> Answer,
+}
+
+/// A parameter.
+#[derive(Clone, Copy, Debug, PartialEq, Eq)]
+pub struct Param {
+    /// Its name.
+    pub name: &'static str,
+    /// What it takes.
+    pub kind: Kind,
+}
+
+/// What a parameter takes.
+#[derive(Clone, Copy, Debug, PartialEq, Eq)]
+#[non_exhaustive]
+pub enum Kind {
+    /// A truth value.
+    Bool,
+    /// A number of 8 bits.
+    U8,
+    /// A number of 16 bits.
+    U16,
+    /// A number as wide as a pointer.
+    Size,
+    /// A slice that is read.
+    Slice(Width),
+    /// A slice that is lent to be written.
+    Buffer(Width),
+}
+
+/// The width of a slice's elements.
+#[derive(Clone, Copy, Debug, PartialEq, Eq)]
+pub enum Width {
+    /// Bytes.
+    U8,
+    /// Words of 16 bits.
+    U16,
+    /// Words of 32 bits.
+    U32,
+    /// Words of 64 bits.
+    U64,
+}
+
+/// An argument for [`Call::ask`].
+#[derive(Debug)]
+pub enum Arg<'a> {
+    /// A number; for a truth value, 0 is false.
+    Number(u64),
+    /// A slice of bytes.
+    U8(&'a mut [u8]),
+    /// A slice of words of 16 bits.
+    U16(&'a mut [u16]),
+    /// A slice of words of 32 bits.
+    U32(&'a mut [u32]),
+    /// A slice of words of 64 bits.
+    U64(&'a mut [u64]),
+}
+
+/// The type of a parameter: its kind, and the argument as that type.
+trait Taken<'a> {
+    const KIND: Kind;
+    fn taken(arg: &'a mut Arg<'_>) -> Self;
+}
+
+macro_rules! numbers {
+    ($($of:ty, $kind:ident, $value:ident => $taken:expr;)*) => { $(
+        impl<'a> Taken<'a> for $of {
+            const KIND: Kind = Kind::$kind;
+            fn taken(arg: &'a mut Arg<'_>) -> $of {
+                let Arg::Number($value) = *arg else { panic!("a number is asked for, not {arg:?}") };
+                $taken
+            }
+        }
+    )* };
+}
+
+numbers! {
+    bool, Bool, v => v != 0;
+    u8, U8, v => v.try_into().expect("a number of 8 bits");
+    u16, U16, v => v.try_into().expect("a number of 16 bits");
+    usize, Size, v => v.try_into().expect("a number as wide as a pointer");
+}
+
+macro_rules! slices {
+    ($($of:ty, $width:ident;)*) => { $(
+        impl<'a> Taken<'a> for &'a mut [$of] {
+            const KIND: Kind = Kind::Buffer(Width::$width);
+            fn taken(arg: &'a mut Arg<'_>) -> &'a mut [$of] {
+                let Arg::$width(slice) = arg else { panic!("a slice of {} is asked for", stringify!($of)) };
+                slice
+            }
+        }
+
+        impl<'a> Taken<'a> for &'a [$of] {
+            const KIND: Kind = Kind::Slice(Width::$width);
+            fn taken(arg: &'a mut Arg<'_>) -> &'a [$of] { <&mut [$of]>::taken(arg) }
+        }
+    )* };
+}
+
+slices! { u8, U8; u16, U16; u32, U32; u64, U64; }
+
 /// A call: the extern function takes each slice as a pointer and a length, and anything else as it is.
 macro_rules! call {
     ($head:tt [$($out:tt)*] [$($c:tt)*] [$($arg:tt)*] $p:ident: &[$t:ty], $($rest:tt)*) => {
@@ -38,72 +154,46 @@ macro_rules! call {
     ($head:tt [$($out:tt)*] [$($c:tt)*] [$($arg:tt)*] $p:ident: $t:ty, $($rest:tt)*) => {
         call! { $head [$($out)* $p: $t,] [$($c)* _: $t,] [$($arg)* $p,] $($rest)* }
     };
-    ([$(#[$doc:meta])* $key:literal $symbol:ident $name:ident] [$($out:tt)*] [$($c:tt)*] [$($arg:tt)*]) => {
+    ([$(#[$doc:meta])* $name:ident] [$($out:tt)*] [$($c:tt)*] [$($arg:tt)*]) => {
         $(#[$doc])*
-        #[cfg(exported = $key)]
         #[allow(clippy::too_many_arguments)]
         pub fn $name($($out)*) -> Answer {
-            unsafe extern "C" { fn $symbol($($c)*) -> Answer; }
+            unsafe extern "C" {
+                #[link_name = concat!("turniploom_", stringify!($name))]
+                fn exported($($c)*) -> Answer;
+            }
             // SAFETY: the archive's function has this signature, asks nothing of its caller, and keeps to the slices lent.
-            unsafe { $symbol($($arg)*) }
+            unsafe { exported($($arg)*) }
+        }
+    };
+}
+
+/// A call's entry in the table.
+macro_rules! entry {
+    ($name:ident [$($says:literal)*] [$($p:ident: $t:ty),*] [$($place:ident: $value:literal),*]) => {
+        Call {
+            name: stringify!($name),
+            says: &[$($says),*],
+            params: &[$(Param { name: stringify!($p), kind: <$t as Taken>::KIND }),*],
+            answer: &[$((stringify!($place), $value)),*],
+            ask: |args| {
+                let [$($p),*] = args else { panic!("{} takes other arguments than these {}", stringify!($name), args.len()) };
+                $name($(<$t as Taken>::taken($p)),*)
+            },
         }
     };
 }
 
 macro_rules! calls {
-    ($($(#[$doc:meta])* $key:literal $symbol:ident $name:ident($($params:tt)*);)*) => {
-        $(call! { [$(#[$doc])* $key $symbol $name] [] [] [] $($params)*, })*
+    ($($(#[doc = $says:literal])* $name:ident($($params:tt)*) -> { $($place:ident: $value:literal),* };)*) => {
+        $(call! {
+            [$(#[doc = $says])* #[doc = ""] $(#[doc = concat!("- `", stringify!($place), "`: ", $value)])* $name]
+            [] [] [] $($params)*,
+        })*
 
-        /// The calls that the archive at hand exports.
-        pub const EXPORTED: &[&str] = &[$(#[cfg(exported = $key)] $key),*];
+        /// Every exported call, in order: call number k of a record stands at k - 1.
+        pub const CALLS: &[Call] = &[$(entry! { $name [$($says)*] [$($params)*] [$($place: $value),*] }),*];
     };
 }
 
-calls! {
-    /// The role of an instruction as bits: 1 writes `a`; 2, 4, 8 reads `a`, `b`, `c`; 16 jumps to `a`; 32 none.
-    "kinds" turniploom_kinds kinds(code: &[u16], at: usize);
-    /// The role of an instruction: 1, writes `a`, read fields as bits, jumps; or 0.
-    "role" turniploom_role role(code: &[u16], at: usize);
-    /// A field of an instruction: `a` for 0, `b` for 1, else `c`.
-    "field" turniploom_field field(code: &[u16], at: usize, f: u8);
-    /// Whether an instruction writes register `r`.
-    "writes" turniploom_writes writes(code: &[u16], at: usize, r: u16);
-    /// Whether code may be laid as a section.
-    "pure" turniploom_pure pure(code: &[u16]);
-    /// Whether laid code leaves nothing of its own on the stack.
-    "flat" turniploom_flat flat(code: &[u16]);
-    /// Whether code has a `try` or a `with`.
-    "guarded" turniploom_guarded guarded(code: &[u16]);
-    /// Whether a PushRegs pushes the value that a ReturnValue returns.
-    "returns" turniploom_returns returns(code: &[u16], at: usize);
-    /// The parameters that some instruction writes, a bit each.
-    "params_written" turniploom_params_written params_written(code: &[u16], arity: usize);
-    /// The parameters that a call passes on as they are, a bit each.
-    "passed" turniploom_passed passed(code: &[u16], at: usize, arity: usize);
-    /// Whether a generator's body may be laid as a section. Lends n + 1 marks and n + 1 waiting positions.
-    "gen_pure" turniploom_gen_pure gen_pure(code: &[u16], seen: &mut [u8], todo: &mut [u32]);
-    /// Whether what a Phi writes is read on no path. Lends n + 1 marks and n + 1 waiting positions.
-    "dead_phi" turniploom_dead_phi dead_phi(code: &[u16], at: usize, r: u16, seen: &mut [u8], todo: &mut [u32]);
-    /// For each position, how many `for` loops it lies inside. Lends n + 1 entries.
-    "loops_around" turniploom_loops_around loops_around(code: &[u16], out: &mut [u32]);
-    /// The positions that a jump or a handler lands on. Lends n + 1 marks.
-    "targets" turniploom_targets targets(code: &[u16], tries: &[u32], out: &mut [u8]);
-    /// The module binding that a call calls: 1, binding; or 0.
-    "global_of" turniploom_global_of global_of(code: &[u16], at: usize);
-    /// The PushRegs that pushed what a StoreTopR takes back: 1, position; or 0.
-    "pushed_back" turniploom_pushed_back pushed_back(code: &[u16], at: usize, r: u16);
-    /// The PushRegs that pushed a stack call's function: 1, position, register; or 0.
-    "stack_callee" turniploom_stack_callee stack_callee(code: &[u16], at: usize, count: u16);
-    /// The registers kept at each level: list length, full sweeps, abandoned sweeps. Lends (n + 1) × [`row_words`] words for the
-    /// rows, n + 1 offsets and the list; a list too short is refused with the length it needs, and the rows are then found.
-    "kept" turniploom_kept kept(code: &[u16], regs: usize, tries: &[u32], wide: bool, rows: &mut [u64], offsets: &mut [u32], list: &mut [u16]);
-    /// Folds a chunk: instructions, constants, phi_map entries, phi_sources words. Lends room for max(count, min(65,535, count +
-    /// folding operators)) constants, n phi_map entries, a pair for each pair or Phi, n dead marks and n + 1 remap entries.
-    "fold" turniploom_fold fold(
-        code: &mut [u16], kinds: &mut [u8], words: &mut [u64], constants: usize, phi_map: &mut [u32], phi_map_count: usize,
-        phi_sources: &mut [u16], phi_sources_count: usize, stmt_pos: &mut [u32], stmt_pos_count: usize,
-        call_byte_pos: &mut [u32], call_byte_pos_count: usize, dead: &mut [u8], remap: &mut [u32], strict: bool
-    );
-    /// Clears the constants that no instruction names: the new count. Lends as many entries of scratch as there are constants.
-    "clear" turniploom_clear clear(code: &mut [u16], kinds: &mut [u8], words: &mut [u64], constants: usize, scratch: &mut [u32]);
-}
+include!("table.rs");

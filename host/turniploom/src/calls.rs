@@ -1,6 +1,5 @@
 //! The calls of block.rs, under its names and as near its signatures as a refusal allows. Code is a slice of [`Ins`](crate::Ins)
 //! or of their words.
-#![allow(unused_imports, dead_code)]
 
 use crate::{Code, Refusal, abi::{self, Answer}};
 
@@ -17,14 +16,12 @@ fn lent(tries: &[(usize, usize)]) -> Vec<u32> {
 }
 
 /// The role of the instruction at `k` as bits: 1 writes `a`; 2, 4, 8 reads `a`, `b`, `c`; 16 jumps to `a`; 32 none.
-#[cfg(exported = "kinds")]
 pub fn kinds(ins: &(impl Code + ?Sized), k: usize) -> Result<u8, Refusal> {
     Ok(bits(abi::kinds(ins.words(), k))? as u8)
 }
 
 /// What the instruction at `k` does with `a` to `c` (0 to 2): whether `a` is written, which fields are read registers, and
 /// whether `a` is a jump target.
-#[cfg(exported = "role")]
 pub fn role(ins: &(impl Code + ?Sized), k: usize) -> Result<Option<(bool, &'static [u8], bool)>, Refusal> {
     const READS: [&[u8]; 8] = [&[], &[0], &[1], &[0, 1], &[2], &[0, 2], &[1, 2], &[0, 1, 2]];
     let role = abi::role(ins.words(), k).granted()?;
@@ -32,53 +29,42 @@ pub fn role(ins: &(impl Code + ?Sized), k: usize) -> Result<Option<(bool, &'stat
 }
 
 /// Field `f` of the instruction at `k`: `a` for 0, `b` for 1, else `c`.
-#[cfg(exported = "field")]
 pub fn field(ins: &(impl Code + ?Sized), k: usize, f: u8) -> Result<u16, Refusal> {
     Ok(bits(abi::field(ins.words(), k, f))? as u16)
 }
 
 /// Whether the instruction at `k` writes register `r`.
-#[cfg(exported = "writes")]
 pub fn writes(ins: &(impl Code + ?Sized), k: usize, r: u16) -> Result<bool, Refusal> { truth(abi::writes(ins.words(), k, r)) }
 
 /// Whether code may be laid as a section.
-#[cfg(exported = "pure")]
 pub fn pure(ins: &(impl Code + ?Sized)) -> Result<bool, Refusal> { truth(abi::pure(ins.words())) }
 
 /// Whether laid code leaves nothing of its own on the stack between instructions, but what a PushRegs hands a Raise.
-#[cfg(exported = "flat")]
 pub fn flat(ins: &(impl Code + ?Sized)) -> Result<bool, Refusal> { truth(abi::flat(ins.words())) }
 
 /// Whether code has a `try` or a `with`.
-#[cfg(exported = "guarded")]
 pub fn guarded(ins: &(impl Code + ?Sized)) -> Result<bool, Refusal> { truth(abi::guarded(ins.words())) }
 
 /// Whether the PushRegs at `k` pushes the value that a ReturnValue returns.
-#[cfg(exported = "returns")]
 pub fn returns(ins: &(impl Code + ?Sized), k: usize) -> Result<bool, Refusal> { truth(abi::returns(ins.words(), k)) }
 
 /// The parameters, the first `arity` registers, that some instruction writes, a bit each for the first 64.
-#[cfg(exported = "params_written")]
 pub fn params_written(ins: &(impl Code + ?Sized), arity: usize) -> Result<u64, Refusal> { bits(abi::params_written(ins.words(), arity)) }
 
 /// For the call at `j`, one of the four, the parameters that it passes on as they are, a bit each.
-#[cfg(exported = "passed")]
 pub fn passed(ins: &(impl Code + ?Sized), j: usize, arity: usize) -> Result<u64, Refusal> { bits(abi::passed(ins.words(), j, arity)) }
 
 /// Whether a generator's body may be laid as the section that a `for` steps.
-#[cfg(exported = "gen_pure")]
 pub fn gen_pure(ins: &(impl Code + ?Sized)) -> Result<bool, Refusal> {
     truth(abi::gen_pure(ins.words(), &mut vec![0; length(ins)], &mut vec![0; length(ins)]))
 }
 
 /// Whether the slot `r` that the Phi at `k` writes is read on no path from it before a write.
-#[cfg(exported = "dead_phi")]
 pub fn dead_phi(ins: &(impl Code + ?Sized), k: usize, r: u16) -> Result<bool, Refusal> {
     truth(abi::dead_phi(ins.words(), k, r, &mut vec![0; length(ins)], &mut vec![0; length(ins)]))
 }
 
 /// For each position and the end, how many `for` loops it lies inside.
-#[cfg(exported = "loops_around")]
 pub fn loops_around(ins: &(impl Code + ?Sized)) -> Result<Vec<usize>, Refusal> {
     let mut out = vec![0; length(ins)];
     abi::loops_around(ins.words(), &mut out).granted()?;
@@ -86,7 +72,6 @@ pub fn loops_around(ins: &(impl Code + ?Sized)) -> Result<Vec<usize>, Refusal> {
 }
 
 /// Which positions a jump or the handler of one of `tries` lands on, the end too.
-#[cfg(exported = "targets")]
 pub fn targets(ins: &(impl Code + ?Sized), tries: &[(usize, usize)]) -> Result<Vec<bool>, Refusal> {
     let mut out = vec![0; length(ins)];
     abi::targets(ins.words(), &lent(tries), &mut out).granted()?;
@@ -102,21 +87,18 @@ pub fn targets(ins: &(impl Code + ?Sized), tries: &[(usize, usize)]) -> Result<V
 /// let k = [Ins::new(LoadGlobalR, 0, 7, 0, 0), Ins::new(LoadGlobalR, 1, 9, 0, 0), Ins::new(CallR, 1, 0, 0, 0)];
 /// assert_eq!(global_of(&k, 2), Ok(Some(9)));
 /// ```
-#[cfg(exported = "global_of")]
 pub fn global_of(ins: &(impl Code + ?Sized), j: usize) -> Result<Option<u16>, Refusal> {
     let found = abi::global_of(ins.words(), j).granted()?;
     Ok((found.first != 0).then_some(found.second as u16))
 }
 
 /// The PushRegs that pushed the value which the StoreTopR at `d` takes back into `r` past a call.
-#[cfg(exported = "pushed_back")]
 pub fn pushed_back(ins: &(impl Code + ?Sized), d: usize, r: u16) -> Result<Option<usize>, Refusal> {
     let found = abi::pushed_back(ins.words(), d, r).granted()?;
     Ok((found.first != 0).then_some(found.second as usize))
 }
 
 /// For the stack call at `j` of `n` positionals, the PushRegs that pushed its function, and the register.
-#[cfg(exported = "stack_callee")]
 pub fn stack_callee(ins: &(impl Code + ?Sized), j: usize, n: u16) -> Result<Option<(usize, u16)>, Refusal> {
     let found = abi::stack_callee(ins.words(), j, n).granted()?;
     Ok((found.first != 0).then_some((found.second as usize, found.third as u16)))
@@ -162,7 +144,6 @@ impl Kept {
 /// assert_eq!(found.at(2), [0, 1, 2]);
 /// # Ok::<(), turniploom::Refusal>(())
 /// ```
-#[cfg(exported = "kept")]
 pub fn kept(ins: &(impl Code + ?Sized), regs: usize, tries: &[(usize, usize)], wide: bool) -> Result<Kept, Refusal> {
     let words = abi::row_words(regs.min(1_024));
     let (code, tries, n) = (ins.words(), lent(tries), length(ins));
@@ -198,7 +179,6 @@ pub fn kept(ins: &(impl Code + ?Sized), regs: usize, tries: &[(usize, usize)], w
 /// assert_eq!(live_across(&k, 4, &[(3, 2)]), Err(Refusal::Try { index: 0 }));
 /// # Ok::<(), Refusal>(())
 /// ```
-#[cfg(exported = "kept")]
 pub fn live_across(ins: &(impl Code + ?Sized), regs: usize, tries: &[(usize, usize)]) -> Result<Vec<Vec<u16>>, Refusal> {
     let kept = kept(ins, regs, tries, false)?;
     Ok((0..kept.offsets.len() - 1).map(|k| kept.at(k).to_vec()).collect())

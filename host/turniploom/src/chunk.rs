@@ -1,5 +1,4 @@
 //! The call of optimizer.rs over a plain chunk, as near the Rust's as a refusal allows, and the clearing of its constants.
-#![allow(dead_code)]
 
 /// An instruction of a chunk: three words.
 #[derive(Clone, Copy, Debug, Default, PartialEq, Eq)]
@@ -78,7 +77,6 @@ pub struct Chunk {
 /// ]);
 /// # Ok::<(), turniploom::Refusal>(())
 /// ```
-#[cfg(exported = "fold")]
 pub fn constant_fold(chunk: &mut Chunk, strict: bool) -> Result<(), crate::Refusal> {
     let n = chunk.instructions.len();
     let count = chunk.constants.len();
@@ -117,7 +115,6 @@ pub fn constant_fold(chunk: &mut Chunk, strict: bool) -> Result<(), crate::Refus
 ///
 /// ```
 /// use turniploom::{Chunk, Constant::Int, Instruction, JUMP, NAMES, op::*};
-/// # #[cfg(exported = "clear")] {
 /// let mut folded = Chunk {
 ///     instructions: vec![
 ///         Instruction { opcode: LoadConst, marks: NAMES, operand: 2 },
@@ -129,10 +126,8 @@ pub fn constant_fold(chunk: &mut Chunk, strict: bool) -> Result<(), crate::Refus
 /// turniploom::clear(&mut folded)?;
 /// assert_eq!(folded.constants, [Int(5)]);
 /// assert_eq!(folded.instructions[0].operand, 0);
-/// # }
 /// # Ok::<(), turniploom::Refusal>(())
 /// ```
-#[cfg(exported = "clear")]
 pub fn clear(chunk: &mut Chunk) -> Result<(), crate::Refusal> {
     let count = chunk.constants.len();
     let mut code = words_of(chunk);
@@ -167,5 +162,4 @@ fn stored(constant: Constant) -> (u8, u64) {
     }
 }
 
-#[cfg(exported = "fold")]
 fn flat(pairs: &[(u32, u32)]) -> Vec<u32> { pairs.iter().flat_map(|&(at, byte)| [at, byte]).collect() }

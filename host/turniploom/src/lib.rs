@@ -7,7 +7,7 @@
 //!   imports; they panic on what is refused;
 //! - [`abi`] lends the caller's own buffers and allocates nothing.
 //!
-//! The crate is built with exactly the calls that the archive at hand exports: [`abi::EXPORTED`] lists them.
+//! [`abi::CALLS`] lists the exported calls. The archive must have every one: if one is missing, the build fails and names it.
 #![deny(missing_docs)]
 
 pub mod abi;

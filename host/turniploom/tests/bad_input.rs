@@ -1,5 +1,4 @@
 //! Every kind of bad code and bad position gets its refusal, from each call that takes code and a position.
-#![cfg(all(exported = "kinds", exported = "role", exported = "field", exported = "writes"))]
 
 use turniploom::{Code, DUNDER, Ins, REGISTER, Refusal, WIDE, field, kinds, op, role, writes};
 

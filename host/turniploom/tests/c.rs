@@ -1,7 +1,7 @@
 //! The header for C: a program in C is compiled with it, linked with the archive and run; its numbers are the crate's.
 
-use std::{env, fs, path::{Path, PathBuf}, process::Command};
-use turniploom::{abi::EXPORTED, op};
+use std::{collections::BTreeSet, env, fs, path::{Path, PathBuf}, process::Command};
+use turniploom::{abi::{CALLS, Call, Kind, Param, Width}, op};
 
 fn here() -> &'static Path { Path::new(env!("CARGO_MANIFEST_DIR")) }
 
@@ -11,7 +11,6 @@ fn header() -> String { fs::read_to_string(here().join("../../include/turniploom
 fn built(language: &str, flags: &[&str]) -> Option<String> {
     let out = PathBuf::from(env!("CARGO_TARGET_TMPDIR")).join(format!("host-{language}"));
     let gcc = Command::new("gcc").args(["-x", language, "-Wall", "-Wextra", "-Werror", "-pedantic"]).args(flags)
-        .args(EXPORTED.iter().map(|call| format!("-DHAVE_{call}")))
         .arg("-I").arg(here().join("../../include")).arg(here().join("tests/c/host.c")).args(["-x", "none"]).arg(env!("TURNIPLOOM_ARCHIVE")).arg("-o").arg(&out)
         .output().ok()?;
     let said = String::from_utf8_lossy(&gcc.stderr).into_owned();
@@ -30,6 +29,16 @@ fn a_host_in_c() {
     }
 }
 
+/// The calls that the archive defines are those of the table, neither fewer nor more.
+#[test]
+fn the_archive_has_exactly_the_calls_of_the_table() {
+    let nm = Command::new("nm").args(["-g", "--defined-only"]).arg(env!("TURNIPLOOM_ARCHIVE")).output().unwrap();
+    let text = String::from_utf8_lossy(&nm.stdout).into_owned();
+    let defined: BTreeSet<&str> = text.lines().filter_map(|l| l.split(' ').nth(2)).collect();
+    let table: Vec<String> = CALLS.iter().map(|c| format!("turniploom_{}", c.name)).collect();
+    assert_eq!(defined, table.iter().map(String::as_str).collect());
+}
+
 #[test]
 fn the_header_is_good_cpp_too() {
     if built("c++", &["-std=c++17"]).is_none() { println!("skipped: there is no compiler for C++") }
@@ -45,10 +54,62 @@ fn the_archive_leans_on_nothing() {
     assert!(undefined.iter().all(|s| defined(s)), "{undefined:?}");
 }
 
+/// A parameter as C has it: a slice is a pointer and a length.
+fn parameter(p: &Param) -> String {
+    let word = |w: Width| ["uint8_t", "uint16_t", "uint32_t", "uint64_t"][w as usize];
+    let name = p.name;
+    match p.kind {
+        Kind::Bool => format!("bool {name}"),
+        Kind::U8 => format!("uint8_t {name}"),
+        Kind::U16 => format!("uint16_t {name}"),
+        Kind::Slice(w) => format!("const {} *{name}, size_t {name}_len", word(w)),
+        Kind::Buffer(w) => format!("{} *{name}, size_t {name}_len", word(w)),
+        _ => format!("size_t {name}"),
+    }
+}
+
+/// Lines of at most 140 letters, each but the first after an indent.
+fn wrapped(first: &str, indent: &str, parts: impl Iterator<Item = String>) -> String {
+    let (mut text, mut line) = (String::new(), first.to_string());
+    for (k, part) in parts.enumerate() {
+        let space = if k == 0 { "" } else { " " };
+        if line.len() + space.len() + part.len() > 140 {
+            text += &line;
+            text += "\n";
+            line = indent.to_string() + &part;
+        } else {
+            line += space;
+            line += &part;
+        }
+    }
+    text + &line
+}
+
+/// A call as the header has it: what it is, what it answers, and its declaration.
+fn declared(call: &Call) -> String {
+    let answer: Vec<String> = call.answer.iter().map(|(place, value)| format!("{place}: {value}")).collect();
+    let words = |text: &str| text.trim().split(' ').map(str::to_string).collect::<Vec<_>>().into_iter();
+    let mut text = wrapped("/* ", " * ", words(&call.says.concat()));
+    if !answer.is_empty() { text += &format!("\n{}.", wrapped(" * ", " * ", words(&answer.join("; ")))) }
+    let head = format!("turniploom_answer turniploom_{}(", call.name);
+    let params = call.params.iter().map(parameter).collect::<Vec<_>>().join(", ") + ");";
+    // A parameter is not broken over lines.
+    let params: Vec<String> = params.split_inclusive(", ").map(|p| p.trim().to_string()).collect();
+    format!("{text} */\n{}\n", wrapped(&head, &" ".repeat(head.len()), params.into_iter()))
+}
+
+/// The header's calls follow from the table; if one is missing or differs, the text that is due is printed.
 #[test]
-fn the_header_has_every_call_and_opcode_number() {
+fn the_header_has_every_call_as_the_table_has_it() {
+    let due: Vec<String> = CALLS.iter().map(declared).collect();
     let text = header();
-    for call in EXPORTED { assert!(text.contains(&format!("turniploom_answer turniploom_{call}(")), "{call}") }
+    for call in &due { assert!(text.contains(call), "the header lacks this; all that is due:\n\n{}", due.join("\n")) }
+    assert_eq!(text.matches("\nturniploom_answer turniploom_").count(), due.len(), "the header has other calls than the table");
+}
+
+#[test]
+fn the_header_has_every_opcode_number() {
+    let text = header();
     let listed = text.split_once("enum turniploom_opcode {").unwrap().1.split_once('}').unwrap().0;
     let numbers: Vec<String> = listed.split(',').map(|n| n.trim().to_string()).collect();
     assert_eq!(numbers, op::ALL.map(|(number, name)| format!("TURNIPLOOM_{name} = {number}")));

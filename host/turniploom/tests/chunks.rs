@@ -1,5 +1,4 @@
 //! A chunk through the safe crate: folded, cleared, and folded again.
-#![cfg(all(exported = "fold", exported = "clear"))]
 
 use turniploom::{Chunk, Constant::*, Instruction, JUMP, NAMES, Refusal, clear, constant_fold, op::*};
 

@@ -32,27 +32,17 @@ fn no_call_allocates() {
     let (mut seen, mut todo, mut depths) = ([9u8; 7], [9u32; 7], [9u32; 7]);
     let (mut rows, mut offsets, mut list) = ([9u64; 7], [9u32; 7], [9u16; 8]);
     let before = ALLOCATED.get();
-    #[cfg(exported = "kinds")]
     assert_eq!(abi::kinds(code, 4).first, 13);
-    #[cfg(exported = "role")]
     assert_eq!(abi::role(code, 4).third, 6);
-    #[cfg(exported = "global_of")]
     assert_eq!(abi::global_of(code, 2).second, 9);
-    #[cfg(exported = "gen_pure")]
     assert_eq!((abi::gen_pure(code, &mut seen, &mut todo).first, seen, todo), (1, [0; 7], [0; 7]));
-    #[cfg(exported = "loops_around")]
     assert_eq!((abi::loops_around(code, &mut depths).refusal, depths), (0, [0; 7]));
-    #[cfg(exported = "kept")]
-    {
-        assert_eq!(abi::kept(code, 4, &[1, 5], false, &mut rows, &mut offsets, &mut list).first, 2);
-        assert_eq!((rows, offsets, list), ([0, 0, 3, 1, 5, 8, 0], [0, 0, 0, 2, 2, 2, 2], [0, 3, 9, 9, 9, 9, 9, 9]));
-    }
-    let _ = (code, &mut seen, &mut todo, &mut depths, &mut rows, &mut offsets, &mut list);
+    assert_eq!(abi::kept(code, 4, &[1, 5], false, &mut rows, &mut offsets, &mut list).first, 2);
+    assert_eq!((rows, offsets, list), ([0, 0, 3, 1, 5, 8, 0], [0, 0, 0, 2, 2, 2, 2], [0, 3, 9, 9, 9, 9, 9, 9]));
     assert_eq!(ALLOCATED.get(), before);
 }
 
 #[test]
-#[cfg(exported = "fold")]
 fn folding_allocates_nothing() {
     let mut code = [LoadConst, 2, 0, LoadConst, 2, 1, Add, 0, 0, Jump, 1, 2];
     let (mut kinds, mut words, mut dead, mut remap) = ([1, 1, 0], [2, 3, 0], [9; 4], [9; 5]);
@@ -64,7 +54,6 @@ fn folding_allocates_nothing() {
 }
 
 #[test]
-#[cfg(exported = "clear")]
 fn clearing_allocates_nothing() {
     let mut code = [LoadConst, 2, 2, Jump, 1, 1, LoadConst, 2, 3];
     let (mut kinds, mut words, mut scratch) = ([1, 1, 1, 9], [2, 3, 5, 9], [9; 4]);

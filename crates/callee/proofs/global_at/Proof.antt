@@ -1,6 +1,6 @@
 -- `callee::global_at` meets its contract. Assumes nothing.
 use borrow.Author.Needs.{needs}
-use mathlib.Core.Path.{_≡_, sym, _∙_}
+use mathlib.Core.Path.{_≡_}
 use mathlib.Core.List.{List}
 use Prim.Native.Nat.{ℕ}
 use borrow.Author.Tests.{eq-eqb, ne-eqb}
@@ -9,8 +9,7 @@ use Rattle.code.specs.Ins.{insAt}
 use Rattle.code.specs.declared.Ins.{Ins}
 use Rattle.callee.specs.declared.Callee.{Callee}
 use Rattle.callee.specs.declared.Callee.the-variants.{Bound, Unknown}
-use Rattle.callee.specs.declared.Step.{Step}
-use Rattle.callee.specs.Trace.{traced, ledBy, globalOf}
+use Rattle.callee.specs.Trace.{traced, globalOf}
 use Rattle.callee.proofs.global_at.Statement.{statement}
 use Rattle.callee.proofs.global_at.Tie as tie
 
@@ -20,9 +19,9 @@ module _ (w : List ℕ) (j : ℕ) (i : Ins) (e : i ≡ insAt w j) where
   by-name o = rw (eq-eqb (insAt w j .op) CallGlobalR (rw e at o), e)
 
   module _ (n : i .op ≡ CallGlobalR → ⊥) where
-    by-trace : (s : Step) (v : Callee) → i .op ≡ CallR → traced w (i .a) j ≡ ledBy w (i .a) s → v ≡ ledBy w (i .a) s → v ≡ globalOf w j
+    by-trace : (v : Callee) → i .op ≡ CallR → v ≡ traced w (i .a) j → v ≡ globalOf w j
     unfolding globalOf
-    by-trace s v o f t = rw (ne-eqb (insAt w j .op) CallGlobalR (rw e at n), eq-eqb (insAt w j .op) CallR (rw e at o)) (rw e at (t ∙ sym f))
+    by-trace v o t = rw (ne-eqb (insAt w j .op) CallGlobalR (rw e at n), eq-eqb (insAt w j .op) CallR (rw e at o)) (rw e at t)
 
     no-call : (i .op ≡ CallR → ⊥) → Unknown ≡ globalOf w j
     unfolding globalOf
@@ -34,9 +33,6 @@ ins-at-requires c κs = search needs
 returns : tie.Need-returns
 returns c = search (by-name, by-trace, no-call)
 
-last-step-requires : tie.Need-last-step-requires
-last-step-requires c κs = search needs
-
 trace-requires : tie.Need-trace-requires
 trace-requires c κs = search needs
 
@@ -47,4 +43,4 @@ returns-3 : tie.Need-returns-3
 returns-3 c = search (by-name, by-trace, no-call)
 
 pub global-at-spec : {M : Type 1} → statement M
-global-at-spec = tie.close (tie.spec ins-at-requires returns last-step-requires trace-requires returns-2 returns-3)
+global-at-spec = tie.close (tie.spec ins-at-requires returns trace-requires returns-2 returns-3)

@@ -1,7 +1,7 @@
 -- `optimizer::fold_needed` meets its contract. Assumes nothing.
 use borrow.Author.Needs.{needs}
 use lib.Seq.{length-take-le}
-use Rattle.optimizer.proofs.Anew.{took, took-by}
+use Rattle.finish.proofs.Anew.{took, took-by}
 use Rattle.optimizer.proofs.Whole.{exact-of, joins}
 use Rattle.optimizer.proofs.fold_needed.Statement.{statement}
 use Rattle.optimizer.proofs.fold_needed.Tie as tie

@@ -1,4 +1,4 @@
-/* A host in C: document 01's P1 and P13 through the header, each call only where the archive has it (-DHAVE_..). */
+/* A host in C: document 01's P1 and P13 through the header. */
 #include "turniploom.h"
 #include <stdio.h>
 #include <string.h>
@@ -14,34 +14,20 @@ static const uint16_t K[] = {
 enum { WORDS = sizeof K / sizeof K[0] };
 
 int main(void) {
-    (void)K;
-#ifdef HAVE_kinds
     SHOW(turniploom_kinds(K, WORDS, 4).first == 13);
     turniploom_answer refused = turniploom_kinds(K, WORDS - 1, 4);
     SHOW(refused.refusal == TURNIPLOOM_CODE && refused.first == WORDS - 1 && refused.second == 0);
     refused = turniploom_kinds(K, WORDS, 6);
     SHOW(refused.refusal == TURNIPLOOM_POSITION && refused.first == 6);
-#endif
-#ifdef HAVE_role
     turniploom_answer role = turniploom_role(K, WORDS, 4);
     SHOW(role.refusal == 0 && role.first == 1 && role.second == 1 && role.third == 6 && role.fourth == 0);
-#endif
-#ifdef HAVE_writes
     SHOW(turniploom_writes(K, WORDS, 4, 3).first == 1 && turniploom_writes(K, WORDS, 4, 0).first == 0);
-#endif
-#ifdef HAVE_global_of
     turniploom_answer callee = turniploom_global_of(K, WORDS, 2);
     SHOW(callee.first == 1 && callee.second == 9);
-#endif
-#ifdef HAVE_pure
     SHOW(turniploom_pure(K, WORDS).first == 1);
-#endif
-#ifdef HAVE_targets
     static const uint32_t try_to_5[] = {1, 5};
     uint8_t landed[7];
     SHOW(turniploom_targets(K, WORDS, try_to_5, 2, landed, 7).refusal == 0 && landed[5] == 1 && landed[4] == 0);
-#endif
-#ifdef HAVE_kept
     static const uint32_t try_1_5[] = {1, 5};
     static const uint64_t p1[] = {0, 0, 3, 1, 5, 8, 0};
     uint64_t rows[7];
@@ -54,8 +40,6 @@ int main(void) {
     SHOW(kept.refusal == TURNIPLOOM_BUFFER && kept.first == 3 && kept.second == 2);
     kept = turniploom_kept(K, WORDS, 4, try_1_5, 2, false, rows, 7, offsets, 7, list, 2);
     SHOW(kept.refusal == 0 && kept.first == 2 && list[0] == 0 && list[1] == 3);
-#endif
-#ifdef HAVE_fold
     uint16_t chunk[] = {TURNIPLOOM_LoadConst, TURNIPLOOM_NAMES_CONSTANT, 0, TURNIPLOOM_LoadConst, TURNIPLOOM_NAMES_CONSTANT, 1,
                         TURNIPLOOM_Add, 0, 0, TURNIPLOOM_Jump, TURNIPLOOM_IS_JUMP, 2};
     static const uint16_t p13[] = {TURNIPLOOM_LoadConst, TURNIPLOOM_NAMES_CONSTANT, 2, TURNIPLOOM_Jump, TURNIPLOOM_IS_JUMP, 1, 0, 0, 0, 0, 0, 0};
@@ -69,7 +53,6 @@ int main(void) {
     folded = turniploom_fold(chunk, 12, kinds, 3, words, 3, 2, phi_map, 4, 0, phi_sources, 0, 0, none, 0, 0, none, 0, 0, dead, 4, remap, 5, false);
     SHOW(folded.refusal == 0 && folded.first == 2 && folded.second == 3 && memcmp(chunk, p13, sizeof p13) == 0);
     SHOW(kinds[2] == TURNIPLOOM_INT && words[2] == 5 && dead[0] == 0 && dead[1] == 1 && dead[2] == 1 && dead[3] == 0 && remap[4] == 2);
-#ifdef HAVE_clear
     /* The fold left one load, so one constant is shipped. */
     uint32_t scratch[3];
     turniploom_answer cleared = turniploom_clear(chunk, 12, kinds, 3, words, 3, 3, scratch, 2);
@@ -77,8 +60,6 @@ int main(void) {
     cleared = turniploom_clear(chunk, 6, kinds, 3, words, 3, 3, scratch, 3);
     SHOW(cleared.refusal == 0 && cleared.first == 1 && chunk[2] == 0 && chunk[5] == 1 && words[0] == 5 && words[1] == 0 && kinds[2] == 0);
     SHOW(scratch[0] == 0 && scratch[1] == 0 && scratch[2] == 0);
-#endif
-#endif
     puts(failed ? "not all is well" : "all is well");
     return failed;
 }

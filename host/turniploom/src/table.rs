@@ -1,0 +1,58 @@
+// The exported calls: name, parameters, and what first to fourth of an answer are. A value that is not named is 0. The functions of
+// `abi`, the test of the archive, the header's check, the comparison's list and the replay of recorded answers all follow from this
+// table, and so does the build script, which includes it too.
+
+calls! {
+    /// The role of an instruction as bits.
+    kinds(code: &[u16], at: usize) -> { first: "1 writes a; 2, 4, 8 reads a, b, c; 16 jumps to a; 32 no role" };
+    /// The role of an instruction.
+    role(code: &[u16], at: usize) -> {
+        first: "1 if it has one, else 0", second: "1 if a is written", third: "the fields that are read, bit 0 a, 1 b, 2 c",
+        fourth: "1 if a is a jump's target"
+    };
+    /// A field of an instruction: a for f of 0, b for 1, else c.
+    field(code: &[u16], at: usize, f: u8) -> { first: "the field" };
+    /// Whether an instruction writes register r.
+    writes(code: &[u16], at: usize, r: u16) -> { first: "1 if so, else 0" };
+    /// Whether code may be laid as a section.
+    pure(code: &[u16]) -> { first: "1 if so, else 0" };
+    /// Whether laid code leaves nothing of its own on the stack.
+    flat(code: &[u16]) -> { first: "1 if so, else 0" };
+    /// Whether code has a try or a with.
+    guarded(code: &[u16]) -> { first: "1 if so, else 0" };
+    /// Whether a PushRegs pushes the value that a ReturnValue returns.
+    returns(code: &[u16], at: usize) -> { first: "1 if so, else 0" };
+    /// The parameters, the first arity registers, that some instruction writes.
+    params_written(code: &[u16], arity: usize) -> { first: "a bit for each, of the first 64" };
+    /// The parameters that a call passes on as they are.
+    passed(code: &[u16], at: usize, arity: usize) -> { first: "a bit for each" };
+    /// Whether a generator's body may be laid as a section. seen and todo are n + 1 long, and 0 after an answer.
+    gen_pure(code: &[u16], seen: &mut [u8], todo: &mut [u32]) -> { first: "1 if so, else 0" };
+    /// Whether what a Phi writes to r is read on no path. seen and todo are n + 1 long, and 0 after an answer.
+    dead_phi(code: &[u16], at: usize, r: u16, seen: &mut [u8], todo: &mut [u32]) -> { first: "1 if so, else 0" };
+    /// For each position and the end, how many for loops it lies inside. out is n + 1 long.
+    loops_around(code: &[u16], out: &mut [u32]) -> {};
+    /// For each position and the end, 1 if a jump or a handler lands there, else 0. out is n + 1 long.
+    targets(code: &[u16], tries: &[u32], out: &mut [u8]) -> {};
+    /// The module binding that a call calls.
+    global_of(code: &[u16], at: usize) -> { first: "1 if it is found, else 0", second: "the binding" };
+    /// The PushRegs that pushed what a StoreTopR takes back into r past a call.
+    pushed_back(code: &[u16], at: usize, r: u16) -> { first: "1 if it is found, else 0", second: "its position" };
+    /// The PushRegs that pushed the function of a stack call with count positionals.
+    stack_callee(code: &[u16], at: usize, count: u16) -> { first: "1 if it is found, else 0", second: "its position", third: "the register" };
+    /// The registers kept at each level. rows is (n + 1) times the words of a row long, offsets n + 1. A list too short is refused with
+    /// the length it needs, and the rows are then found. The list of position k is list[offsets[k]] up to list[offsets[k + 1]].
+    kept(code: &[u16], regs: usize, tries: &[u32], wide: bool, rows: &mut [u64], offsets: &mut [u32], list: &mut [u16]) -> {
+        first: "the length of the list", second: "full sweeps", third: "abandoned sweeps"
+    };
+    /// Folds a chunk. kinds and words need max(count, min(65,535, count + folding operators)) entries, phi_map n, phi_sources two for
+    /// each pair or Phi, dead n, remap n + 1. The counts of pair tables are in words.
+    fold(
+        code: &mut [u16], kinds: &mut [u8], words: &mut [u64], constants: usize, phi_map: &mut [u32], phi_map_count: usize,
+        phi_sources: &mut [u16], phi_sources_count: usize, stmt_pos: &mut [u32], stmt_pos_count: usize,
+        call_byte_pos: &mut [u32], call_byte_pos_count: usize, dead: &mut [u8], remap: &mut [u32], strict: bool
+    ) -> { first: "instructions", second: "constants", third: "entries of phi_map", fourth: "words of phi_sources" };
+    /// Drops the constants that no instruction names; the others keep their order, what names them is renumbered, and freed entries are
+    /// 0. scratch needs an entry for each constant, and then holds how many named ones stand before it.
+    clear(code: &mut [u16], kinds: &mut [u8], words: &mut [u64], constants: usize, scratch: &mut [u32]) -> { first: "constants left" };
+}

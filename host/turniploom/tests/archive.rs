@@ -1,0 +1,153 @@
+//! The archive: found in one way everywhere, held to the whole table of calls, and linked into hosts outside this workspace.
+
+use std::{env, fs, path::{Path, PathBuf}, process::{Command, Output}};
+
+/// The archive that this crate was built with.
+const ARCHIVE: &str = env!("TURNIPLOOM_ARCHIVE");
+
+fn here() -> &'static Path { Path::new(env!("CARGO_MANIFEST_DIR")) }
+
+/// An empty folder of a test's own, outside every workspace; it goes when the test is over.
+struct Folder(PathBuf);
+
+impl Drop for Folder {
+    fn drop(&mut self) { let _ = fs::remove_dir_all(&self.0); }
+}
+
+impl std::ops::Deref for Folder {
+    type Target = Path;
+    fn deref(&self) -> &Path { &self.0 }
+}
+
+fn folder(name: &str) -> Folder {
+    let path = env::temp_dir().canonicalize().unwrap().join(format!("turniploom-{name}-{}", std::process::id()));
+    fs::create_dir_all(&path).unwrap();
+    Folder(path)
+}
+
+/// What a host takes of this crate when it copies it: the manifest, the build script and the sources.
+fn copied(to: &Path) {
+    fs::create_dir_all(to.join("src")).unwrap();
+    for file in ["Cargo.toml", "build.rs"] { fs::copy(here().join(file), to.join(file)).unwrap(); }
+    for file in fs::read_dir(here().join("src")).unwrap() {
+        let file = file.unwrap();
+        fs::copy(file.path(), to.join("src").join(file.file_name())).unwrap();
+    }
+}
+
+/// Runs cargo for the crate in `place`, with TURNIPLOOM_LIB as given and no `rt` to be found. It builds in the test's own folder.
+fn cargo(folder: &Folder, place: &Path, words: &[&str], lib: Option<&str>) -> Output {
+    let mut command = Command::new(env!("CARGO"));
+    let path = env::var_os("PATH").unwrap();
+    let without_rt = env::split_paths(&path).filter(|dir| !dir.join("rt").exists());
+    command.args(words).args(["--offline", "--quiet"]).current_dir(place).env("PATH", env::join_paths(without_rt).unwrap());
+    command.env("CARGO_TARGET_DIR", folder.join("built")).env_remove("TURNIPLOOM_LIB");
+    if let Some(lib) = lib { command.env("TURNIPLOOM_LIB", lib); }
+    command.output().unwrap()
+}
+
+/// What a build that must fail says.
+fn refused(folder: &Folder, place: &Path, lib: Option<&str>) -> String {
+    let out = cargo(folder, place, &["check"], lib);
+    assert!(!out.status.success(), "it was built");
+    String::from_utf8(out.stderr).unwrap()
+}
+
+/// A copy of the repository as far as the build script looks at it, with no archive: its root and the crate in it.
+fn repository(name: &str) -> (Folder, PathBuf) {
+    let root = folder(name);
+    fs::create_dir_all(root.join("crates/turniploom")).unwrap();
+    fs::write(root.join("crates.txt"), "").unwrap();
+    let inside = root.join("host/turniploom");
+    copied(&inside);
+    (root, inside)
+}
+
+#[test]
+fn without_archive_and_rt_the_build_names_the_path_and_two_ways() {
+    let (root, inside) = repository("bare");
+    for lib in [None, Some("")] {
+        let says = refused(&root, &inside, lib);
+        assert!(says.contains(&format!("no archive of the proved calls at {} (rt can't be run", root.join("target/staticlib/libturniploom.a").display())), "{says}");
+        assert!(says.contains(&format!("run `rt staticlib turniploom` in {}; or set TURNIPLOOM_LIB to the whole path of one", root.display())), "{says}");
+    }
+}
+
+#[test]
+fn a_copy_alone_looks_beside_its_manifest() {
+    let alone = folder("alone");
+    copied(&alone);
+    let says = refused(&alone, &alone, None);
+    assert!(says.contains(&format!("no archive of the proved calls at {}", alone.join("libturniploom.a").display())) && says.contains("Two ways to get one"), "{says}");
+}
+
+#[test]
+fn a_named_archive_is_that_one_or_none() {
+    let (root, inside) = repository("named");
+    // The repository has one too: it does not stand in for one that is named and not there.
+    fs::create_dir_all(root.join("target/staticlib")).unwrap();
+    fs::copy(ARCHIVE, root.join("target/staticlib/libturniploom.a")).unwrap();
+    assert!(cargo(&root, &inside, &["check"], None).status.success());
+    let gone = root.join("gone.a");
+    assert!(refused(&root, &inside, gone.to_str()).contains(&format!("TURNIPLOOM_LIB is {}, and no archive is there", gone.display())));
+    for relative in ["target/staticlib/libturniploom.a", "../../target/staticlib/libturniploom.a"] {
+        assert!(refused(&root, &inside, Some(relative)).contains(&format!("TURNIPLOOM_LIB is {relative}, a relative path: give the whole path")));
+    }
+    let text = root.join("text.a");
+    fs::write(&text, "no archive").unwrap();
+    assert!(refused(&root, &inside, text.to_str()).contains(&format!("{} is no archive with an index of its symbols", text.display())));
+}
+
+#[test]
+fn a_lost_call_fails_the_build_and_is_named() {
+    let folder = folder("lost");
+    let lost = folder.join("libturniploom.a");
+    let renamed = ["turniploom_kept=elsewhere_kept", "turniploom_fold=elsewhere_fold"].iter().flat_map(|names| ["--redefine-sym", names]);
+    assert!(Command::new("objcopy").args(renamed).arg(ARCHIVE).arg(&lost).status().unwrap().success());
+    let says = refused(&folder, here(), lost.to_str());
+    assert!(says.contains(&format!("the archive {} does not export turniploom_kept, turniploom_fold: make it anew", lost.display())), "{says}");
+}
+
+/// A crate of its own, outside every workspace, that takes this crate by a path.
+fn host(folder: &Path, name: &str, path: &Path, main: &str) {
+    fs::create_dir_all(folder.join("src")).unwrap();
+    let manifest = format!(
+        "[package]\nname = {name:?}\nversion = \"0.1.0\"\nedition = \"2024\"\n\n[dependencies]\nturniploom = {{ path = {path:?} }}\n\n[workspace]\n"
+    );
+    fs::write(folder.join("Cargo.toml"), manifest).unwrap();
+    fs::write(folder.join("src/main.rs"), main).unwrap();
+}
+
+/// What a host prints.
+fn printed(folder: &Folder, lib: Option<&str>) -> String {
+    let out = cargo(folder, folder, &["run"], lib);
+    assert!(out.status.success(), "{}", String::from_utf8_lossy(&out.stderr));
+    String::from_utf8(out.stdout).unwrap()
+}
+
+const KEEP: &str = "
+use turniploom::{Ins, op::*};
+fn main() {
+    let code = [Ins::new(CallGlobalR, 3, 0, 0, 0), Ins::new(StoreTopR, 1, 0, 0, 0), Ins::new(AddR, 2, 0, 1, 0), Ins::new(ReturnR, 0, 2, 0, 0)];
+    println!(\"{:?}\", turniploom::live_across(&code, 3, &[]).unwrap()[0]);
+}";
+
+/// By its path in the repository, with an archive that is reached through a link of another name.
+#[test]
+fn a_host_outside_the_workspace_by_path() {
+    let folder = folder("by-path");
+    let link = folder.join("calls-of-today.a");
+    std::os::unix::fs::symlink(ARCHIVE, &link).unwrap();
+    host(&folder, "by-path", here(), KEEP);
+    assert_eq!(printed(&folder, link.to_str()), "[0]\n");
+}
+
+/// By a copy that holds its own archive, with nothing of this repository at hand.
+#[test]
+fn a_host_with_a_copy_of_the_crate() {
+    let folder = folder("by-copy");
+    copied(&folder.join("vendor/turniploom"));
+    fs::copy(ARCHIVE, folder.join("vendor/turniploom/libturniploom.a")).unwrap();
+    host(&folder, "by-copy", Path::new("vendor/turniploom"), KEEP);
+    assert_eq!(printed(&folder, None), "[0]\n");
+}

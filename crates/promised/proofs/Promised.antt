@@ -20,7 +20,8 @@ use Rattle.refold.proofs.Relent.{relent}
 use Rattle.exported.proofs.Answered.{one}
 use Rattle.exported.proofs.Writing.{targets-settles, loops-settles, dead-settles, gen-settles, dead-truth, gen-truth}
 use Rattle.exported.proofs.Kept.{kept-settles, kept-holds, routes-same}
-use Rattle.exported.proofs.Folded.{fold-settles, pool-kept, tables-kept, tries-kept, landings-true, code-again, none-died, folds-next, clears-next, folds-cleared, folds-same}
+use Rattle.exported.proofs.Folded.{fold-settles, pool-kept, tables-kept, tries-kept, landings-true, code-again, none-died}
+use Rattle.exported.proofs.Folded.{folds-next, clears-next, folds-cleared, folds-same}
 use Rattle.exported.proofs.Ran.{runs-kept}
 use Rattle.exported.proofs.Cleared.{clear-settles, clear-holds, cleared-twice}
 use Rattle.promised.specs.Promised.{Promised}

@@ -26,7 +26,8 @@ use Rattle.optimizer.specs.declared.Folded.{Folded}
 use Rattle.optimizer.proofs.Tries.{table-after, past-none}
 use Rattle.refold.specs.Lending.{Lending, readyFor, Folds}
 use Rattle.refold.specs.Left.{TriesLeft, LandingsLeft}
-use Rattle.refold.proofs.Lends.{o, before, after, all-left, all-settled, marks, end-marks, tries-left, n-is, few, after-code, check-count, call-answered, by-call}
+use Rattle.refold.proofs.Lends.{o, before, after, all-left, all-settled, marks, end-marks, tries-left, n-is, few, after-code}
+use Rattle.refold.proofs.Lends.{check-count, call-answered, by-call}
 use Rattle.code.specs.declared.Checked.the-variants.{Count}
 
 -- a test that fails from r on passes as often below r

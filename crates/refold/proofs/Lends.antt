@@ -36,7 +36,8 @@ use Rattle.compact.specs.Remap.{alive}
 use Rattle.compact.specs.Tables.{movedAll}
 use Rattle.compact.proofs.Mapped.{moved-long, none-moved}
 use Rattle.finish.specs.Finish.{Tables, tables, finished, Fit}
-use Rattle.optimizer.specs.Fold.{Buffers, lensOf, needed, sourcesNeeded, Outcome, outcome, foldPass, constantFold, joined, foldLent, Called, rejoined, foldCall, Held, Exact}
+use Rattle.optimizer.specs.Fold.{Buffers, lensOf, needed, sourcesNeeded, Outcome, outcome, foldPass, constantFold, joined}
+use Rattle.optimizer.specs.Fold.{foldLent, Called, rejoined, foldCall, Held, Exact}
 use Rattle.optimizer.specs.declared.Folded.{Folded}
 use Rattle.optimizer.specs.declared.FoldAnswer.{FoldAnswer}
 use Rattle.optimizer.specs.declared.FoldAnswer.the-variants.{Is, No}

@@ -3,3 +3,4 @@ pub mod Writing
 pub mod Kept
 pub mod Folded
 pub mod Cleared
+pub mod Ran

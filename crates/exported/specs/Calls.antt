@@ -11,8 +11,8 @@ use Rattle.code.specs.declared.Answer.{Answer}
 use Rattle.flow.specs.Words.{Small}
 use Rattle.kept.specs.Answers.{scratchFor}
 use Rattle.lent.specs.declared.Counts.{Counts}
-use Rattle.optimizer.specs.Fold.{Buffers}
 use Rattle.clear.specs.Clear as clearing
+use Rattle.refold.specs.Lending.{Lending}
 use Rattle.turniploom.specs.Answers.{TargetsTold, LoopsTold, DeadTold, GenTold, KeptTold, FoldTold, ClearTold}
 use Rattle.exported.specs.Settles.{Refusal}
 
@@ -69,8 +69,8 @@ pub record KeptSettles (bits : ℕ) (w : List ℕ) (regs : ℕ) (tries : List �
 
 -- ---- fold and clear
 
-abbrev pub FoldCall : Bool → Counts → Buffers → Answer → Buffers → Type 0
-FoldCall strict c b r a = FoldTold strict b c r a
+abbrev pub FoldCall : Bool → Counts → Lending → Answer → Lending → Type 0
+FoldCall strict c b r a = FoldTold strict (b .buffers) (b .tries) (b .landings) c r (a .buffers) (a .tries) (a .landings)
 
 abbrev pub ClearCall : ℕ → clearing.Buffers → Answer → clearing.Buffers → Type 0
 ClearCall m b r a = ClearTold b m r a

@@ -18,12 +18,13 @@ use Rattle.kept.specs.Lists.{partAt}
 use Rattle.lent.specs.Chunk as chunk
 use Rattle.lent.specs.Chunk.{opAt, markAt, operandAt, names}
 use Rattle.lent.specs.declared.Counts.{Counts}
-use Rattle.optimizer.specs.Fold.{Buffers}
 use Rattle.optimizer.specs.declared.Folded.{Folded}
 use Rattle.clear.specs.Unused.{named, before, numbered, loaded}
 use Rattle.clear.specs.Clear as clearing
+use Rattle.refold.specs.Lending.{Lending}
 use Rattle.refold.specs.Lendable.{cutAt, countsLeft, clearable, clearedBuffers, withConstants, countsCleared}
-use Rattle.refold.specs.Refolded.{Refolded}
+use Rattle.refold.specs.Refolded.{RefoldedAll}
+use Rattle.runs.specs.Kept.{Same}
 use Rattle.exported.specs.Calls.{Lists, FoldCall, ClearCall}
 
 -- ---- dead_phi and gen_pure
@@ -86,33 +87,43 @@ abbrev pub foldedOf : Answer → Folded
 foldedOf r = record { instructions = r .first; constants = r .second; map = r .third; sources = r .fourth }
 
 -- what a fold left is lent to another, the code cut at the answered count and the counts as answered: it is answered too
-abbrev pub FoldsNext : Counts → Answer → Buffers → Type 0
-FoldsNext c r a = (strict : Bool) (t : Answer) (y : Buffers) → FoldCall strict (countsLeft (foldedOf r) c) (cutAt (foldedOf r) a) t y → t .refusal ≡ 0
+abbrev pub FoldsNext : Counts → Answer → Lending → Type 0
+FoldsNext c r a = (strict : Bool) (t : Answer) (y : Lending) → FoldCall strict (countsLeft (foldedOf r) c) (cutAt (foldedOf r) a) t y → t .refusal ≡ 0
 
 -- it is cleared first, with a scratch as long as there are constants, and folded again: both are answered
-abbrev pub ClearsNext : Counts → Answer → Buffers → Type 0
+abbrev pub ClearsNext : Counts → Answer → Lending → Type 0
 ClearsNext c r a =
     (scratch : List ℕ) → r .second ≤ length scratch
     → (s : Answer) (x : clearing.Buffers) → ClearCall (r .second) (clearable (foldedOf r) a scratch) s x
     → (s .refusal ≡ 0)
-    × ((strict : Bool) (t : Answer) (y : Buffers) → FoldCall strict (countsCleared (foldedOf r) c (s .first)) (clearedBuffers a x) t y → t .refusal ≡ 0)
+    × ((strict : Bool) (t : Answer) (y : Lending) → FoldCall strict (countsCleared (foldedOf r) c (s .first)) (clearedBuffers a x) t y → t .refusal ≡ 0)
+
+-- what the clearing call is lent of b
+abbrev pub clearingOf : Lending → List ℕ → clearing.Buffers
+clearingOf b scratch = clearing.buffers (b .buffers .code) (b .buffers .kinds) (b .buffers .words) scratch
 
 -- the chunk b is cleared before it is folded: both calls are answered, and the fold is as the one that answered r and left a
-abbrev pub FoldsSame : Bool → Buffers → Counts → Answer → Buffers → Type 0
+abbrev pub FoldsSame : Bool → Lending → Counts → Answer → Lending → Type 0
 FoldsSame strict b c r a =
     (scratch : List ℕ) → c .constants ≤ length scratch
-    → (s : Answer) (x : clearing.Buffers) → ClearCall (c .constants) (clearing.buffers (b .code) (b .kinds) (b .words) scratch) s x
-    → (t : Answer) (y : Buffers)
+    → (s : Answer) (x : clearing.Buffers) → ClearCall (c .constants) (clearingOf b scratch) s x
+    → (t : Answer) (y : Lending)
     → FoldCall strict (withConstants (s .first) c) (clearedBuffers b x) t y
-    → (s .refusal ≡ 0) × (t .refusal ≡ 0) × Refolded (foldedOf r) a (foldedOf t) y
+    → (s .refusal ≡ 0) × (t .refusal ≡ 0) × RefoldedAll (foldedOf r) a (foldedOf t) y
 
 -- a chunk that the folding call accepts is accepted after clearing too, with the same buffers
-abbrev pub FoldsCleared : Buffers → Counts → Type 0
+abbrev pub FoldsCleared : Lending → Counts → Type 0
 FoldsCleared b c =
-    (scratch : List ℕ) (s : Answer) (x : clearing.Buffers) → ClearCall (c .constants) (clearing.buffers (b .code) (b .kinds) (b .words) scratch) s x
+    (scratch : List ℕ) (s : Answer) (x : clearing.Buffers) → ClearCall (c .constants) (clearingOf b scratch) s x
     → s .refusal ≡ 0
-    → (strict : Bool) (t : Answer) (y : Buffers)
+    → (strict : Bool) (t : Answer) (y : Lending)
     → FoldCall strict (withConstants (s .first) c) (clearedBuffers b x) t y → t .refusal ≡ 0
+
+-- a run from an empty stack ends before the fold exactly when it ends after it, with the same stack or the same stop
+abbrev pub RunsKept : Lending → Answer → Lending → Type 0
+RunsKept b r a =
+    Same (b .buffers .code) (b .buffers .kinds) (b .buffers .words) (chunk.count (b .buffers .code))
+    (a .buffers .code) (a .buffers .kinds) (a .buffers .words) (r .first)
 
 -- ---- clear
 

@@ -8,14 +8,16 @@ use Rattle.values.specs.Folds.{inRange, ints, foldBinop}
 use Rattle.chunk.specs.Pool.{toVal, constToVal, findOrPush, findOrPushConst}
 use Rattle.lent.specs.Chunk.{folds, rules}
 use Rattle.lent.specs.Check.{checkOf, tablesOf, tallyOf, roomsOf, readyOf}
+use Rattle.code.specs.Check.{firstBadTry}
+use Rattle.landings.specs.Landings.{lands, barred}
 use Rattle.fold.specs.Plan as plan
-use Rattle.fold.specs.Plan.{kindOf, prevLive, lands, skipsInto, blocked, tryFoldBinop, planFor, planAt}
+use Rattle.fold.specs.Plan.{kindOf, prevLive, skipsInto, blocked, tryFoldBinop, planFor, planAt}
 use Rattle.fold.specs.Pass.{constLoad, markOf, put, landed, applied, tryFold, folded, foldAll}
 use Rattle.compact.specs.Remap.{remapOf, mapped}
 use Rattle.compact.specs.Tables.{operandOf, left, compacted, placed}
 use Rattle.phi_pass.specs.Phi.{paired, noop, markAt, marked, pairsLeft, indexed}
 use Rattle.finish.specs.Finish.{sourcesAfter, renewed, finished}
-use Rattle.optimizer.specs.Fold.{foldPass, constantFold, joined, foldCall}
+use Rattle.optimizer.specs.Fold.{foldPass, constantFold, joined, foldLent, rejoined, foldCall}
 use Rattle.clear.specs.Unused as unused
 use Rattle.clear.specs.Unused.{named, pooled, renumbered, recoded, numbered}
 use Rattle.clear.specs.Clear as clearing
@@ -23,5 +25,5 @@ use Rattle.clear.specs.Clear.{cleared, clearCall}
 use Rattle.promised.specs.Late.{Late}
 
 pub late : Late
-unfolding every many each some first inRange ints foldBinop toVal constToVal findOrPush findOrPushConst folds rules checkOf tablesOf tallyOf roomsOf readyOf plan.page plan.operandOf kindOf prevLive lands skipsInto blocked tryFoldBinop planFor planAt constLoad markOf put landed applied tryFold folded foldAll remapOf mapped operandOf left compacted placed paired noop markAt marked pairsLeft indexed sourcesAfter renewed finished foldPass constantFold joined foldCall unused.kept unused.operandOf named pooled renumbered recoded numbered clearing.readyOf cleared clearCall
+unfolding every many each some first inRange ints foldBinop toVal constToVal findOrPush findOrPushConst folds rules checkOf tablesOf tallyOf roomsOf readyOf plan.page plan.operandOf kindOf prevLive lands skipsInto blocked tryFoldBinop planFor planAt constLoad markOf put landed applied tryFold folded foldAll remapOf mapped operandOf left compacted placed paired noop markAt marked pairsLeft indexed sourcesAfter renewed finished foldPass constantFold joined foldLent rejoined foldCall firstBadTry barred unused.kept unused.operandOf named pooled renumbered recoded numbered clearing.readyOf cleared clearCall
 late = record { uncleared = refl; cleared = refl; refolded = refl; p13 = refl }

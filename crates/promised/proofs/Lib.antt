@@ -1,3 +1,4 @@
 pub mod Marked
 pub mod Late
+pub mod Breaks
 pub mod Promised

@@ -12,6 +12,8 @@ use Rattle.walks.specs.Answers.{pureAnswer, flatAnswer, guardedAnswer, returnsA
 use Rattle.surveys.specs.Answers.{writtenAnswer, passedAnswer}
 use Rattle.callee.specs.Answers.{globalAnswer, pushAnswer, stackAnswer}
 use Rattle.turniploom.specs.Answers.{kindsTold, roleTold, fieldTold, truthTold, bitsTold, globalTold, pushTold, stackTold}
+use Rattle.fold.proofs.Landed.{same-folds, still-true}
+use Rattle.runs.proofs.Lock.{one-end}
 use Rattle.clear.proofs.Kept.{named-by, naming}
 use Rattle.refold.proofs.Operators.{operators-same}
 use Rattle.refold.proofs.Jumped.{jumped}
@@ -19,7 +21,9 @@ use Rattle.refold.proofs.Relent.{relent}
 use Rattle.exported.proofs.Answered.{one}
 use Rattle.exported.proofs.Writing.{targets-settles, loops-settles, dead-settles, gen-settles, dead-truth, gen-truth}
 use Rattle.exported.proofs.Kept.{kept-settles, kept-holds, routes-same}
-use Rattle.exported.proofs.Folded.{fold-settles, pool-kept, tables-kept, code-again, none-died, folds-next, clears-next, folds-cleared, folds-same}
+use Rattle.exported.proofs.Folded.{fold-settles, pool-kept, tables-kept, tries-kept, landings-true, code-again, none-died}
+use Rattle.exported.proofs.Folded.{folds-next, clears-next, folds-cleared, folds-same}
+use Rattle.exported.proofs.Ran.{runs-kept}
 use Rattle.exported.proofs.Cleared.{clear-settles, clear-holds, cleared-twice}
 use Rattle.levels.specs.Answers.{levelAnswer}
 use Rattle.turniploom.proofs.Alone.{one-make, one-enter, one-leave}
@@ -29,6 +33,7 @@ use Rattle.figured.proofs.Kept.{kept-added, kept-total}
 use Rattle.promised.specs.Promised.{Promised}
 use Rattle.promised.proofs.Marked.{marked}
 use Rattle.promised.proofs.Late.{late}
+use Rattle.promised.proofs.Breaks.{plain-breaks}
 
 pub promised : Promised
 promised =
@@ -94,6 +99,13 @@ promised =
       folds-cleared = folds-cleared;
       folds-same = folds-same;
       late = late;
+      same-folds = same-folds;
+      still-true = still-true;
+      fold-landings = landings-true;
+      fold-tries = tries-kept;
+      runs-kept = runs-kept;
+      one-end = λ code n k s e e′ x y. one-end x y;
+      plain-breaks = plain-breaks;
       named-by = λ w i k x. named-by w i k (x .there) (x .mark) (x .is);
       naming = λ w i e. let x = naming w i e in (x .by, record { there = x .there; mark = x .mark; is = x .is });
       clear-holds = clear-holds;

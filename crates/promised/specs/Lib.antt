@@ -1,4 +1,5 @@
 pub mod Marked
 pub mod Late
 pub mod Above
+pub mod Breaks
 pub mod Promised

@@ -31,22 +31,26 @@ use Rattle.lent.specs.Chunk as chunk
 use Rattle.lent.specs.Chunk.{operandAt, names, folds}
 use Rattle.lent.specs.Check.{checkOf, readyOf}
 use Rattle.lent.specs.declared.Counts.{Counts}
-use Rattle.fold.specs.Plan.{kindOf}
-use Rattle.fold.specs.Pass.{foldAll}
-use Rattle.optimizer.specs.Fold.{Buffers, outcome}
+use Rattle.fold.specs.Plan.{Chunk, kindOf}
+use Rattle.landings.specs.Landings.{landingsOf, Unmarked}
+use Rattle.fold.specs.Pass.{Bars, byScan, byTable, folded, foldAll}
 use Rattle.optimizer.specs.declared.FoldAnswer.the-variants as fold
 use Rattle.clear.specs.Unused.{AllNear, named}
 use Rattle.clear.specs.Clear as clearing
+use Rattle.refold.specs.Lending.{Lending, leaving}
 use Rattle.refold.specs.Lendable.{Lendable}
-use Rattle.refold.specs.Left.{PoolLeft, FoldBeyond, NoneDied, asLent, tried}
+use Rattle.refold.specs.Left.{PoolLeft, FoldBeyond, NoneDied, asLent, TriesLeft, LandingsLeft, tried}
 use Rattle.refold.specs.Examples.{jumping, summed, crossed, crossedCounts, crossedLens}
+use Rattle.runs.specs.Machine.{Ins, Stack, End, Run}
+use Rattle.runs.specs.Rule.{Rule}
 use Rattle.turniploom.specs.Answers.{kindsTold, roleTold, fieldTold, truthTold, bitsTold, globalTold, pushTold, stackTold, MadeTold, EnterTold, LeaveTold}
 use Rattle.exported.specs.Settles.{One, Settles}
 use Rattle.exported.specs.Calls.{TargetsCall, LoopsCall, EntriesBeyond, Marks, DeadCall, GenCall, MarksBeyond, Lists, KeptCall, KeptSettles}
 use Rattle.exported.specs.Calls.{FoldCall, ClearCall, ClearBeyond}
-use Rattle.exported.specs.Told.{Truth, listLeft, KeptHolds, SameLists, foldedOf, FoldsNext, ClearsNext, FoldsCleared, FoldsSame, ClearHolds, ClearedTwice}
+use Rattle.exported.specs.Told.{Truth, listLeft, KeptHolds, SameLists, foldedOf, FoldsNext, ClearsNext, FoldsCleared, FoldsSame, RunsKept, ClearHolds, ClearedTwice}
 use Rattle.promised.specs.Marked.{Marked}
 use Rattle.promised.specs.Late.{Late}
+use Rattle.promised.specs.Breaks.{Breaks}
 use Rattle.promised.specs.Above.{AtLevel, Entered}
 use Rattle.code.specs.Ins.{count}
 use Rattle.code.specs.Answers.{answerOf, refusalOf}
@@ -114,7 +118,7 @@ pub record Promised : Type 0 where
   pub kept : (w : List ℕ) (regs : ℕ) (tries : List ℕ) (wide : Bool) → KeptSettles 64 w regs tries wide
   -- kept32 does the same with words of 32 bits
   pub kept32 : (w : List ℕ) (regs : ℕ) (tries : List ℕ) (wide : Bool) → KeptSettles 32 w regs tries wide
-  -- fold settles its nine buffers
+  -- fold settles its nine buffers, the tries and the table of landings
   pub folding : (strict : Bool) (c : Counts) → Settles (FoldCall strict c) (FoldBeyond c)
   -- clear settles its four buffers
   pub clear : (m : ℕ) → Settles (ClearCall m) (ClearBeyond m)
@@ -180,36 +184,60 @@ pub record Promised : Type 0 where
   -- the operators that room is counted for are the operators that are tried
   pub operators-same : (o : ℕ) → folds o ≡ tried (kindOf o)
   -- in plain mode the jump before the first operand forbids the fold if it lands between, the operator included, and not past it or on the first operand
-  pub jumped : (foldAll false (jumping 1) ≡ summed 1)
-      × (foldAll false (jumping 2) ≡ jumping 2)
-      × (foldAll false (jumping 3) ≡ jumping 3)
-      × (foldAll false (jumping 4) ≡ summed 4)
+  pub jumped : (tries : List ℕ) → (foldAll (byScan false tries) (jumping 1) ≡ summed 1)
+      × (foldAll (byScan false tries) (jumping 2) ≡ jumping 2)
+      × (foldAll (byScan false tries) (jumping 3) ≡ jumping 3)
+      × (foldAll (byScan false tries) (jumping 4) ≡ summed 4)
   -- constants below the old count stay, and so do entries past the new one
-  pub fold-pool : (strict : Bool) (c : Counts) (b : Buffers) (r : Answer) (a : Buffers) → FoldCall strict c b r a → r .refusal ≡ 0 → PoolLeft b c (foldedOf r) a
+  pub fold-pool : (strict : Bool) (c : Counts) (b : Lending) (r : Answer) (a : Lending) → FoldCall strict c b r a → r .refusal ≡ 0
+      → PoolLeft (b .buffers) c (foldedOf r) (a .buffers)
   -- the code that is left keeps the record rules, every table its rule, and there is room for the next fold
-  pub fold-tables : (strict : Bool) (c : Counts) (b : Buffers) (r : Answer) (a : Buffers) → FoldCall strict c b r a → r .refusal ≡ 0 → Lendable (foldedOf r) c a
+  pub fold-tables : (strict : Bool) (c : Counts) (b : Lending) (r : Answer) (a : Lending) → FoldCall strict c b r a → r .refusal ≡ 0 → Lendable (foldedOf r) c a
   -- with the words past it, which are 0, it keeps them too
-  pub fold-code : (strict : Bool) (c : Counts) (b : Buffers) (r : Answer) (a : Buffers) → FoldCall strict c b r a → r .refusal ≡ 0
-      → (n : ℕ) → checkOf (b .code) ≡ stage.Count n → checkOf (a .code) ≡ stage.Count n
-  -- if nothing died, code, constants and every table stay as lent, and the dead marks are 0
-  pub fold-idle : (strict : Bool) (c : Counts) (b : Buffers) (r : Answer) (a : Buffers) → FoldCall strict c b r a → r .refusal ≡ 0
-      → NoneDied b a → outcome (fold.Is (foldedOf r)) a ≡ asLent b c
+  pub fold-code : (strict : Bool) (c : Counts) (b : Lending) (r : Answer) (a : Lending) → FoldCall strict c b r a → r .refusal ≡ 0
+      → (n : ℕ) → checkOf (b .buffers .code) ≡ stage.Count n → checkOf (a .buffers .code) ≡ stage.Count n
+  -- if nothing died, code, constants, tries and every table stay as lent, the dead marks are 0, and the landings are those of what was lent
+  pub fold-idle : (strict : Bool) (c : Counts) (b : Lending) (r : Answer) (a : Lending) → FoldCall strict c b r a → r .refusal ≡ 0
+      → NoneDied (b .buffers) (a .buffers) → leaving (fold.Is (foldedOf r)) a ≡ asLent b c
   -- ---- fold, clear, fold
 
   -- a folded chunk, its code cut at the answered count and the counts as answered, is folded again and not refused
-  pub folds-next : (strict : Bool) (c : Counts) (b : Buffers) (r : Answer) (a : Buffers) → FoldCall strict c b r a → r .refusal ≡ 0 → FoldsNext c r a
+  pub folds-next : (strict : Bool) (c : Counts) (b : Lending) (r : Answer) (a : Lending) → FoldCall strict c b r a → r .refusal ≡ 0 → FoldsNext c r a
   -- it is cleared, with a scratch as long as it has constants, and then folded, and neither is refused
-  pub clears-next : (strict : Bool) (c : Counts) (b : Buffers) (r : Answer) (a : Buffers) → FoldCall strict c b r a → r .refusal ≡ 0 → ClearsNext c r a
+  pub clears-next : (strict : Bool) (c : Counts) (b : Lending) (r : Answer) (a : Lending) → FoldCall strict c b r a → r .refusal ≡ 0 → ClearsNext c r a
   -- uncut it may be refused: so is what is left of three Phis, with 7 for table 2
-  pub uncut : readyOf crossed [] [] crossedCounts crossedLens ≡ stage.No (Table 2)
+  pub uncut : readyOf crossed [] [] [] crossedCounts crossedLens 4 ≡ stage.No (Table 2)
   -- what the folding call accepts it accepts after clearing too, with the same buffers
-  pub folds-cleared : (strict : Bool) (c : Counts) (b : Buffers) (r : Answer) (a : Buffers) → FoldCall strict c b r a → r .refusal ≡ 0 → FoldsCleared b c
+  pub folds-cleared : (strict : Bool) (c : Counts) (b : Lending) (r : Answer) (a : Lending) → FoldCall strict c b r a → r .refusal ≡ 0 → FoldsCleared b c
   -- and folds to the same counts, tables, marks and remap, and instruction by instruction the same opcode, marks and load, if the fold ends below
   -- 65,535 constants and each operand with the mark is below the count, or at or past the count that the uncleared fold ends with
-  pub folds-same : (strict : Bool) (c : Counts) (b : Buffers) (r : Answer) (a : Buffers) → FoldCall strict c b r a → r .refusal ≡ 0
-      → r .second < 65535 → AllNear (b .code) (c .constants) (r .second) → FoldsSame strict b c r a
+  pub folds-same : (strict : Bool) (c : Counts) (b : Lending) (r : Answer) (a : Lending) → FoldCall strict c b r a → r .refusal ≡ 0
+      → r .second < 65535 → AllNear (b .buffers .code) (c .constants) (r .second) → FoldsSame strict b c r a
   -- why the last is asked: an operand between the two may come to load what a fold pushes; and P13 ships one constant
   pub late : Late
+  -- ---- wishes 2 and 10: handlers are landings too, and landing counts beside the code
+
+  -- strict mode by a true table makes the folds of strict mode by the scan over all jumps and handlers
+  pub same-folds : (s : Chunk) → Unmarked (s .code) → (strict : Bool) (tries : List ℕ)
+      → foldAll (byTable strict (landingsOf (s .code) tries)) s ≡ foldAll (byScan strict tries) s
+  -- the table is true after every fold
+  pub still-true : (s : Chunk) → Unmarked (s .code) → (bars : Bars) (tries : List ℕ) (k : ℕ) → k ≤ chunk.count (s .code)
+      → landingsOf (folded bars k s .code) tries ≡ landingsOf (s .code) tries
+  -- after an answer each of its n + 1 entries is how many jumps and handlers land there in the chunk that is left, and 0 past its end
+  pub fold-landings : (strict : Bool) (c : Counts) (b : Lending) (r : Answer) (a : Lending) → FoldCall strict c b r a → r .refusal ≡ 0
+      → LandingsLeft b (foldedOf r) a
+  -- the tries are remapped as jump operands are, and each keeps its rule in the chunk that is left
+  pub fold-tries : (strict : Bool) (c : Counts) (b : Lending) (r : Answer) (a : Lending) → FoldCall strict c b r a → r .refusal ≡ 0
+      → TriesLeft b (foldedOf r) a
+  -- ---- wish 14: folding keeps what a rule computes
+
+  -- of a chunk as wish 14 has it: in strict mode a run ends before folding exactly when it ends after it, with the same stack or the same stop
+  pub runs-kept : (c : Counts) (b : Lending) (r : Answer) (a : Lending) → FoldCall true c b r a → r .refusal ≡ 0
+      → Rule (b .buffers .code) (c .constants) → RunsKept b r a
+  -- a run has one end
+  pub one-end : (code : ℕ → Ins) (n k : ℕ) (s : Stack) (e e′ : End) → Run code n k s e → Run code n k s e′ → e ≡ e′
+  -- why strict: P13's code is such a chunk, and its run, which ends, never ends after the plain fold
+  pub plain-breaks : Breaks
   -- ---- wish 1: clear unused constants
 
   -- an instruction with the mark names the constant that its operand says

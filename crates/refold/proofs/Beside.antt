@@ -13,12 +13,14 @@ use Rattle.laws.specs.All.{every, many}
 use Rattle.laws.specs.Each.{each}
 use Rattle.laws.proofs.Each.{each-ext}
 use Rattle.code.specs.Op.{Phi}
+use Rattle.landings.specs.Landings.{landingsOf}
+use Rattle.landings.proofs.Kept.{landings-same}
 use Rattle.lent.specs.Chunk.{stride, count, opAt, markAt, operandAt, jumps, names, isPhi}
 use Rattle.fold.specs.Plan.{Chunk}
 use Rattle.compact.specs.Remap.{alive, live, remapOf, mapped}
 use Rattle.compact.specs.Tables.{operandOf, leftAt, left, compacted, placed}
 use Rattle.phi_pass.specs.Phi.{paired, noop, markAt as phiMark, marked, pairLeft, pairsLeft, indexed}
-use Rattle.clear.proofs.Whole.{many-ext}
+use Rattle.lent.proofs.Counting.{many-ext}
 use Rattle.clear.proofs.Alike.{Loads, Alike}
 use Rattle.finish.specs.Finish.{Tables, tables, sourcesAfter, renewed, finished}
 use Rattle.finish.specs.declared.Left.{Left}
@@ -27,6 +29,9 @@ use Rattle.refold.proofs.Settled.{packed-long}
 abbrev nameMark : ℕ → Bool
 nameMark x = eqb (x / 2 % 2) 1
 
+abbrev jumpMark : ℕ → Bool
+jumpMark x = eqb (x % 2) 1
+
 module _ (limit : ℕ) (s t : Chunk) where
   -- two instructions, word by word
   pub record Pair (o m x o′ m′ x′ : ℕ) : Type 0 where
@@ -34,13 +39,14 @@ module _ (limit : ℕ) (s t : Chunk) where
     pub mark : m ≡ m′
     pub plain : nameMark m ≡ false → x ≡ x′
     pub load : nameMark m ≡ true → Loads limit s t x x′
+    pub goal : jumpMark m ≡ true → x ≡ x′
 
   -- two codes
   abbrev pub Like : List ℕ → List ℕ → Type 0
   Like u v = (k : ℕ) → Pair (opAt u k) (markAt u k) (operandAt u k) (opAt v k) (markAt v k) (operandAt v k)
 
   none : Pair 0 0 0 0 0 0
-  none = record { op = refl; mark = refl; plain = λ e. refl; load = λ e. absurd (false≢true e) }
+  none = record { op = refl; mark = refl; plain = λ e. refl; load = λ e. absurd (false≢true e); goal = λ e. absurd (false≢true e) }
 
   -- past its end a code has zeros
   like-past : (u v : List ℕ) (k : ℕ) → length u ≤ stride * k → length v ≤ stride * k
@@ -127,8 +133,16 @@ module _ {limit : ℕ} {s t : Chunk} (a : Alike limit s t) where
   abbrev v : List ℕ
   v = t .code
 
+  -- a jump names no constant
+  jump-plain : (k : ℕ) → jumps w k ≡ true → names w k ≡ false
+  jump-plain k j = go (names w k) refl
+    where
+      go : (b : Bool) → names w k ≡ b → b ≡ false
+      go true e = absurd (false≢true (sym (a .apart k e) ∙ j))
+      go false e = refl
+
   pub alike-like : Like limit s t w v
-  alike-like k = record { op = a .ops k; mark = a .marks k; plain = a .plain k; load = a .loads k }
+  alike-like k = record { op = a .ops k; mark = a .marks k; plain = a .plain k; load = a .loads k; goal = λ j. a .plain k (jump-plain k j) }
 
   phi-same : (k : ℕ) → isPhi w k ≡ isPhi v k
   phi-same k = ap (λ (o : ℕ). eqb o Phi) (a .ops k)
@@ -147,6 +161,7 @@ module _ {limit : ℕ} {s t : Chunk} (a : Alike limit s t) where
               let j : jumps w k ≡ false = a .apart k e in
               let j′ : jumps v k ≡ false = sym (ap (λ (x : ℕ). eqb (x % 2) 1) (a .marks k)) ∙ j in
               rw (j, j′) (a .loads k e);
+          goal = λ j. rw (a .marks k, a .plain k (jump-plain k j));
         }
 
     one-like : (k : ℕ) (b : Bool)
@@ -277,3 +292,13 @@ module _ {limit : ℕ} {s t : Chunk} (a : Alike limit s t) (map sources stmts ca
       go true =
           record { code = alike-like a; long = a .long; map = refl; sources = refl; stmts = refl; calls = refl; dead = refl; remap = refl; left = refl }
       go false = renewed-beside d
+
+-- and the same jumps to the same places: one table of landings
+pub table-same : {limit : ℕ} {s t : Chunk} {x y : Tables} → Beside limit s t x y → (tries : List ℕ) → landingsOf (x .code) tries ≡ landingsOf (y .code) tries
+table-same {x = x} {y = y} b tries =
+    sym (landings-same (x .code) (y .code) tries
+    (record {
+      long = sym (b .long);
+      mark = λ k. sym (ap jumpMark (b .code k .mark));
+      goal = λ k j. sym (b .code k .goal j);
+    }))

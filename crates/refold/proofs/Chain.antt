@@ -6,29 +6,25 @@ use mathlib.Core.List.{List}
 use lib.ListN.{length}
 use borrow.Author.Tests.{le-ltb}
 use Rattle.code.specs.declared.Checked.the-variants.{Count}
-use Rattle.lent.specs.Check.{readyOf}
 use Rattle.lent.specs.declared.Counts.{Counts}
 use Rattle.lent.specs.declared.Lens.{Lens}
-use Rattle.optimizer.specs.Fold.{Buffers, lensOf, needed, outcome, constantFold, joined, foldCall}
+use Rattle.optimizer.specs.Fold.{lensOf}
 use Rattle.optimizer.specs.declared.Folded.{Folded}
-use Rattle.optimizer.specs.declared.FoldAnswer.the-variants.{Is}
 use Rattle.clear.specs.Clear as clearing
 use Rattle.clear.specs.Unused.{named, before, pooled}
 use Rattle.clear.proofs.Answers.{answered-call, answered}
 use Rattle.clear.proofs.Accepts.{accepted-after}
 use Rattle.clear.proofs.Kept.{pooled-length}
 use Rattle.clear.proofs.Tested.{held-of}
+use Rattle.refold.specs.Lending.{Lending, readyFor, Folds}
 use Rattle.refold.specs.Lendable.{cutAt, countsLeft, Lendable, clearable, clearedBuffers, countsCleared, Chained}
-use Rattle.refold.proofs.Lends.{call-answered, joined-answer, lends}
+use Rattle.refold.proofs.Lends.{o, all-left, call-answered, lends}
 
 -- an accepted chunk is folded
-pub folds : (strict : Bool) (b : Buffers) (c : Counts) (n : ℕ) → readyOf (b .code) (b .kinds) (b .words) c (lensOf b) ≡ Count n
-    → (g : Folded) × (y : Buffers) × (foldCall strict b c ≡ outcome (Is g) y)
-folds strict b c n e =
-    let o = constantFold strict (needed b c) c in
-    (o .answer, joined b c o .after, call-answered strict b c n e ∙ ap (λ v. outcome v (joined b c o .after)) (joined-answer strict b c))
+pub folds : (strict : Bool) (l : Lending) (c : Counts) (n : ℕ) → readyFor l c ≡ Count n → (g : Folded) × (y : Lending) × Folds strict l c g y
+folds strict l c n e = (o strict l c .answer, all-left strict l c, call-answered strict l c n e)
 
-module _ (f : Folded) (c : Counts) (a : Buffers) (x : Lendable f c a) (scratch : List ℕ) (h : f .constants ≤ length scratch) where
+module _ (f : Folded) (c : Counts) (a : Lending) (x : Lendable f c a) (scratch : List ℕ) (h : f .constants ≤ length scratch) where
   abbrev b : clearing.Buffers
   b = clearable f a scratch
 
@@ -44,19 +40,26 @@ module _ (f : Folded) (c : Counts) (a : Buffers) (x : Lendable f c a) (scratch :
       let e = answered-call b m (f .instructions) clears-after in
       let y = answered b m (before w m) (clearing.cleared b m .after) e in
       let k = held-of b m (Count (f .instructions)) (sym clears-after) (f .instructions) refl in
-      let l = accepted-after (f .instructions) w (a .kinds) (a .words) (countsLeft f c) (lensOf (cutAt f a)) (x .ready) in
+      let i = accepted-after (f .instructions) w (a .tries) (a .buffers .kinds) (a .buffers .words) (countsLeft f c) (lensOf (cutAt f a .buffers))
+      (length (a .landings)) (x .ready) in
       let d = clearedBuffers a (clearing.cleared b m .after) in
-      let z : readyOf (d .code) (d .kinds) (d .words) (countsCleared f c (before w m)) (lensOf d) ≡ Count (f .instructions) =
-      rw (y .code, y .kinds, y .words, pooled-length (named w) m (a .kinds) (k .kinds), pooled-length (named w) m (a .words) (k .words)) l in
+      let z : readyFor d (countsCleared f c (before w m)) ≡ Count (f .instructions) =
+      rw (
+        y .code,
+        y .kinds,
+        y .words,
+        pooled-length (named w) m (a .buffers .kinds) (k .kinds),
+        pooled-length (named w) m (a .buffers .words) (k .words),
+      ) i in
       let (g, u, v) = folds strict d (countsCleared f c (before w m)) (f .instructions) z in
       record { left = before w m; cleared = clearing.cleared b m .after; clears = e; folded = g; after = u; folds = v }
 
 -- one theorem for the three calls
-pub fold-clear-fold : (strict : Bool) (b : Buffers) (c : Counts) (f : Folded) (a : Buffers) → foldCall strict b c ≡ outcome (Is f) a
+pub fold-clear-fold : (strict : Bool) (l : Lending) (c : Counts) (f : Folded) (a : Lending) → Folds strict l c f a
     → (scratch : List ℕ) → f .constants ≤ length scratch → (strict′ : Bool) → Chained f c a scratch strict′
-fold-clear-fold strict b c f a e scratch h strict′ = chained f c a (lends strict b c f a e) scratch h strict′
+fold-clear-fold strict l c f a e scratch h strict′ = chained f c a (lends strict l c f a e) scratch h strict′
 
 -- and for two folds, with nothing cleared between them
-pub fold-fold : (strict : Bool) (b : Buffers) (c : Counts) (f : Folded) (a : Buffers) → foldCall strict b c ≡ outcome (Is f) a
-    → (strict′ : Bool) → (g : Folded) × (y : Buffers) × (foldCall strict′ (cutAt f a) (countsLeft f c) ≡ outcome (Is g) y)
-fold-fold strict b c f a e strict′ = folds strict′ (cutAt f a) (countsLeft f c) (f .instructions) (lends strict b c f a e .ready)
+pub fold-fold : (strict : Bool) (l : Lending) (c : Counts) (f : Folded) (a : Lending) → Folds strict l c f a
+    → (strict′ : Bool) → (g : Folded) × (y : Lending) × Folds strict′ (cutAt f a) (countsLeft f c) g y
+fold-fold strict l c f a e strict′ = folds strict′ (cutAt f a) (countsLeft f c) (f .instructions) (lends strict l c f a e .ready)

@@ -1,9 +1,9 @@
 -- An answered fold leaves a chunk that the next call accepts, cut at the answered count. Assumes nothing.
-use Prim.Native.Nat.{ℕ, _+_, _-_, _*_, _%_, _≤_}
+use Prim.Native.Nat.{ℕ, zero, suc, _+_, _-_, _*_, _%_, _≤_, _<_}
 use native.Mathlib.Omega.{arith}
 use mathlib.Core.Path.{_≡_, refl, sym, ap, _∙_, subst}
 use mathlib.Core.Logic.{_⊎_, inl, inr, ⊎-elim}
-use mathlib.Core.Bool.{Bool, true, false, _&&_, _||_}
+use mathlib.Core.Bool.{Bool, true, false, cond, not, _&&_, _||_}
 use mathlib.Core.List.{List, _++_}
 use lib.Dec.{eqb, leb, ltb}
 use lib.ListN.{length, getD, take, drop, replicate, length-append, length-drop, length-replicate, take-append-drop, List·getD-append}
@@ -11,12 +11,14 @@ use lib.Seq.{length-take-le, getD-drop, ext-getD, drop-at}
 use borrow.Author.Tests.{eqb-true, eq-eqb, le-leb, le-ltb}
 use Rattle.laws.specs.All.{every, many}
 use Rattle.laws.specs.Table as Table
+use Rattle.laws.specs.Walk.{first}
 use Rattle.laws.proofs.Branch.{and-true}
 use Rattle.laws.proofs.Many.{many-fewer}
-use Rattle.code.specs.Check.{roomOf}
+use Rattle.code.specs.Check.{pairs, firstBadTry, triedOf, roomOf}
+use Rattle.code.specs.Rules.{tryKept}
 use Rattle.code.specs.Answers.{asked}
 use Rattle.code.specs.declared.Refusal.{Refusal}
-use Rattle.code.specs.declared.Refusal.the-variants.{Length, Record, Table}
+use Rattle.code.specs.declared.Refusal.the-variants.{Length, Record, Try, Table}
 use Rattle.code.specs.declared.Checked.{Checked}
 use Rattle.code.specs.declared.Checked.the-variants.{Count, No as Refused}
 use Rattle.code.proofs.Stages.{room-before}
@@ -27,25 +29,32 @@ use Rattle.lent.proofs.Kept.{kinds-there, words-there}
 use Rattle.lent.specs.declared.Counts.{Counts}
 use Rattle.lent.specs.declared.Lens.{Lens}
 use Rattle.fold.specs.Plan.{Chunk, chunk}
-use Rattle.fold.specs.Pass.{foldAll, Lent}
+use Rattle.landings.specs.Landings.{landingsOf}
+use Rattle.landings.proofs.Asked.{table-long}
+use Rattle.fold.specs.Pass.{Bars, byScan, foldAll, Lent}
 use Rattle.compact.specs.Remap.{alive}
+use Rattle.compact.specs.Tables.{movedAll}
+use Rattle.compact.proofs.Mapped.{moved-long, none-moved}
 use Rattle.finish.specs.Finish.{Tables, tables, finished, Fit}
-use Rattle.optimizer.specs.Fold.{Buffers, lensOf, needed, sourcesNeeded, Outcome, outcome, foldPass, constantFold, joined, foldCall, Held, Exact}
+use Rattle.optimizer.specs.Fold.{Buffers, lensOf, needed, sourcesNeeded, Outcome, outcome, foldPass, constantFold, joined}
+use Rattle.optimizer.specs.Fold.{foldLent, Called, rejoined, foldCall, Held, Exact}
 use Rattle.optimizer.specs.declared.Folded.{Folded}
 use Rattle.optimizer.specs.declared.FoldAnswer.{FoldAnswer}
 use Rattle.optimizer.specs.declared.FoldAnswer.the-variants.{Is, No}
 use Rattle.optimizer.proofs.Whole.{pass-kept, exact-of, fit-of}
 use Rattle.optimizer.proofs.Again.{again}
 use Rattle.optimizer.proofs.Idle.{as-lent}
-use Rattle.optimizer.proofs.Tested.{held-of}
-use Rattle.clear.proofs.Accepts.{table-on, room-on}
+use Rattle.optimizer.proofs.Tested.{held-of, table-there}
+use Rattle.optimizer.proofs.Tries.{tries-kept}
+use Rattle.clear.proofs.Accepts.{table-on, room-on, room-met}
 use Rattle.refold.proofs.Pushes.{all-pushed, all-held as pool-few, pool-again, every-at, every-of}
 use Rattle.refold.proofs.Prefix.{prefix}
 use Rattle.refold.proofs.Spent.{waiting, all-spent}
 use Rattle.refold.proofs.Settled.{Settled, settled}
 use Rattle.refold.specs.Pushed.{Pushed}
-use Rattle.refold.specs.Left.{PoolLeft, FoldBeyond, NoneDied, asLent}
-use Rattle.refold.specs.Lendable.{cutAt, countsLeft, Lendable}
+use Rattle.refold.specs.Lending.{Lending, lending, readyFor, leaving, foldOf, Folds}
+use Rattle.refold.specs.Left.{PoolLeft, BuffersBeyond, FoldBeyond, NoneDied, asLent}
+use Rattle.refold.specs.Lendable.{cutCode, cutAt, countsLeft, Lendable}
 
 never : {A : Type 0} (n : ℕ) (r : Refusal) → Refused r ≡ Count n → A
 never n r e = let z : _≡_ {A = ℕ} 0 1 = cc in absurd (omega arith)
@@ -86,11 +95,23 @@ rooms-kept n v w c l e =
     let r₂ = room-before n _ 2 (l .words) (constantRoom (c .constants) (tallyOf w .folding)) (sym r₃) in
     room-before n v 1 (l .kinds) (constantRoom (c .constants) (tallyOf w .folding)) (sym r₂)
 
-ready-kept : (n : ℕ) (w kinds words : List ℕ) (c : Counts) (l : Lens) → readyOf w kinds words c l ≡ Count n → Kept n (count w) (checkOf w) kinds words c l
-unfolding readyOf
-ready-kept n w kinds words c l e = tables-kept n (count w) (checkOf w) kinds words c l (rooms-kept n (tablesOf (checkOf w) (count w) kinds words c l) w c l e)
+tried-kept : (n : ℕ) (v : Checked) (t : List ℕ) → triedOf v t ≡ Count n → v ≡ Count n
+tried-kept n (Refused r) t e = never n r e
+tried-kept n (Count m) t e = go (ltb (firstBadTry t m) (pairs t)) e
+  where
+    go : (u : Bool) → cond u (Refused (Try (firstBadTry t m))) (Count m) ≡ Count n → Count m ≡ Count n
+    go true e = never n (Try (firstBadTry t m)) e
+    go false e = e
 
-check-count : (w : List ℕ) (n : ℕ) → checkOf w ≡ Count n → count w ≡ n
+ready-kept : (n : ℕ) (w tries kinds words : List ℕ) (c : Counts) (l : Lens) (landings : ℕ) → readyOf w tries kinds words c l landings ≡ Count n
+    → Kept n (count w) (triedOf (checkOf w) tries) kinds words c l
+unfolding readyOf
+ready-kept n w tries kinds words c l landings e =
+    let v = tablesOf (triedOf (checkOf w) tries) (count w) kinds words c l in
+    tables-kept n (count w) (triedOf (checkOf w) tries) kinds words c l
+    (rooms-kept n v w c l (room-before n (roomsOf v w c l) 7 landings (count w + 1) (sym e)))
+
+pub check-count : (w : List ℕ) (n : ℕ) → checkOf w ≡ Count n → count w ≡ n
 unfolding checkOf
 check-count w n e = go (uneven w) refl (ltb (firstBad w) (count w)) refl e
   where
@@ -130,10 +151,24 @@ rooms-on n v w c l e r =
     (room-on n v 1 (l .kinds) (constantRoom (c .constants) (tallyOf w .folding)) e (r .kinds))
     (r .words)) (r .map)) (r .sources)) (r .dead)) (r .remap)
 
-ready-on : (n : ℕ) (w kinds words : List ℕ) (c : Counts) (l : Lens) → Kept n (count w) (checkOf w) kinds words c l → Roomy w c l
-    → readyOf w kinds words c l ≡ Count n
+first-none-below : (f : ℕ → Bool) (m k : ℕ) → ((j : ℕ) → j < k + m → f j ≡ false) → first f k m ≡ k + m
+unfolding first
+first-none-below f zero k h = omega arith
+first-none-below f (suc m) k h = rw (h k (omega arith)) (omega (arith, first-none-below f m (suc k) (λ j l. h j (omega arith))))
+
+-- no try breaks its rule
+tried-on : (n : ℕ) (v : Checked) (t : List ℕ) → v ≡ Count n → ((j : ℕ) → j < pairs t → tryKept t n j ≡ true) → triedOf v t ≡ Count n
+unfolding firstBadTry
+tried-on n v t e h =
+    let f = first-none-below (λ j. not (tryKept t n j)) (pairs t) 0 (λ j l. ap not (h j (omega arith))) in
+    rw (e, le-ltb (first (λ j. not (tryKept t n j)) 0 (pairs t)) (pairs t) (omega arith))
+
+ready-on : (n : ℕ) (w tries kinds words : List ℕ) (c : Counts) (l : Lens) (landings : ℕ) → Kept n (count w) (triedOf (checkOf w) tries) kinds words c l
+    → Roomy w c l → count w + 1 ≤ landings → readyOf w tries kinds words c l landings ≡ Count n
 unfolding readyOf
-ready-on n w kinds words c l x r = rooms-on n (tablesOf (checkOf w) (count w) kinds words c l) w c l (tables-on n (count w) (checkOf w) kinds words c l x) r
+ready-on n w tries kinds words c l landings x r h =
+    let v = tablesOf (triedOf (checkOf w) tries) (count w) kinds words c l in
+    room-on n (roomsOf v w c l) 7 landings (count w + 1) (rooms-on n v w c l (tables-on n (count w) (triedOf (checkOf w) tries) kinds words c l x) r) h
 
 map-on : (n entries len : ℕ) → (entries ≡ 0) ⊎ (entries ≡ n) → entries ≤ len → mapKept n entries len ≡ true
 map-on n entries len e h = ⊎-elim (λ q. rw (eq-eqb entries 0 q, le-leb entries len h))
@@ -174,28 +209,37 @@ past-held m l l′ e h =
 
 -- ---- the parts of an answer
 
-module _ (strict : Bool) (b : Buffers) (c : Counts) where
-  abbrev pub o : Outcome Folded
-  o = constantFold strict (needed b c) c
+module _ (strict : Bool) (l : Lending) (c : Counts) where
+  abbrev b : Buffers
+  b = l .buffers
 
-  pub call-refused : (r : Refusal) → readyOf (b .code) (b .kinds) (b .words) c (lensOf b) ≡ Refused r → foldCall strict b c ≡ outcome (No r) b
+  abbrev scan : Bars
+  scan = byScan strict (l .tries)
+
+  abbrev pub o : Outcome Folded
+  o = constantFold scan (needed b c) c
+
+  -- the tries follow, and the table counts what lands in the chunk that is left
+  abbrev moved : List ℕ
+  moved = movedAll (o .after .dead) (l .tries)
+
+  abbrev pub all-left : Lending
+  all-left = lending (joined b c o .after) moved (landingsOf (o .after .code) moved ++ drop (count (b .code) + 1) (l .landings))
+
+  pub call-refused : (r : Refusal) → readyFor l c ≡ Refused r → foldOf strict l c ≡ leaving (No r) l
   unfolding foldCall
   call-refused r e = rw e
 
-  pub call-answered : (m : ℕ) → readyOf (b .code) (b .kinds) (b .words) c (lensOf b) ≡ Count m → foldCall strict b c ≡ joined b c o
-  unfolding foldCall
+  pub call-answered : (m : ℕ) → readyFor l c ≡ Count m → Folds strict l c (o .answer) all-left
+  unfolding foldCall rejoined joined foldLent
   call-answered m e = rw e
-
-  pub joined-answer : joined b c o .answer ≡ Is (o .answer)
-  unfolding joined
-  joined-answer = refl
 
   -- the chunk that the pass begins with, and ends with
   abbrev pub clean : Chunk
   clean = chunk (b .code) (replicate (length (take (count (b .code)) (b .dead))) 0) (b .kinds) (b .words) (c .constants)
 
   abbrev pub end : Chunk
-  end = foldPass strict (chunk (b .code) (take (count (b .code)) (b .dead)) (b .kinds) (b .words) (c .constants))
+  end = foldPass scan (chunk (b .code) (take (count (b .code)) (b .dead)) (b .kinds) (b .words) (c .constants))
 
   abbrev pub before : Tables
   before =
@@ -205,21 +249,24 @@ module _ (strict : Bool) (b : Buffers) (c : Counts) where
   abbrev pub after : Tables
   after = finished before
 
-  end-is : end ≡ foldAll strict clean
+  end-is : end ≡ foldAll scan clean
   unfolding foldPass
   end-is = refl
 
-  module _ (m : ℕ) (q : readyOf (b .code) (b .kinds) (b .words) c (lensOf b) ≡ Count m) where
-    pub rules : Kept m (count (b .code)) (checkOf (b .code)) (b .kinds) (b .words) c (lensOf b)
-    rules = ready-kept m (b .code) (b .kinds) (b .words) c (lensOf b) q
+  module _ (m : ℕ) (q : readyFor l c ≡ Count m) where
+    pub rules : Kept m (count (b .code)) (triedOf (checkOf (b .code)) (l .tries)) (b .kinds) (b .words) c (lensOf b)
+    rules = ready-kept m (b .code) (l .tries) (b .kinds) (b .words) c (lensOf b) (length (l .landings)) q
+
+    pub code-fine : checkOf (b .code) ≡ Count m
+    code-fine = tried-kept m (checkOf (b .code)) (l .tries) (rules .before)
 
     held : Held b c
-    held = held-of b c m (Count m) (sym q) refl
+    held = held-of b (l .tries) c (length (l .landings)) m (Count m) (sym q) refl
 
-    n-is : count (b .code) ≡ m
-    n-is = check-count (b .code) m (rules .before)
+    pub n-is : count (b .code) ≡ m
+    n-is = check-count (b .code) m code-fine
 
-    marks : length (take (count (b .code)) (b .dead)) ≡ count (b .code)
+    pub marks : length (take (count (b .code)) (b .dead)) ≡ count (b .code)
     marks = length-take-le (count (b .code)) (b .dead) (held .dead)
 
     exact : Exact (needed b c) c
@@ -229,7 +276,7 @@ module _ (strict : Bool) (b : Buffers) (c : Counts) where
     fit =
         fit-of (b .code) (b .kinds) (b .words) (needed b c .map) (needed b c .sources) (needed b c .stmts) (needed b c .calls) (needed b c .dead)
         (needed b c .remap) c
-        strict (end .code) (end .dead) (end .kinds) (end .words) (end .constants) exact refl
+        scan (end .code) (end .dead) (end .kinds) (end .words) (end .constants) exact refl
 
     pub lent-clean : Lent clean
     unfolding tallyOf
@@ -242,7 +289,7 @@ module _ (strict : Bool) (b : Buffers) (c : Counts) where
         }
 
     pushed : Pushed clean end
-    pushed = rw end-is (all-pushed strict clean)
+    pushed = rw end-is (all-pushed scan clean)
 
     pub pool-left : PoolLeft b c (o .answer) (joined b c o .after)
     unfolding constantFold joined
@@ -258,10 +305,10 @@ module _ (strict : Bool) (b : Buffers) (c : Counts) where
           words-long = p .words-long;
         }
 
-    end-marks : length (end .dead) ≡ count (b .code)
+    pub end-marks : length (end .dead) ≡ count (b .code)
     end-marks = pushed .dead-long ∙ length-replicate (length (take (count (b .code)) (b .dead))) 0 ∙ marks
 
-    all-settled : Settled before after
+    pub all-settled : Settled before after
     all-settled =
         settled before fit (marks ∙ sym end-marks)
         (rw end-marks (map-is (count (b .code)) (c .map) (length (b .map)) (rules .map)))
@@ -273,18 +320,18 @@ module _ (strict : Bool) (b : Buffers) (c : Counts) where
     abbrev short : List ℕ
     short = take (stride * r) (after .code)
 
-    after-code : checkOf (after .code) ≡ Count m
+    pub after-code : checkOf (after .code) ≡ Count m
     unfolding constantFold joined
-    after-code = sym (ap (λ (x : Outcome FoldAnswer). checkOf (x .after .code)) (call-answered m q)) ∙ again strict b c m (rules .before)
+    after-code = sym (ap (λ (x : Called). checkOf (x .result .after .code)) (call-answered m q)) ∙ again strict b (l .tries) (l .landings) c m code-fine
 
-    few : r ≤ m
+    pub few : r ≤ m
     few = omega (arith, all-settled .few, end-marks, n-is)
 
     code-again : checkOf short ≡ Count r
     code-again = prefix (after .code) m r after-code few
 
     pool-kept : constantsKept (end .kinds) (end .words) (end .constants) ≡ true
-    pool-kept = rw end-is (pool-again strict clean lent-clean (rules .constants))
+    pool-kept = rw end-is (pool-again scan clean lent-clean (rules .constants))
 
     short-count : count short ≡ r
     short-count = check-count short r code-again
@@ -295,7 +342,7 @@ module _ (strict : Bool) (b : Buffers) (c : Counts) where
     spent =
         let n = count (b .code) in
         let s : many (waiting (end .code) (end .dead)) n + end .constants ≤ many (waiting (clean .code) (clean .dead)) n + c .constants =
-        rw end-is (all-spent strict clean (lent-clean .marks)) in
+        rw end-is (all-spent scan clean (lent-clean .marks)) in
         let u : many (waiting (clean .code) (clean .dead)) n ≤ many (λ k. folds (opAt (b .code) k)) n =
         many-fewer (waiting (clean .code) (clean .dead)) (λ k. folds (opAt (b .code) k))
         (λ k h. and-true (folds (opAt (b .code) k)) (alive (clean .dead) k) h .0) n in
@@ -306,16 +353,26 @@ module _ (strict : Bool) (b : Buffers) (c : Counts) where
     phis-few : many (isPhi short) r ≤ tallyOf (b .code) .phis
     unfolding tallyOf
     phis-few =
-        let p = pass-kept strict (chunk (b .code) (needed b c .dead) (b .kinds) (b .words) (c .constants)) end (omega (arith, marks)) refl in
+        let p = pass-kept scan (chunk (b .code) (needed b c .dead) (b .kinds) (b .words) (c .constants)) end (omega (arith, marks)) refl in
         let u = many-fewer (isPhi (end .code)) (isPhi (b .code)) (λ k h. sym (p .phis k) ∙ h) (count (b .code)) in
         let v : many (isPhi (end .code)) (length (end .dead)) ≡ many (isPhi (end .code)) (count (b .code)) = ap (many (isPhi (end .code))) end-marks in
         omega (arith, all-settled .phis)
 
-    rules-left : Kept r (count short) (checkOf short) (end .kinds) (end .words) (countsLeft (o .answer) c) (lensOf (cutAt (o .answer) (joined b c o .after)))
+    -- the tries that are left keep their rule
+    pub tries-left : (j : ℕ) → j < pairs moved → tryKept moved r j ≡ true
+    unfolding constantFold joined
+    tries-left j h =
+        let e = call-answered m q in
+        let z = tries-kept strict b (l .tries) (l .landings) c (o .answer) (ap (λ (x : Called). x .result .answer) e) j
+        (rw (moved-long (o .after .dead) (l .tries)) at h) in
+        subst (λ (x : Called). tryKept (x .tries) r j ≡ true) e z
+
+    rules-left : Kept r (count short) (triedOf (checkOf short) moved) (end .kinds) (end .words) (countsLeft (o .answer) c)
+        (lensOf (cutCode (o .answer) (joined b c o .after)))
     unfolding constantFold joined
     rules-left =
         record {
-          before = code-again;
+          before = tried-on r (checkOf short) moved code-again tries-left;
           constants = pool-kept;
           map =
               rw short-count
@@ -364,7 +421,7 @@ module _ (strict : Bool) (b : Buffers) (c : Counts) where
         (every (constantKept (end .kinds) (end .words)) (end .constants)) pool-kept .0 in
         (kinds-there (end .constants) (length (end .kinds)) (length (end .words)) w, words-there (end .constants) (length (end .kinds)) (length (end .words)) w)
 
-    room-left : Roomy short (countsLeft (o .answer) c) (lensOf (cutAt (o .answer) (joined b c o .after)))
+    room-left : Roomy short (countsLeft (o .answer) c) (lensOf (cutCode (o .answer) (joined b c o .after)))
     unfolding constantFold joined
     room-left =
         record {
@@ -395,23 +452,37 @@ module _ (strict : Bool) (b : Buffers) (c : Counts) where
               ));
         }
 
-    lendable : Lendable (o .answer) c (joined b c o .after)
+    -- the table keeps its length, and its words past n + 1
+    table-held : Table.Held (count (b .code) + 1) (l .landings) (all-left .landings)
+    unfolding constantFold
+    table-held =
+        let z : count (after .code) ≡ count (b .code) = check-count (after .code) m after-code ∙ sym n-is in
+        front-held (count (b .code) + 1) (landingsOf (after .code) moved) (l .landings) (table-long (after .code) moved ∙ ap (λ (x : ℕ). x + 1) z)
+        (table-there b (l .tries) c (length (l .landings)) m (Count m) (sym q) refl)
+
+    table-room : count short + 1 ≤ length (all-left .landings)
+    table-room =
+        omega (arith, short-count, few, n-is, table-held .same, table-there b (l .tries) c (length (l .landings)) m (Count m) (sym q) refl)
+
+    lendable : Lendable (o .answer) c all-left
     unfolding constantFold joined
     lendable =
         record {
           code = code-again;
           pool = pool-kept;
-          ready = ready-on r short (end .kinds) (end .words) (countsLeft (o .answer) c) (lensOf (cutAt (o .answer) (joined b c o .after))) rules-left room-left;
+          ready =
+              ready-on r short moved (end .kinds) (end .words) (countsLeft (o .answer) c) (lensOf (cutCode (o .answer) (joined b c o .after)))
+              (length (all-left .landings)) rules-left room-left table-room;
         }
 
     -- ---- words past a need
 
-    fold-beyond : FoldBeyond c b (joined b c o .after)
+    buffers-beyond : BuffersBeyond c b (joined b c o .after)
     unfolding constantFold joined tallyOf
-    fold-beyond =
+    buffers-beyond =
         let n = count (b .code) in
         let room = constantRoom (c .constants) (tallyOf (b .code) .folding) in
-        let few : end .constants ≤ room = rw end-is (pool-few strict clean lent-clean) in
+        let few : end .constants ≤ room = rw end-is (pool-few scan clean lent-clean) in
         let p = pushed in
         record {
           code = all-settled .long ∙ p .code-long;
@@ -427,48 +498,50 @@ module _ (strict : Bool) (b : Buffers) (c : Counts) where
           remap = front-held (n + 1) (after .remap) (b .remap) (all-settled .remap ∙ length-take-le (n + 1) (b .remap) (held .remap)) (held .remap);
         }
 
+    fold-beyond : FoldBeyond c l all-left
+    fold-beyond = record { buffers = buffers-beyond; tries = moved-long (o .after .dead) (l .tries); landings = table-held }
+
   -- what holds of the answer holds of any answered call
-  pub by-call : (P : Folded → Buffers → Type 0) → ((m : ℕ) → readyOf (b .code) (b .kinds) (b .words) c (lensOf b) ≡ Count m
-      → P (o .answer) (joined b c o .after))
-      → (f : Folded) (a : Buffers) → foldCall strict b c ≡ outcome (Is f) a → P f a
-  by-call P h f a e = go (readyOf (b .code) (b .kinds) (b .words) c (lensOf b)) refl
+  pub by-call : (P : Folded → Lending → Type 0) → ((m : ℕ) → readyFor l c ≡ Count m → P (o .answer) all-left)
+      → (f : Folded) (a : Lending) → Folds strict l c f a → P f a
+  by-call P h f a e = go (readyFor l c) refl
     where
-      go : (v : Checked) → readyOf (b .code) (b .kinds) (b .words) c (lensOf b) ≡ v → P f a
+      go : (v : Checked) → readyFor l c ≡ v → P f a
       go (Refused r) q =
-          let y : No r ≡ Is f = ap (λ (x : Outcome FoldAnswer). x .answer) (sym (call-refused r q) ∙ e) in
+          let y : No r ≡ Is f = ap (λ (x : Called). x .result .answer) (sym (call-refused r q) ∙ e) in
           absurd (let z : _≡_ {A = ℕ} 0 1 = cc in omega arith)
       go (Count m) q =
-          let y : joined b c o ≡ outcome (Is f) a = sym (call-answered m q) ∙ e in
-          let i : Is (o .answer) ≡ Is f = sym joined-answer ∙ ap (λ (x : Outcome FoldAnswer). x .answer) y in
+          let y : leaving (Is (o .answer)) all-left ≡ leaving (Is f) a = sym (call-answered m q) ∙ e in
+          let i : Is (o .answer) ≡ Is f = ap (λ (x : Called). x .result .answer) y in
           let j : o .answer ≡ f = cc in
-          let k : joined b c o .after ≡ a = ap (λ (x : Outcome FoldAnswer). x .after) y in
-          subst (λ (x : Buffers). P f x) k (subst (λ (x : Folded). P x (joined b c o .after)) j (h m q))
+          let k : all-left ≡ a = ap (λ (x : Called). lending (x .result .after) (x .tries) (x .landings)) y in
+          subst (λ (x : Lending). P f x) k (subst (λ (x : Folded). P x all-left) j (h m q))
 
   -- what an answered call leaves can be lent to the next
-  pub lends : (f : Folded) (a : Buffers) → foldCall strict b c ≡ outcome (Is f) a → Lendable f c a
+  pub lends : (f : Folded) (a : Lending) → Folds strict l c f a → Lendable f c a
   lends = by-call (λ f a. Lendable f c a) lendable
 
   -- and of the pool it changes nothing that was there
-  pub pool-stays : (f : Folded) (a : Buffers) → foldCall strict b c ≡ outcome (Is f) a → PoolLeft b c f a
-  pool-stays = by-call (λ f a. PoolLeft b c f a) pool-left
+  pub pool-stays : (f : Folded) (a : Lending) → Folds strict l c f a → PoolLeft b c f (a .buffers)
+  pool-stays = by-call (λ f a. PoolLeft b c f (a .buffers)) pool-left
 
   -- words past a needed length are never touched
-  pub stays-beyond : (f : Folded) (a : Buffers) → foldCall strict b c ≡ outcome (Is f) a → FoldBeyond c b a
-  stays-beyond = by-call (λ f a. FoldBeyond c b a) fold-beyond
+  pub stays-beyond : (f : Folded) (a : Lending) → Folds strict l c f a → FoldBeyond c l a
+  stays-beyond = by-call (λ f a. FoldBeyond c l a) fold-beyond
 
-  -- a refusal leaves every buffer as lent
-  pub refusal-leaves : (r : Refusal) (a : Buffers) → foldCall strict b c ≡ outcome (No r) a → a ≡ b
-  refusal-leaves r a e = go (readyOf (b .code) (b .kinds) (b .words) c (lensOf b)) refl
+  -- a refusal leaves all as lent
+  pub refusal-leaves : (r : Refusal) (a : Lending) → foldOf strict l c ≡ leaving (No r) a → a ≡ l
+  refusal-leaves r a e = go (readyFor l c) refl
     where
-      go : (v : Checked) → readyOf (b .code) (b .kinds) (b .words) c (lensOf b) ≡ v → a ≡ b
-      go (Refused s) q = ap (λ (x : Outcome FoldAnswer). x .after) (sym e ∙ call-refused s q)
+      go : (v : Checked) → readyFor l c ≡ v → a ≡ l
+      go (Refused s) q = ap (λ (x : Called). lending (x .result .after) (x .tries) (x .landings)) (sym e ∙ call-refused s q)
       go (Count m) q =
-          let y : Is (o .answer) ≡ No r = sym joined-answer ∙ ap (λ (x : Outcome FoldAnswer). x .answer) (sym (call-answered m q) ∙ e) in
+          let y : Is (o .answer) ≡ No r = ap (λ (x : Called). x .result .answer) (sym (call-answered m q) ∙ e) in
           absurd (let z : _≡_ {A = ℕ} 0 1 = cc in omega arith)
 
   -- ---- if nothing died
 
-  module _ (m : ℕ) (q : readyOf (b .code) (b .kinds) (b .words) c (lensOf b) ≡ Count m) where
+  module _ (m : ℕ) (q : readyFor l c ≡ Count m) where
     all-alive : NoneDied b (joined b c o .after) → every (alive (o .after .dead)) (length (o .after .dead)) ≡ true
     unfolding joined constantFold
     all-alive e =
@@ -479,12 +552,13 @@ module _ (strict : Bool) (b : Buffers) (c : Counts) where
         let z : getD (after .dead ++ drop n (b .dead)) k 0 ≡ getD (after .dead) k 0 = List·getD-append (after .dead) (drop n (b .dead)) 0 k h in
         sym (ap (λ (x : ℕ). eqb x 0) z) ∙ every-at (alive (after .dead ++ drop n (b .dead))) n k e (rw l at h))
 
-    idle : NoneDied b (joined b c o .after) → joined b c o ≡ asLent b c
+    idle : NoneDied b (joined b c o .after) → leaving (Is (o .answer)) all-left ≡ asLent l c
     unfolding joined
     idle e =
         let h : count (b .code) ≤ length (needed b c .dead) = omega (arith, marks m q) in
         rw (
-          as-lent strict (needed b c) c h (all-alive e),
+          ← none-moved (o .after .dead) (l .tries) (all-alive e),
+          as-lent scan (needed b c) c h (all-alive e),
           marks m q,
           take-append-drop (count (b .code)) (b .map),
           take-append-drop (sourcesNeeded b c) (b .sources),
@@ -493,6 +567,6 @@ module _ (strict : Bool) (b : Buffers) (c : Counts) where
           take-append-drop (count (b .code) + 1) (b .remap),
         )
 
-  -- then code, constants and every table stay as lent, and the dead marks are 0
-  pub idle-call : (f : Folded) (a : Buffers) → foldCall strict b c ≡ outcome (Is f) a → NoneDied b a → foldCall strict b c ≡ asLent b c
-  idle-call = by-call (λ f a. NoneDied b a → foldCall strict b c ≡ asLent b c) (λ m q e. call-answered m q ∙ idle m q e)
+  -- then code, constants, tries and every table stay as lent, the dead marks are 0, and the landings are counted
+  pub idle-call : (f : Folded) (a : Lending) → Folds strict l c f a → NoneDied b (a .buffers) → foldOf strict l c ≡ asLent l c
+  idle-call = by-call (λ f a. NoneDied b (a .buffers) → foldOf strict l c ≡ asLent l c) (λ m q e. call-answered m q ∙ idle m q e)

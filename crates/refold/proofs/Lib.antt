@@ -5,6 +5,7 @@ pub mod Jumped
 pub mod Spent
 pub mod Settled
 pub mod Lends
+pub mod Lands
 pub mod Chain
 pub mod Beside
 pub mod Refolds

@@ -20,13 +20,14 @@ use Rattle.lent.specs.Chunk.{count, opAt, folds}
 use Rattle.laws.specs.All.{every, many}
 use Rattle.laws.proofs.Branch.{and-true}
 use borrow.Author.Tests.{le-leb}
-use Rattle.fold.proofs.Grown.{put-long, Held, held-none, held-more}
+use Rattle.fold.proofs.Put.{put-long}
+use Rattle.fold.proofs.Grown.{Held, held-none, held-more}
 use Rattle.values.specs.declared.Val.{Val}
 use Rattle.values.specs.declared.Val.the-variants.{Int, Float as Real, Bool as Truth}
 use Rattle.chunk.specs.Pool.{Stored, stored, position, findOrPush, findOrPushConst}
 use Rattle.chunk.specs.declared.Kept.the-variants.{At, Full}
 use Rattle.fold.specs.Plan.{Chunk, chunk, planAt}
-use Rattle.fold.specs.Pass.{loadOf, constLoad, put, landed, applied, tryFold, folded, foldAll, Lent}
+use Rattle.fold.specs.Pass.{loadOf, constLoad, put, landed, applied, tryFold, Bars, folded, foldAll, Lent}
 use Rattle.fold.specs.declared.Plan.{Plan}
 use Rattle.fold.specs.declared.Plan.the-variants.{Stay, Put}
 use Rattle.refold.specs.Pushed.{Pushed}
@@ -145,23 +146,23 @@ unfolding applied
 by-plan Stay i s = same s
 by-plan (Put p q v) i s = put-pushed p q i s v
 
-try-pushed : (strict : Bool) (i : ℕ) (s : Chunk) → Pushed s (tryFold strict i s)
+try-pushed : (bars : ℕ → Bool) (i : ℕ) (s : Chunk) → Pushed s (tryFold bars i s)
 unfolding tryFold
-try-pushed strict i s = go (eqb (getD (s .dead) i 0) 0)
+try-pushed bars i s = go (eqb (getD (s .dead) i 0) 0)
   where
-    go : (t : Bool) → Pushed s (cond t (applied (planAt strict i s) i s) s)
-    go true = by-plan (planAt strict i s) i s
+    go : (t : Bool) → Pushed s (cond t (applied (planAt bars i s) i s) s)
+    go true = by-plan (planAt bars i s) i s
     go false = same s
 
 -- ---- the pass
 
-module _ (strict : Bool) (s : Chunk) where
-  pub some-pushed : (k : ℕ) → Pushed s (folded strict k s)
+module _ (bars : Bars) (s : Chunk) where
+  pub some-pushed : (k : ℕ) → Pushed s (folded bars k s)
   unfolding folded
   some-pushed zero = same s
-  some-pushed (suc k) = both (some-pushed k) (try-pushed strict k (folded strict k s))
+  some-pushed (suc k) = both (some-pushed k) (try-pushed (bars (folded bars k s .code) k) k (folded bars k s))
 
-  pub all-pushed : Pushed s (foldAll strict s)
+  pub all-pushed : Pushed s (foldAll bars s)
   unfolding foldAll
   all-pushed = some-pushed (count (s .code))
 
@@ -182,33 +183,33 @@ unfolding every
 every-of f zero h = refl
 every-of f (suc n) h = rw (every-of f n (λ k l. h k (omega arith)), h n (omega arith))
 
-module _ (strict : Bool) (s : Chunk) where
-  folded-next : (k : ℕ) → folded strict (suc k) s ≡ tryFold strict k (folded strict k s)
+module _ (bars : Bars) (s : Chunk) where
+  folded-next : (k : ℕ) → folded bars (suc k) s ≡ tryFold (bars (folded bars k s .code) k) k (folded bars k s)
   unfolding folded
   folded-next k = refl
 
-  folded-none : folded strict 0 s ≡ s
+  folded-none : folded bars 0 s ≡ s
   unfolding folded
   folded-none = refl
 
-  held-at : Lent s → (k : ℕ) → k ≤ count (s .code) → Held strict s (folded strict k s) k
-  held-at x zero h = rw folded-none (held-none strict s)
+  held-at : Lent s → (k : ℕ) → k ≤ count (s .code) → Held bars s (folded bars k s) k
+  held-at x zero h = rw folded-none (held-none bars s)
   held-at x (suc k) h =
       let g = held-at x k (omega arith) in
-      let l = try-pushed strict k (folded strict k s) in
-      let z = held-more g refl h x (tryFold strict k (folded strict k s)) refl (l .code-long) (l .dead-long) (l .kinds-long) (l .words-long) in
+      let l = try-pushed (bars (folded bars k s .code) k) k (folded bars k s) in
+      let z = held-more g refl h x (tryFold (bars (folded bars k s .code) k) k (folded bars k s)) refl (l .code-long) (l .dead-long) (l .kinds-long) (l .words-long) in
       rw (folded-next k) (rw (add-one k) at z)
 
-  pub all-held : Lent s → foldAll strict s .constants ≤ constantRoom (s .constants) (many (λ k. folds (opAt (s .code) k)) (count (s .code)))
+  pub all-held : Lent s → foldAll bars s .constants ≤ constantRoom (s .constants) (many (λ k. folds (opAt (s .code) k)) (count (s .code)))
   unfolding foldAll
   all-held x = held-at x (count (s .code)) (omega arith) .few
 
   -- a pool that keeps the table rule keeps it after the pass: test 7 finds nothing new in table 1
   pub pool-again : Lent s → constantsKept (s .kinds) (s .words) (s .constants) ≡ true
-      → constantsKept (foldAll strict s .kinds) (foldAll strict s .words) (foldAll strict s .constants) ≡ true
+      → constantsKept (foldAll bars s .kinds) (foldAll bars s .words) (foldAll bars s .constants) ≡ true
   pool-again x e =
-      let t = foldAll strict s in
-      let p = all-pushed strict s in
+      let t = foldAll bars s in
+      let p = all-pushed bars s in
       let h = all-held x in
       let r = and-true (within (s .constants) (length (s .kinds)) (length (s .words))) (every (constantKept (s .kinds) (s .words)) (s .constants)) e .1 in
       rw (

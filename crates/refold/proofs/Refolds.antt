@@ -10,18 +10,19 @@ use borrow.Author.Tests.{lt-ltb, le-ltb}
 use Rattle.code.specs.declared.Checked.the-variants.{Count}
 use Rattle.lent.specs.Chunk.{count, operandAt}
 use Rattle.lent.specs.Tables.{constantKept, within}
-use Rattle.lent.specs.Check.{sourceRoom, tallyOf, readyOf}
+use Rattle.lent.specs.Check.{sourceRoom, tallyOf}
 use Rattle.lent.proofs.Kept.{kinds-there, words-there}
 use Rattle.laws.specs.All.{every}
 use Rattle.laws.proofs.Branch.{and-true}
 use Rattle.lent.specs.declared.Counts.{Counts}
 use Rattle.lent.specs.declared.Tally.{Tally}
 use Rattle.fold.specs.Plan.{Chunk}
-use Rattle.fold.specs.Pass.{foldAll}
+use Rattle.landings.specs.Landings.{landingsOf}
+use Rattle.fold.specs.Pass.{byScan, foldAll}
+use Rattle.compact.specs.Tables.{movedAll}
 use Rattle.finish.specs.Finish.{Tables, tables, finished}
-use Rattle.optimizer.specs.Fold.{Buffers, buffers, lensOf, needed, sourcesNeeded, outcome, foldPass, constantFold, joined, foldCall}
+use Rattle.optimizer.specs.Fold.{Buffers, buffers, lensOf, needed, sourcesNeeded, foldPass, constantFold, joined}
 use Rattle.optimizer.specs.declared.Folded.{Folded}
-use Rattle.optimizer.specs.declared.FoldAnswer.the-variants.{Is}
 use Rattle.clear.specs.Unused.{AllNear, named, before as number, pooled, recoded, loaded}
 use Rattle.clear.specs.Clear as clearing
 use Rattle.clear.proofs.Answers.{answered-call, answered}
@@ -33,10 +34,11 @@ use Rattle.clear.proofs.Room.{clearedChunk}
 use Rattle.clear.proofs.Alike.{SameLoad, Loads, Alike}
 use Rattle.clear.proofs.Refold.{refold, refold-fewer}
 use Rattle.refold.specs.Lendable.{clearedBuffers, withConstants}
-use Rattle.refold.specs.Refolded.{Refolded, Refolds}
-use Rattle.refold.proofs.Lends.{o, clean, end, before, after, rules, lent-clean, call-answered, joined-answer, by-call}
+use Rattle.refold.specs.Lending.{Lending, lending, readyFor, Folds}
+use Rattle.refold.specs.Refolded.{Refolded, RefoldedAll, Refolds}
+use Rattle.refold.proofs.Lends.{o, all-left, clean, end, before, after, rules, code-fine, lent-clean, call-answered, by-call}
 use Rattle.refold.proofs.Chain.{folds}
-use Rattle.refold.proofs.Beside.{Beside, finished-beside}
+use Rattle.refold.proofs.Beside.{Beside, finished-beside, table-same}
 
 -- what is loaded in both
 module _ (s t : Chunk) (fewer : t .constants ≤ s .constants) (v u : ℕ) (x : Loads (s .constants) s t v u) where
@@ -58,8 +60,12 @@ module _ (s t : Chunk) (fewer : t .constants ≤ s .constants) (v u : ℕ) (x : 
 tail-same : {x y : List ℕ} {i j : ℕ} (l : List ℕ) → x ≡ y → i ≡ j → x ++ drop i l ≡ y ++ drop j l
 tail-same l e f = rw (e, f)
 
-module _ (strict : Bool) (b : Buffers) (c : Counts) (n : ℕ) (q : readyOf (b .code) (b .kinds) (b .words) c (lensOf b) ≡ Count n)
-    (near : AllNear (b .code) (c .constants) (foldAll strict (clean strict b c) .constants)) (few : foldAll strict (clean strict b c) .constants < 65535) where
+module _ (strict : Bool) (l : Lending) (c : Counts) (n : ℕ) (q : readyFor l c ≡ Count n)
+    (near : AllNear (l .buffers .code) (c .constants) (foldAll (byScan strict (l .tries)) (clean strict l c) .constants))
+    (few : foldAll (byScan strict (l .tries)) (clean strict l c) .constants < 65535) where
+  abbrev b : Buffers
+  b = l .buffers
+
   abbrev w : List ℕ
   w = b .code
 
@@ -72,14 +78,17 @@ module _ (strict : Bool) (b : Buffers) (c : Counts) (n : ℕ) (q : readyOf (b .c
       buffers (recoded (number w) m w) (pooled (named w) m (b .kinds)) (pooled (named w) m (b .words)) (b .map) (b .sources) (b .stmts) (b .calls) (b .dead)
       (b .remap)
 
+  abbrev l′ : Lending
+  l′ = lending b′ (l .tries) (l .landings)
+
   abbrev c′ : Counts
   c′ = countsAfter w c
 
   abbrev s : Chunk
-  s = foldAll strict (clean strict b c)
+  s = foldAll (byScan strict (l .tries)) (clean strict l c)
 
   abbrev t : Chunk
-  t = foldAll strict (clearedChunk (clean strict b c))
+  t = foldAll (byScan strict (l .tries)) (clearedChunk (clean strict l c))
 
   same-count : count (recoded (number w) m w) ≡ count w
   same-count = recoded-count (number w) m w
@@ -87,43 +96,43 @@ module _ (strict : Bool) (b : Buffers) (c : Counts) (n : ℕ) (q : readyOf (b .c
   same-need : sourcesNeeded b′ c′ ≡ sourcesNeeded b c
   same-need = ap (λ (x : Tally). sourceRoom (c .sources) (x .phis)) (tally-same (number w) m w)
 
-  end-first : end strict b c ≡ s
+  end-first : end strict l c ≡ s
   unfolding foldPass
   end-first = refl
 
-  end-second : end strict b′ c′ ≡ t
+  end-second : end strict l′ c′ ≡ t
   unfolding foldPass
   end-second = rw same-count
 
   alike : Alike (s .constants) s t
-  alike = refold n (clean strict b c) (rules strict b c n q .before) strict near (lent-clean strict b c n q) few
+  alike = refold n (clean strict l c) (code-fine strict l c n q) strict (l .tries) near (lent-clean strict l c n q) few
 
   fewer : t .constants ≤ s .constants
-  fewer = refold-fewer n (clean strict b c) (rules strict b c n q .before) strict near (lent-clean strict b c n q) few
+  fewer = refold-fewer n (clean strict l c) (code-fine strict l c n q) strict (l .tries) near (lent-clean strict l c n q) few
 
   abbrev besides : List ℕ → List ℕ → Tables
   besides code dead =
       tables code (needed b c .map) (needed b c .sources) (needed b c .stmts) (needed b c .calls) dead (needed b c .remap)
       (record { instructions = length (needed b c .dead); map = c .map; sources = c .sources })
 
-  before-first : before strict b c ≡ besides (s .code) (s .dead)
+  before-first : before strict l c ≡ besides (s .code) (s .dead)
   before-first = rw end-first
 
-  before-second : before strict b′ c′ ≡ besides (t .code) (s .dead)
+  before-second : before strict l′ c′ ≡ besides (t .code) (s .dead)
   before-second = rw (end-second, same-count, same-need, ← alike .dead)
 
-  beside : Beside (s .constants) s t (after strict b c) (after strict b′ c′)
+  beside : Beside (s .constants) s t (after strict l c) (after strict l′ c′)
   beside =
       rw (before-first, before-second)
       (finished-beside alike (needed b c .map) (needed b c .sources) (needed b c .stmts) (needed b c .calls) (s .dead) (needed b c .remap)
       (record { instructions = length (needed b c .dead); map = c .map; sources = c .sources }))
 
-  refolded : Refolded (o strict b c .answer) (joined b c (o strict b c) .after) (o strict b′ c′ .answer) (joined b′ c′ (o strict b′ c′) .after)
+  refolded : Refolded (o strict l c .answer) (joined b c (o strict l c) .after) (o strict l′ c′ .answer) (joined b′ c′ (o strict l′ c′) .after)
   unfolding constantFold joined foldPass
   refolded =
       let x = beside in
-      let v : ℕ → ℕ = λ k. operandAt (after strict b c .code) k in
-      let u : ℕ → ℕ = λ k. operandAt (after strict b′ c′ .code) k in
+      let v : ℕ → ℕ = λ k. operandAt (after strict l c .code) k in
+      let u : ℕ → ℕ = λ k. operandAt (after strict l′ c′ .code) k in
       record {
         instructions = sym (ap (λ l. l .instructions) (x .left));
         entries = sym (ap (λ l. l .map) (x .left));
@@ -145,73 +154,86 @@ module _ (strict : Bool) (b : Buffers) (c : Counts) (n : ℕ) (q : readyOf (b .c
             ∙ load-same s t fewer (v k) (u k) (x .code k .load e) (s .words) (t .words) (λ y. y .word);
       }
 
+  -- the same marks move the tries, and the same jumps land
+  refolded-all : RefoldedAll (o strict l c .answer) (all-left strict l c) (o strict l′ c′ .answer) (all-left strict l′ c′)
+  unfolding constantFold
+  refolded-all =
+      let x = beside in
+      let e : movedAll (after strict l′ c′ .dead) (l .tries) ≡ movedAll (after strict l c .dead) (l .tries) =
+      ap (λ (d : List ℕ). movedAll d (l .tries)) (sym (x .dead)) in
+      record {
+        buffers = refolded;
+        tries = e;
+        landings =
+            tail-same (l .landings)
+            (ap (landingsOf (after strict l′ c′ .code)) e ∙ sym (table-same x (movedAll (after strict l c .dead) (l .tries))))
+            (ap (λ (i : ℕ). i + 1) same-count);
+      }
+
   module _ (scratch : List ℕ) (room : m ≤ length scratch) where
     abbrev lent : clearing.Buffers
     lent = clearing.buffers (b .code) (b .kinds) (b .words) scratch
 
     clear-ready : clearing.readyOf lent m ≡ Count n
     unfolding clearing.readyOf
-    clear-ready = rw (rules strict b c n q .before, rules strict b c n q .constants, le-ltb (length scratch) m room)
+    clear-ready = rw (code-fine strict l c n q, rules strict l c n q .constants, le-ltb (length scratch) m room)
 
-    refolds : Refolds strict b c (o strict b c .answer) (joined b c (o strict b c) .after) scratch
+    refolds : Refolds strict l c (o strict l c .answer) (all-left strict l c) scratch
     refolds =
         let e = answered-call lent m n clear-ready in
         let y = answered lent m (number w m) (clearing.cleared lent m .after) e in
         let k = held-of lent m (Count n) (sym clear-ready) n refl in
-        let z : readyOf (b′ .code) (b′ .kinds) (b′ .words) c′ (lensOf b′) ≡ Count n =
+        let z : readyFor l′ c′ ≡ Count n =
         rw (pooled-length (named w) m (b .kinds) (k .kinds), pooled-length (named w) m (b .words) (k .words))
-        (accepted-after n w (b .kinds) (b .words) c (lensOf b) q) in
+        (accepted-after n w (l .tries) (b .kinds) (b .words) c (lensOf b) (length (l .landings)) q) in
         record {
           left = number w m;
           cleared = clearing.cleared lent m .after;
           clears = e;
-          folded = o strict b′ c′ .answer;
-          after = joined b′ c′ (o strict b′ c′) .after;
-          folds =
-              rw (y .code, y .kinds, y .words)
-              (call-answered strict b′ c′ n z ∙ ap (λ v. outcome v (joined b′ c′ (o strict b′ c′) .after)) (joined-answer strict b′ c′));
-          same = refolded;
+          folded = o strict l′ c′ .answer;
+          after = all-left strict l′ c′;
+          folds = rw (y .code, y .kinds, y .words) (call-answered strict l′ c′ n z);
+          same = refolded-all;
         }
 
-constants-left : (strict : Bool) (b : Buffers) (c : Counts) → o strict b c .answer .constants ≡ foldAll strict (clean strict b c) .constants
+constants-left : (strict : Bool) (l : Lending) (c : Counts)
+    → o strict l c .answer .constants ≡ foldAll (byScan strict (l .tries)) (clean strict l c) .constants
 unfolding constantFold foldPass
-constants-left strict b c = refl
+constants-left strict l c = refl
 
 -- asked: each operand with the mark is below the count, or at or past the count that the uncleared fold ends with, and that is below 65,535
-pub refold-call : (strict : Bool) (b : Buffers) (c : Counts) (f : Folded) (a : Buffers) → foldCall strict b c ≡ outcome (Is f) a → f .constants < 65535
-    → AllNear (b .code) (c .constants) (f .constants) → (scratch : List ℕ) → c .constants ≤ length scratch → Refolds strict b c f a scratch
-refold-call strict b c f a e few near scratch room =
-    by-call strict b c (λ g y. g .constants < 65535 → AllNear (b .code) (c .constants) (g .constants) → Refolds strict b c g y scratch)
-    (λ n q l h. refolds strict b c n q (rw (constants-left strict b c) at h) (rw (constants-left strict b c) at l) scratch room) f a e few near
+pub refold-call : (strict : Bool) (l : Lending) (c : Counts) (f : Folded) (a : Lending) → Folds strict l c f a → f .constants < 65535
+    → AllNear (l .buffers .code) (c .constants) (f .constants) → (scratch : List ℕ) → c .constants ≤ length scratch → Refolds strict l c f a scratch
+refold-call strict l c f a e few near scratch room =
+    by-call strict l c (λ g y. g .constants < 65535 → AllNear (l .buffers .code) (c .constants) (g .constants) → Refolds strict l c g y scratch)
+    (λ n q h i. refolds strict l c n q (rw (constants-left strict l c) at i) (rw (constants-left strict l c) at h) scratch room) f a e few near
 
 -- ---- whatever the operands: a chunk that is accepted is accepted after clearing too
 
-pub accepted-again : (strict : Bool) (b : Buffers) (c : Counts) (f : Folded) (a : Buffers) → foldCall strict b c ≡ outcome (Is f) a
-    → (left : ℕ) (x : clearing.Buffers) → left ≡ number (b .code) (c .constants) → x .code ≡ recoded (number (b .code)) (c .constants) (b .code)
-    → x .kinds ≡ pooled (named (b .code)) (c .constants) (b .kinds) → x .words ≡ pooled (named (b .code)) (c .constants) (b .words)
-    → (strict′ : Bool) → (g : Folded) × (y : Buffers)
-    × (foldCall strict′ (clearedBuffers b x) (withConstants left c) ≡ outcome (Is g) y)
-accepted-again strict b c f a e left x l code kinds words strict′ =
-    by-call strict b c
-    (λ _ _. (g : Folded) × (y : Buffers)
-    × (foldCall strict′ (clearedBuffers b x) (withConstants left c) ≡ outcome (Is g) y))
-    (λ n q. by n q) f a e
-  where
-    by : (n : ℕ) → readyOf (b .code) (b .kinds) (b .words) c (lensOf b) ≡ Count n → (g : Folded) × (y : Buffers)
-        × (foldCall strict′ (clearedBuffers b x) (withConstants left c) ≡ outcome (Is g) y)
-    by n q =
-        let w = b .code in
-        let m = c .constants in
-        let h = rules strict b c n q in
-        let d = clearedBuffers b x in
-        let i = and-true (within m (length (b .kinds)) (length (b .words))) (every (constantKept (b .kinds) (b .words)) m) (h .constants) .0 in
-        let z : readyOf (d .code) (d .kinds) (d .words) (withConstants left c) (lensOf d) ≡ Count n =
-        rw (
-          code,
-          kinds,
-          words,
-          l,
-          pooled-length (named w) m (b .kinds) (kinds-there m (length (b .kinds)) (length (b .words)) i),
-          pooled-length (named w) m (b .words) (words-there m (length (b .kinds)) (length (b .words)) i),
-        ) (accepted-after n w (b .kinds) (b .words) c (lensOf b) q) in
-        folds strict′ d (withConstants left c) n z
+module _ (strict : Bool) (l : Lending) (c : Counts) (f : Folded) (a : Lending) (e : Folds strict l c f a) (left : ℕ) (x : clearing.Buffers)
+    (count : left ≡ number (l .buffers .code) (c .constants)) (code : x .code ≡ recoded (number (l .buffers .code)) (c .constants) (l .buffers .code))
+    (kinds : x .kinds ≡ pooled (named (l .buffers .code)) (c .constants) (l .buffers .kinds))
+    (words : x .words ≡ pooled (named (l .buffers .code)) (c .constants) (l .buffers .words)) (strict′ : Bool) where
+  abbrev Answered : Type 0
+  Answered = (g : Folded) × (y : Lending) × Folds strict′ (clearedBuffers l x) (withConstants left c) g y
+
+  by-ready : (n : ℕ) → readyFor l c ≡ Count n → Answered
+  by-ready n q =
+      let b = l .buffers in
+      let w = b .code in
+      let m = c .constants in
+      let h = rules strict l c n q in
+      let i = and-true (within m (length (b .kinds)) (length (b .words))) (every (constantKept (b .kinds) (b .words)) m) (h .constants) .0 in
+      let z : readyFor (clearedBuffers l x) (withConstants left c) ≡ Count n =
+      rw (
+        code,
+        kinds,
+        words,
+        count,
+        pooled-length (named w) m (b .kinds) (kinds-there m (length (b .kinds)) (length (b .words)) i),
+        pooled-length (named w) m (b .words) (words-there m (length (b .kinds)) (length (b .words)) i),
+      ) (accepted-after n w (l .tries) (b .kinds) (b .words) c (lensOf b) (length (l .landings)) q) in
+      folds strict′ (clearedBuffers l x) (withConstants left c) n z
+
+  pub accepted-again : Answered
+  accepted-again = by-call strict l c (λ _ _. Answered) (λ n q. by-ready n q) f a e

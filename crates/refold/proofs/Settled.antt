@@ -23,7 +23,7 @@ use Rattle.compact.specs.Remap.{alive, live, remapOf}
 use Rattle.compact.specs.Tables.{operandOf, leftAt, left, compacted, pairAt, placed}
 use Rattle.phi_pass.specs.Phi.{paired, firstOf, secondOf, markAt as phiMark, marked, pairLeft, pairsLeft, indexed}
 use Rattle.phi_pass.proofs.Pairs.{marked-length, dead-stays}
-use Rattle.clear.proofs.Whole.{many-ext}
+use Rattle.lent.proofs.Counting.{many-ext}
 use Rattle.finish.specs.Finish.{Tables, tables, sourcesAfter, mapCount, mapOf, sourcesOf, renewed, finished, Fit}
 use Rattle.refold.proofs.Pushes.{every-at}
 use Rattle.refold.proofs.Spent.{waiting}

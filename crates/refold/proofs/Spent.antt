@@ -24,12 +24,12 @@ use Rattle.chunk.specs.declared.Kept.{Kept}
 use Rattle.chunk.specs.declared.Kept.the-variants.{At, Full}
 use Rattle.chunk.proofs.Store.{kept-few}
 use Rattle.fold.specs.Plan.{Chunk, planAt}
-use Rattle.fold.specs.Pass.{Loading, loadOf, constLoad, put, landed, applied, tryFold, folded, foldAll, Lent}
+use Rattle.fold.specs.Pass.{Loading, loadOf, constLoad, put, landed, applied, tryFold, Bars, folded, foldAll, Lent}
 use Rattle.fold.specs.declared.Loaded.{Loaded}
 use Rattle.fold.specs.declared.Loaded.the-variants.{As, No}
 use Rattle.fold.specs.declared.Plan.{Plan}
 use Rattle.fold.specs.declared.Plan.the-variants.{Stay, Put}
-use Rattle.fold.proofs.Grown.{put-other, put-here}
+use Rattle.fold.proofs.Put.{put-other, put-here}
 use Rattle.fold.proofs.Planned.{Planned, planned}
 use Rattle.refold.proofs.Pushes.{some-pushed}
 
@@ -137,36 +137,36 @@ module _ (n i : ℕ) (s : Chunk) (l : i < n) (c : i < count (s .code)) (d : i < 
         )
     landed-spent No kinds words h = omega arith
 
-  applied-spent : (strict : Bool) (plan : Plan) → planAt strict i s ≡ plan → Spent n s (applied plan i s)
+  applied-spent : (bars : ℕ → Bool) (plan : Plan) → planAt bars i s ≡ plan → Spent n s (applied plan i s)
   unfolding applied
-  applied-spent strict Stay e = omega arith
-  applied-spent strict (Put p q v) e =
+  applied-spent bars Stay e = omega arith
+  applied-spent bars (Put p q v) e =
       let r = constLoad v (s .kinds) (s .words) (s .constants) in
-      landed-spent p q (planned strict i s e) (r .load) (r .kinds) (r .words) (load-modest v (s .kinds) (s .words) (s .constants))
+      landed-spent p q (planned bars i s e) (r .load) (r .kinds) (r .words) (load-modest v (s .kinds) (s .words) (s .constants))
 
-try-spent : (strict : Bool) (n i : ℕ) (s : Chunk) → i < n → i < count (s .code) → i < length (s .dead) → Spent n s (tryFold strict i s)
+try-spent : (bars : ℕ → Bool) (n i : ℕ) (s : Chunk) → i < n → i < count (s .code) → i < length (s .dead) → Spent n s (tryFold bars i s)
 unfolding tryFold
-try-spent strict n i s l c d = go (alive (s .dead) i) refl
+try-spent bars n i s l c d = go (alive (s .dead) i) refl
   where
-    go : (t : Bool) → alive (s .dead) i ≡ t → Spent n s (cond t (applied (planAt strict i s) i s) s)
-    go true e = applied-spent n i s l c d e strict (planAt strict i s) refl
+    go : (t : Bool) → alive (s .dead) i ≡ t → Spent n s (cond t (applied (planAt bars i s) i s) s)
+    go true e = applied-spent n i s l c d e bars (planAt bars i s) refl
     go false e = omega arith
 
 -- ---- the pass
 
-module _ (strict : Bool) (s : Chunk) (h : count (s .code) ≤ length (s .dead)) where
-  some-spent : (k : ℕ) → k ≤ count (s .code) → Spent (count (s .code)) s (folded strict k s)
+module _ (bars : Bars) (s : Chunk) (h : count (s .code) ≤ length (s .dead)) where
+  some-spent : (k : ℕ) → k ≤ count (s .code) → Spent (count (s .code)) s (folded bars k s)
   unfolding folded
   some-spent zero l = omega arith
   some-spent (suc k) l =
-      let p = some-pushed strict s k in
+      let p = some-pushed bars s k in
       omega (
         arith,
         some-spent k (omega arith),
-        try-spent strict (count (s .code)) k (folded strict k s) l (omega (arith, p .code-long)) (omega (arith, p .dead-long)),
+        try-spent (bars (folded bars k s .code) k) (count (s .code)) k (folded bars k s) l (omega (arith, p .code-long)) (omega (arith, p .dead-long)),
       )
 
   -- constants and operators that may still fold are together no more than before
-  pub all-spent : Spent (count (s .code)) s (foldAll strict s)
+  pub all-spent : Spent (count (s .code)) s (foldAll bars s)
   unfolding foldAll
   all-spent = some-spent (count (s .code)) (omega arith)

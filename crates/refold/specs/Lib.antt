@@ -1,3 +1,4 @@
+pub mod Lending
 pub mod Pushed
 pub mod Lendable
 pub mod Refolded

@@ -6,13 +6,13 @@ use Prim.Native.Nat.{ℕ, _≤_}
 use lib.ListN.{length}
 use Rattle.lent.specs.Chunk.{opAt, markAt, operandAt, names}
 use Rattle.lent.specs.declared.Counts.{Counts}
-use Rattle.optimizer.specs.Fold.{Buffers, outcome, foldCall}
+use Rattle.optimizer.specs.Fold.{Buffers}
 use Rattle.optimizer.specs.declared.Folded.{Folded}
-use Rattle.optimizer.specs.declared.FoldAnswer.the-variants.{Is}
 use Rattle.clear.specs.Unused.{loaded}
 use Rattle.clear.specs.Clear as clearing
 use Rattle.clear.specs.Clear.{clearCall}
 use Rattle.clear.specs.declared.ClearAnswer.the-variants as clear
+use Rattle.refold.specs.Lending.{Lending, Folds}
 use Rattle.refold.specs.Lendable.{clearedBuffers, withConstants}
 
 -- two answered folds, f that leaves a and g that leaves y: the same but for where constants stand
@@ -40,13 +40,19 @@ pub record Refolded (f : Folded) (a : Buffers) (g : Folded) (y : Buffers) : Type
   pub word : (k : ℕ) → names (a .code) k ≡ true
       → loaded (y .words) (g .constants) (operandAt (y .code) k) ≡ loaded (a .words) (f .constants) (operandAt (a .code) k)
 
+-- all that was lent: the same tries and the same table too
+pub record RefoldedAll (f : Folded) (a : Lending) (g : Folded) (y : Lending) : Type 0 where
+  pub buffers : Refolded f (a .buffers) g (y .buffers)
+  pub tries : y .tries ≡ a .tries
+  pub landings : y .landings ≡ a .landings
+
 -- the chunk b, cleared to so many constants, and folded: answered, and as f that leaves a
-pub record Refolds (strict : Bool) (b : Buffers) (c : Counts) (f : Folded) (a : Buffers) (scratch : List ℕ) : Type 0 where
+pub record Refolds (strict : Bool) (b : Lending) (c : Counts) (f : Folded) (a : Lending) (scratch : List ℕ) : Type 0 where
   pub left : ℕ
   pub cleared : clearing.Buffers
-  pub clears : clearCall (clearing.buffers (b .code) (b .kinds) (b .words) scratch) (c .constants) ≡ clearing.outcome (clear.Is left) cleared
+  pub clears : clearCall (clearing.buffers (b .buffers .code) (b .buffers .kinds) (b .buffers .words) scratch) (c .constants)
+      ≡ clearing.outcome (clear.Is left) cleared
   pub folded : Folded
-  pub after : Buffers
-  pub folds : foldCall strict (clearedBuffers b cleared) (record
-      { constants = left; map = c .map; sources = c .sources; stmts = c .stmts; calls = c .calls }) ≡ outcome (Is folded) after
-  pub same : Refolded f a folded after
+  pub after : Lending
+  pub folds : Folds strict (clearedBuffers b cleared) (withConstants left c) folded after
+  pub same : RefoldedAll f a folded after

@@ -1,0 +1,138 @@
+-- The folding call keeps what a rule computes: document 02, wish 14. Assumes nothing.
+use Prim.Native.Nat.{ℕ, zero, suc, _+_, _*_, _/_, _≤_, _<_}
+use native.Mathlib.Omega.{arith}
+use mathlib.Core.Path.{_≡_, refl, sym, ap, _∙_, subst}
+use mathlib.Core.Logic.{⊎-elim}
+use mathlib.Core.Bool.{Bool, true, false, cond, _&&_}
+use mathlib.Core.List.{List, [], _∷_}
+use native.Mathlib.Nat.{eq-or-lt-of-le}
+use lib.Dec.{eqb, ltb}
+use lib.ListN.{length, getD, take, replicate, length-replicate}
+use lib.Seq.{length-take-le, ext-getD}
+use mir.Val.{boolByte}
+use borrow.Author.Tests.{eqb-true, eqb-false, eq-eqb, ne-eqb, ltb-true, ltb-false}
+use Rattle.laws.specs.All.{every, many}
+use Rattle.laws.specs.Each.{each}
+use Rattle.laws.proofs.Branch.{and-true}
+use Rattle.laws.proofs.Each.{each-word, each-at}
+use Rattle.code.specs.Op.{Phi}
+use Rattle.code.specs.Answers.{asked}
+use Rattle.code.specs.declared.Checked.{Checked}
+use Rattle.code.specs.declared.Checked.the-variants.{Count, No as Refused}
+use Rattle.lent.specs.Chunk.{stride, count, opAt, isPhi, folds}
+use Rattle.lent.specs.Check.{readyOf}
+use Rattle.lent.specs.declared.Counts.{Counts}
+use Rattle.lent.proofs.Counting.{every-at, zeros-at}
+use Rattle.fold.specs.Plan.{Chunk, chunk}
+use Rattle.fold.specs.Pass.{Bars, byScan, foldAll, Lent}
+use Rattle.fold.proofs.Passed.{all-passed}
+use Rattle.compact.specs.Remap.{alive, live}
+use Rattle.compact.specs.Tables.{compacted}
+use Rattle.phi_pass.specs.Phi.{paired, noop, markAt, marked}
+use Rattle.finish.specs.Finish.{Tables, tables, mapOf, sourcesOf, renewed, finished}
+use Rattle.optimizer.specs.Fold.{Buffers, buffers, lensOf, needed, Outcome, outcome, foldPass, constantFold, joined, settled, foldLent, called, rejoined, foldCall, Held, Exact}
+use Rattle.optimizer.specs.declared.Folded.{Folded}
+use Rattle.optimizer.specs.declared.FoldAnswer.{FoldAnswer}
+use Rattle.optimizer.specs.declared.FoldAnswer.the-variants.{Is, No}
+use Rattle.optimizer.proofs.Answered.{answered}
+use Rattle.runs.specs.Kept.{Same, Strict, Fresh}
+use Rattle.runs.specs.Rule.{known, Rule}
+use Rattle.runs.proofs.Same.{scan-strict, folded-same, idle-same}
+
+-- a rule has no Phi
+no-phi : (o : ℕ) → known o ≡ true → eqb o Phi ≡ false
+unfolding known folds
+no-phi o e = go (eqb o Phi) refl
+  where
+    go : (t : Bool) → eqb o Phi ≡ t → t ≡ false
+    go true q = let z : known Phi ≡ true = rw (eqb-true o Phi q) at e in sym z
+    go false q = refl
+
+-- so none dies
+none-marked : (w map sources dead : List ℕ) → ((k : ℕ) → k < length dead → isPhi w k ≡ false) → marked w map sources dead ≡ dead
+unfolding marked markAt noop paired
+none-marked w map sources dead h =
+    sym
+    (ext-getD 0 dead (each (λ i. markAt w map sources dead i ∷ []) (length dead)) (sym (each-word (markAt w map sources dead) (length dead)))
+    (λ k l. sym (each-at (markAt w map sources dead) (length dead) k l ∙ at k (h k l))))
+  where
+    at : (k : ℕ) → isPhi w k ≡ false → markAt w map sources dead k ≡ getD dead k 0
+    at k e = rw e (go (alive dead k) refl)
+      where
+        go : (t : Bool) → alive dead k ≡ t → cond t 0 (getD dead k 0) ≡ getD dead k 0
+        go true q = sym (eqb-true (getD dead k 0) 0 q)
+        go false q = refl
+
+module _ (bars : Bars) (strict : Strict bars) (code kinds words map sources stmts calls remap : List ℕ) (constants m p : ℕ) (n : ℕ)
+    (whole : length code ≡ stride * n) (lent : Lent (chunk code (replicate n 0) kinds words constants)) (rule : Rule code constants) where
+  abbrev s : Chunk
+  s = chunk code (replicate n 0) kinds words constants
+
+  abbrev t : Chunk
+  t = foldAll bars s
+
+  long : length {A = ℕ} (replicate n 0) ≡ n
+  long = length-replicate n 0
+
+  fresh : Fresh s
+  fresh =
+      record {
+        whole = rw long whole;
+        blank = zeros-at n;
+        lent = lent;
+        each = λ k h. rule .plain k (omega (arith, long));
+      }
+
+  abbrev tabs : Tables
+  tabs = tables (t .code) map sources stmts calls (t .dead) remap (record { instructions = n; map = m; sources = p })
+
+  fits : count code ≤ length {A = ℕ} (replicate n 0)
+  fits = omega (arith, long)
+
+  philess : (k : ℕ) → k < length (t .dead) → isPhi (t .code) k ≡ false
+  philess k h =
+      let a = all-passed bars s fits in
+      a .phis k ∙ no-phi (opAt code k) (rule .only k (omega (arith, a .dead-long, long)))
+
+  ends-alike : Same code kinds words n (finished tabs .code) (t .kinds) (t .words) (finished tabs .left .instructions)
+  unfolding finished renewed
+  ends-alike =
+      rw (none-marked (t .code) (mapOf tabs) (sourcesOf tabs) (t .dead) philess) (go (every (alive (t .dead)) (length (t .dead))) refl)
+    where
+      go : (u : Bool) → every (alive (t .dead)) (length (t .dead)) ≡ u
+          → Same code kinds words n (cond u tabs (renewed tabs) .code) (t .kinds) (t .words) (cond u tabs (renewed tabs) .left .instructions)
+      go true e =
+          rw long at
+          (idle-same bars strict s fresh (λ k h. eqb-true (getD (t .dead) k 0) 0 (every-at (alive (t .dead)) (length (t .dead)) k e (omega (arith, all-passed bars s fits .dead-long)))))
+      go false e = subst (λ (x : ℕ). Same code kinds words x (compacted (t .dead) (t .code)) (t .kinds) (t .words) (live (t .dead) (length (t .dead)))) long (folded-same bars strict s fresh)
+
+-- ---- the call
+
+module _ (b : Buffers) (c : Counts) (x : Exact b c) (rule : Rule (b .code) (c .constants)) (bars : Bars) (strict : Strict bars) where
+  fold-same : Same (b .code) (b .kinds) (b .words) (length (b .dead)) (constantFold bars b c .after .code) (constantFold bars b c .after .kinds) (constantFold bars b c .after .words)
+      (constantFold bars b c .answer .instructions)
+  unfolding constantFold foldPass
+  fold-same =
+      ends-alike bars strict (b .code) (b .kinds) (b .words) (b .map) (b .sources) (b .stmts) (b .calls) (b .remap) (c .constants) (c .map) (c .sources) (length (b .dead)) (x .whole)
+      (record {
+        few = x .constants;
+        marks = omega (arith, x .whole, length-replicate {A = ℕ} (length (b .dead)) 0);
+        kinds-room = x .kinds;
+        words-room = x .words;
+      })
+      rule
+
+-- Every run from an empty stack that ends before folding ends after it with the same stack or the same stop, and back.
+pub keeps-runs : (b : Buffers) (tries landings : List ℕ) (c : Counts) → Rule (b .code) (c .constants) → (f : Folded)
+    → foldCall true b tries landings c .result .answer ≡ Is f
+    → Same (b .code) (b .kinds) (b .words) (count (b .code)) (foldCall true b tries landings c .result .after .code)
+    (foldCall true b tries landings c .result .after .kinds) (foldCall true b tries landings c .result .after .words) (f .instructions)
+unfolding rejoined joined foldLent
+keeps-runs b tries landings c rule f e =
+    let a = answered true b tries landings c f e in
+    let o = constantFold (byScan true tries) (needed b c) c in
+    let l : length (take (count (b .code)) (b .dead)) ≡ count (b .code) = length-take-le (count (b .code)) (b .dead) (a .held .dead) in
+    let y = fold-same (needed b c) c (a .exact) rule (byScan true tries) (scan-strict tries) in
+    rw (a .is)
+    (subst (λ (g : Folded). Same (b .code) (b .kinds) (b .words) (count (b .code)) (o .after .code) (o .after .kinds) (o .after .words) (g .instructions)) (a .counts)
+    (subst (λ (k : ℕ). Same (b .code) (b .kinds) (b .words) k (o .after .code) (o .after .kinds) (o .after .words) (o .answer .instructions)) l y))

@@ -1,0 +1,31 @@
+-- What folding keeps of a chunk's runs: document 02, wish 14. Assumes nothing.
+use Prim.Native.Nat.{ℕ, _*_, _<_}
+use mathlib.Core.Path.{_≡_}
+use mathlib.Core.Bool.{false}
+use mathlib.Core.List.{List, []}
+use lib.ListN.{length, getD}
+use Rattle.lent.specs.Chunk.{stride}
+use Rattle.landings.specs.Landings.{landsAny}
+use Rattle.fold.specs.Plan.{Chunk}
+use Rattle.fold.specs.Pass.{Bars, Lent}
+use Rattle.runs.specs.Machine.{End, Run, ins, Plain}
+
+-- a run from an empty stack over n instructions ends so
+abbrev pub Ends : (code kinds words : List ℕ) → ℕ → End → Type 0
+Ends code kinds words n e = Run (ins code kinds words) n 0 [] e
+
+-- both end alike, or neither ends
+pub record Same (code kinds words : List ℕ) (n : ℕ) (code′ kinds′ words′ : List ℕ) (n′ : ℕ) : Type 0 where
+  pub ends : (e : End) → Ends code kinds words n e → Ends code′ kinds′ words′ n′ e
+  pub back : (e : End) → Ends code′ kinds′ words′ n′ e → Ends code kinds words n e
+
+-- no fold over a jump's landing
+abbrev pub Strict : Bars → Type 0
+Strict bars = (w : List ℕ) (i p : ℕ) → bars w i p ≡ false → landsAny w p i ≡ false
+
+-- a chunk as it comes to the pass: whole, nothing dead, room for what folds push, and each instruction plain
+pub record Fresh (s : Chunk) : Type 0 where
+  pub whole : length (s .code) ≡ stride * length (s .dead)
+  pub blank : (k : ℕ) → getD (s .dead) k 0 ≡ 0
+  pub lent : Lent s
+  pub each : (k : ℕ) → k < length (s .dead) → Plain (s .code) (s .constants) k

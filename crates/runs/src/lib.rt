@@ -1,0 +1,1 @@
+// What a folded chunk computes: no code, only the theorem.

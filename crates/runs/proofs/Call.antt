@@ -118,7 +118,7 @@ module _ (b : Buffers) (c : Counts) (x : Exact b c) (rule : Rule (b .code) (c .c
   unfolding constantFold foldPass
   fold-same =
       ends-alike bars strict (b .code) (b .kinds) (b .words) (b .map) (b .sources) (b .stmts) (b .calls) (b .remap) (c .constants) (c .map) (c .sources)
-          (length (b .dead)) (x .whole)
+      (length (b .dead)) (x .whole)
       (record {
         few = x .constants;
         marks = omega (arith, x .whole, length-replicate {A = ℕ} (length (b .dead)) 0);

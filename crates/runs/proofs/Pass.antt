@@ -86,7 +86,7 @@ module _ {n i : ℕ} {code dead kinds words : List ℕ} {constants : ℕ} (fine 
         → Operates code kinds words p a → Operates code kinds words q b → foldBinop o a b ≡ Is v → Done
     two-after o a b k nq np oa ob f =
         keeps fine whole hi p q v (np .below) (omega (arith, nq .below)) (np .alive) gap (constLoad v kinds words constants .kinds)
-            (constLoad v kinds words constants .words) c x m
+        (constLoad v kinds words constants .words) c x m
         (load (good-of f (binop-good o a b))) (load-grows v kinds words constants) (held2 a b q) none first inner last
       where
         gap : (k : ℕ) → p < k → k < i → (k ≡ q → ⊥) → getD dead k 0 ≡ 0 → ⊥
@@ -122,7 +122,7 @@ module _ {n i : ℕ} {code dead kinds words : List ℕ} {constants : ℕ} (fine 
         → Operates code kinds words p a → foldUnary minus a ≡ Is v → Done
     one-after minus a k np iq oa f =
         keeps fine whole hi p q v (omega (arith, np .below)) (omega arith) (np .alive) gap (constLoad v kinds words constants .kinds)
-            (constLoad v kinds words constants .words) c x m
+        (constLoad v kinds words constants .words) c x m
         (load (one-good minus a v (oa .good) f)) (load-grows v kinds words constants) (λ _. Known a ∷ []) none (pushes p a (np .alive) oa)
         (λ j low high s. passes j (np .gap j low high) (Known a ∷ s)) last
       where
@@ -227,7 +227,7 @@ module _ (bars : Bars) (strict : Strict bars) (n : ℕ) (s : Chunk) (fine : Fine
           let t = folded bars k s in
           let b = bars (t .code) k in
           let a = step t (ih .kept .fine) (whole ∙ ap (λ (m : ℕ). m / stride) (sym (ih .kept .code-long))) h
-              (held-ready (ih .held) whole h lent) b (λ p f. strict (t .code) k p f) in
+          (held-ready (ih .held) whole h lent) b (λ p f. strict (t .code) k p f) in
           let u = tryFold b k t in
           record {
             held = rw (add-one k) at (held-more (ih .held) whole h lent u refl (a .code-long) (a .dead-long) (a .kinds-long) (a .words-long));

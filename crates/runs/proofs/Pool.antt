@@ -106,8 +106,13 @@ module _ (k w count : ℕ) (kinds words : List ℕ) where
           let ei : count ≡ i = cc in
           let em : count + 1 ≡ m = cc in
           rw (← ei, ← em)
-          (record { kind = getD-set-same kinds count k 0 (r .kinds-more l); word = getD-set-same words count w 0
-          (r .words-more l); below = omega arith; least = omega arith })
+          (record {
+            kind = getD-set-same kinds count k 0 (r .kinds-more l);
+            word = getD-set-same words count w 0
+                (r .words-more l);
+            below = omega arith;
+            least = omega arith;
+          })
       go false false p q e = absurd (let z : _≡_ {A = ℕ} 0 1 = cc in omega arith)
 
 -- ---- a result
@@ -146,8 +151,11 @@ pub load-back : (v : Val) → Good v → (count : ℕ) (kinds words : List ℕ) 
     → Loads v count (constLoad v kinds words count .kinds) (constLoad v kinds words count .words) o x m
 unfolding constLoad findOrPushConst toVal inRange read plain kindOf page
 load-back (Int z) g count kinds words r o x m e =
-    kept-loads (findOrPush kinds words count 1 (ofZ w64 z)) 1 (ofZ w64 z) count kinds words (Int z) (rw (back-ok z (omega arith), lt-ltb (mag z)
-        (2 ^ 47) g) refl)
+    kept-loads (findOrPush kinds words count 1 (ofZ w64 z)) 1 (ofZ w64 z) count kinds words (Int z) (rw (
+      back-ok z (omega arith),
+      lt-ltb (mag z)
+          (2 ^ 47) g,
+    ) refl)
     (placed 1 (ofZ w64 z) count kinds words r) o x m e
 load-back (Real y) g count kinds words r o x m e =
     kept-loads (findOrPush kinds words count 2 (toBits binary64 y)) 2 (toBits binary64 y) count kinds words (Real y) (rw (ofBits-toBits binary64 y g) refl)

@@ -95,8 +95,8 @@ module _ (bars : Bars) (strict : Strict bars) (s : Chunk) (fresh : Fresh s) wher
       record {
         ends = λ e run.
             blank (t .code) (t .dead) (t .kinds) (t .words) n d e .1 (all .kept .runs e .0 (blank (s .code) (s .dead) (s .kinds)
-                (s .words) n (λ k h. fresh .blank k) e .0 run));
+            (s .words) n (λ k h. fresh .blank k) e .0 run));
         back = λ e run.
             blank (s .code) (s .dead) (s .kinds) (s .words) n (λ k h. fresh .blank k) e .1 (all .kept .runs e .1 (blank (t .code) (t .dead) (t .kinds)
-                (t .words) n d e .0 run));
+            (t .words) n d e .0 run));
       })

@@ -182,14 +182,9 @@ finished-mapped t = go (every (alive d) (length d)) refl
     go true e = record { filled = λ f. absurd (let z : _≡_ {A = ℕ} 0 1 = ap boolByte (sym f ∙ e) in omega arith) }
     go false e = record { filled = λ f. refl }
 
-fold-mapped : (bars : Bars) (b : Buffers) (c : Counts) → Mapped (constantFold bars b c .after .dead) (constantFold bars b c .after .remap)
-unfolding constantFold
-fold-mapped bars b c = finished-mapped _
-
-pub mapped-after : (bars : Bars) (b : Buffers) (c : Counts) (a : Folded) (code′ kinds′ words′ map′ sources′ stmts′ calls′ dead′ remap′ : List ℕ)
-    → outcome a (buffers code′ kinds′ words′ map′ sources′ stmts′ calls′ dead′ remap′) ≡ constantFold bars b c → Mapped dead′ remap′
-mapped-after bars b c a code′ kinds′ words′ map′ sources′ stmts′ calls′ dead′ remap′ e =
-    subst (λ (o : Outcome Folded). Mapped (o .after .dead) (o .after .remap)) (sym e) (fold-mapped bars b c)
+pub mapped-after : (t : Tables) (code′ map′ sources′ stmts′ calls′ dead′ remap′ : List ℕ) (left : Left)
+    → tables code′ map′ sources′ stmts′ calls′ dead′ remap′ left ≡ finished t → Mapped dead′ remap′
+mapped-after t code′ map′ sources′ stmts′ calls′ dead′ remap′ left e = subst (λ (u : Tables). Mapped (u .dead) (u .remap)) (sym e) (finished-mapped t)
 
 module _ (dead : List ℕ) (t : Bool) (e : t ≡ every (alive dead) (length dead)) where
   pub map-there : (remap : List ℕ) → Mapped dead remap → t ≡ false → Remap dead remap

@@ -65,48 +65,6 @@ fn sources_needed(code: &[u16], sources: usize) -> usize
     lent::source_room(sources, t.phis)
 }
 
-// Folding, the Phi pass and compaction, over buffers that are as long as needed.
-fn constant_fold(
-    code: &mut [u16],
-    kinds: &mut [u8],
-    words: &mut [u64],
-    phi_map: &mut [u32],
-    phi_sources: &mut [u16],
-    stmt_pos: &mut [u32],
-    call_byte_pos: &mut [u32],
-    dead: &mut [u8],
-    remap: &mut [u32],
-    landings: &[u64],
-    counts: Counts,
-    strict: bool,
-) -> Folded
-    requires { ⌜ Exact (buffers (now code) (now kinds) (now words) (now «phi_map») (now «phi_sources») (now «stmt_pos») (now «call_byte_pos») (now dead) (now remap)) counts × (count (now code) ≤ length (now landings)) ⌝ }
-    ensures { λ r. ⌜ outcome r (buffers (now (code .exit)) (now (kinds .exit)) (now (words .exit)) (now («phi_map» .exit)) (now («phi_sources» .exit)) (now («stmt_pos» .exit)) (now («call_byte_pos» .exit)) (now (dead .exit)) (now (remap .exit))) ≡ constantFold (byTable strict (now (landings .entry))) (buffers (now (code .entry)) (now (kinds .entry)) (now (words .entry)) (now («phi_map» .entry)) (now («phi_sources» .entry)) (now («stmt_pos» .entry)) (now («call_byte_pos» .entry)) (now (dead .entry)) (now (remap .entry))) counts ⌝ }
-{
-    let left = Left {
-        instructions: dead.len(),
-        map: counts.map,
-        sources: counts.sources,
-    };
-    let constants = fold_pass(code, dead, kinds, words, counts.constants, landings, strict);
-    let after = finish::finish(
-        code,
-        phi_map,
-        phi_sources,
-        stmt_pos,
-        call_byte_pos,
-        dead,
-        remap,
-        left,
-    );
-    Folded {
-        instructions: after.instructions,
-        constants,
-        map: after.map,
-        sources: after.sources,
-    }
-}
-
 // The tries follow, if anything died.
 fn move_tries(tries: &mut [u32], dead: &[u8], remap: &[u32])
     requires { ⌜ Mapped (now dead) (now remap) ⌝ }
@@ -118,8 +76,9 @@ fn move_tries(tries: &mut [u32], dead: &[u8], remap: &[u32])
     compact::place_words(tries, dead, remap);
 }
 
-// The same with the tries and the table of landings, which is filled first and once more for the chunk that is left.
-fn fold_lent(
+// Folding, the Phi pass and compaction, over buffers that are as long as needed. The table of landings is filled first, and once more for the chunk
+// that is left.
+fn constant_fold(
     code: &mut [u16],
     kinds: &mut [u8],
     words: &mut [u64],
@@ -138,23 +97,30 @@ fn fold_lent(
     ensures { λ r. ⌜ settled (outcome r (buffers (now (code .exit)) (now (kinds .exit)) (now (words .exit)) (now («phi_map» .exit)) (now («phi_sources» .exit)) (now («stmt_pos» .exit)) (now («call_byte_pos» .exit)) (now (dead .exit)) (now (remap .exit)))) (now (tries .exit)) (now (landings .exit)) ≡ foldLent strict (now (tries .entry)) (buffers (now (code .entry)) (now (kinds .entry)) (now (words .entry)) (now («phi_map» .entry)) (now («phi_sources» .entry)) (now («stmt_pos» .entry)) (now («call_byte_pos» .entry)) (now (dead .entry)) (now (remap .entry))) counts ⌝ }
 {
     landings::fill(code, tries, landings);
-    let r = constant_fold(
+    let left = Left {
+        instructions: dead.len(),
+        map: counts.map,
+        sources: counts.sources,
+    };
+    let constants = fold_pass(code, dead, kinds, words, counts.constants, landings, strict);
+    let after = finish::finish(
         code,
-        kinds,
-        words,
         phi_map,
         phi_sources,
         stmt_pos,
         call_byte_pos,
         dead,
         remap,
-        landings,
-        counts,
-        strict,
+        left,
     );
     move_tries(tries, dead, remap);
     landings::fill(code, tries, landings);
-    r
+    Folded {
+        instructions: after.instructions,
+        constants,
+        map: after.map,
+        sources: after.sources,
+    }
 }
 
 // Each buffer is lent as far as it is needed.
@@ -181,7 +147,7 @@ fn fold_needed(
     let sources = sources_needed(code, counts.sources);
     let stmts = counts.stmts;
     let calls = counts.calls;
-    fold_lent(
+    constant_fold(
         code,
         kinds,
         words,

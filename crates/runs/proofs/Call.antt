@@ -30,7 +30,8 @@ use Rattle.compact.specs.Remap.{alive, live}
 use Rattle.compact.specs.Tables.{compacted}
 use Rattle.phi_pass.specs.Phi.{paired, noop, markAt, marked}
 use Rattle.finish.specs.Finish.{Tables, tables, mapOf, sourcesOf, renewed, finished}
-use Rattle.optimizer.specs.Fold.{Buffers, buffers, lensOf, needed, Outcome, outcome, foldPass, constantFold, joined, settled, foldLent, called, rejoined, foldCall, Held, Exact}
+use Rattle.optimizer.specs.Fold.{Buffers, buffers, lensOf, needed, Outcome, outcome, foldPass, constantFold, joined, settled, foldLent, called, rejoined}
+use Rattle.optimizer.specs.Fold.{foldCall, Held, Exact}
 use Rattle.optimizer.specs.declared.Folded.{Folded}
 use Rattle.optimizer.specs.declared.FoldAnswer.{FoldAnswer}
 use Rattle.optimizer.specs.declared.FoldAnswer.the-variants.{Is, No}
@@ -103,17 +104,21 @@ module _ (bars : Bars) (strict : Strict bars) (code kinds words map sources stmt
           → Same code kinds words n (cond u tabs (renewed tabs) .code) (t .kinds) (t .words) (cond u tabs (renewed tabs) .left .instructions)
       go true e =
           rw long at
-          (idle-same bars strict s fresh (λ k h. eqb-true (getD (t .dead) k 0) 0 (every-at (alive (t .dead)) (length (t .dead)) k e (omega (arith, all-passed bars s fits .dead-long)))))
-      go false e = subst (λ (x : ℕ). Same code kinds words x (compacted (t .dead) (t .code)) (t .kinds) (t .words) (live (t .dead) (length (t .dead)))) long (folded-same bars strict s fresh)
+          (idle-same bars strict s fresh (λ k h. eqb-true (getD (t .dead) k 0) 0 (every-at (alive (t .dead))
+          (length (t .dead)) k e (omega (arith, all-passed bars s fits .dead-long)))))
+      go false e = subst (λ (x : ℕ). Same code kinds words x (compacted (t .dead) (t .code)) (t .kinds) (t .words) (live (t .dead)
+          (length (t .dead)))) long (folded-same bars strict s fresh)
 
 -- ---- the call
 
 module _ (b : Buffers) (c : Counts) (x : Exact b c) (rule : Rule (b .code) (c .constants)) (bars : Bars) (strict : Strict bars) where
-  fold-same : Same (b .code) (b .kinds) (b .words) (length (b .dead)) (constantFold bars b c .after .code) (constantFold bars b c .after .kinds) (constantFold bars b c .after .words)
+  fold-same : Same (b .code) (b .kinds) (b .words) (length (b .dead)) (constantFold bars b c .after .code) (constantFold bars b c .after .kinds)
+      (constantFold bars b c .after .words)
       (constantFold bars b c .answer .instructions)
   unfolding constantFold foldPass
   fold-same =
-      ends-alike bars strict (b .code) (b .kinds) (b .words) (b .map) (b .sources) (b .stmts) (b .calls) (b .remap) (c .constants) (c .map) (c .sources) (length (b .dead)) (x .whole)
+      ends-alike bars strict (b .code) (b .kinds) (b .words) (b .map) (b .sources) (b .stmts) (b .calls) (b .remap) (c .constants) (c .map) (c .sources)
+      (length (b .dead)) (x .whole)
       (record {
         few = x .constants;
         marks = omega (arith, x .whole, length-replicate {A = ℕ} (length (b .dead)) 0);
@@ -134,5 +139,6 @@ keeps-runs b tries landings c rule f e =
     let l : length (take (count (b .code)) (b .dead)) ≡ count (b .code) = length-take-le (count (b .code)) (b .dead) (a .held .dead) in
     let y = fold-same (needed b c) c (a .exact) rule (byScan true tries) (scan-strict tries) in
     rw (a .is)
-    (subst (λ (g : Folded). Same (b .code) (b .kinds) (b .words) (count (b .code)) (o .after .code) (o .after .kinds) (o .after .words) (g .instructions)) (a .counts)
+    (subst (λ (g : Folded). Same (b .code) (b .kinds) (b .words) (count (b .code)) (o .after .code) (o .after .kinds) (o .after .words) (g .instructions))
+    (a .counts)
     (subst (λ (k : ℕ). Same (b .code) (b .kinds) (b .words) k (o .after .code) (o .after .kinds) (o .after .words) (o .answer .instructions)) l y))

@@ -12,11 +12,13 @@ use Rattle.values.specs.declared.Op.the-variants.{Add}
 use Rattle.chunk.specs.Pool.{toVal}
 use Rattle.fold.specs.declared.Kind.the-variants.{Binop}
 use Rattle.fold.specs.Plan.{page, kindOf}
-use Rattle.runs.specs.Machine.{Known, None, Stack, truth, Ins, End, Left, Short, At, Stop, binopV, answer, apply, test, act, Run, ends, stops, goes, pushOf, plain, read, ins}
+use Rattle.runs.specs.Machine.{Known, None, Stack, truth, Ins, End, Left, Short, At, Stop, binopV, answer, apply, test, act, Run, ends, stops, goes}
+use Rattle.runs.specs.Machine.{pushOf, plain, read, ins}
 use Rattle.runs.specs.Kept.{Ends, Same}
 
 -- LoadConst 0; LoadConst 1; Add; JumpIfFalse 5; LoadTrue, pool 2 and 3: 5 is true, so true is left
-pub start : Ends (op.LoadConst ∷ 2 ∷ 0 ∷ op.LoadConst ∷ 2 ∷ 1 ∷ op.Add ∷ 0 ∷ 0 ∷ op.JumpIfFalse ∷ 1 ∷ 5 ∷ op.LoadTrue ∷ 0 ∷ 0 ∷ []) (1 ∷ 1 ∷ []) (2 ∷ 3 ∷ []) 5 (Left (Known (Truth true) ∷ []))
+pub start : Ends (op.LoadConst ∷ 2 ∷ 0 ∷ op.LoadConst ∷ 2 ∷ 1 ∷ op.Add ∷ 0 ∷ 0 ∷ op.JumpIfFalse ∷ 1 ∷ 5 ∷ op.LoadTrue ∷ 0 ∷ 0 ∷ []) (1 ∷ 1 ∷ [])
+    (2 ∷ 3 ∷ []) 5 (Left (Known (Truth true) ∷ []))
 unfolding act apply answer binopV foldBinop ints inRange test truth ins read plain pushOf kindOf page toVal
 start =
     goes {k = 0} {j = 1} {t = Known (Int (pos 2)) ∷ []} (omega arith) refl

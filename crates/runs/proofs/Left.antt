@@ -33,7 +33,8 @@ unfolding pushOf
 push-turn g (Is v) k w = refl
 push-turn g Nothing k w = refl
 
-plain-turn : (g : ℕ → ℕ) (c x : ℕ) (kinds words : List ℕ) → plain c (cond (eqb c op.Jump || eqb c op.JumpIfFalse) (g x) x) kinds words ≡ turn g (plain c x kinds words)
+plain-turn : (g : ℕ → ℕ) (c x : ℕ) (kinds words : List ℕ)
+    → plain c (cond (eqb c op.Jump || eqb c op.JumpIfFalse) (g x) x) kinds words ≡ turn g (plain c x kinds words)
 unfolding plain
 plain-turn g c x kinds words = go (eqb c op.Jump) (eqb c op.JumpIfFalse) (eqb c op.LoadConst) (eqb c op.LoadTrue) (eqb c op.LoadFalse) (eqb c op.LoadNone)
   where

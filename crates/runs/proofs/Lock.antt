@@ -11,7 +11,8 @@ use Rattle.values.specs.declared.Maybe.{Maybe}
 use Rattle.values.specs.declared.Maybe.the-variants.{Is, Nothing}
 use Rattle.fold.specs.declared.Kind.{Kind}
 use Rattle.fold.specs.declared.Kind.the-variants.{Binop, Not, Minus, Other}
-use Rattle.runs.specs.Machine.{Value, Stack, truth, Ins, Push, Unread, Apply, Jump, JumpIfFalse, Pass, End, Move, At, Stop, answer, apply, test, act, Run, ends, stops, goes, binopV, negV}
+use Rattle.runs.specs.Machine.{Value, Stack, truth, Ins, Push, Unread, Apply, Jump, JumpIfFalse, Pass, End, Move, At, Stop, answer, apply, test, act}
+use Rattle.runs.specs.Machine.{Run, ends, stops, goes, binopV, negV}
 
 -- outside (p, i]
 abbrev pub Outside : ℕ → ℕ → ℕ → Type 0
@@ -137,7 +138,8 @@ module _ {code code′ : ℕ → Ins} {n p i : ℕ} {held : ℕ → Stack} {v : 
       go (moved j s′ t′ a b r′) = stop-at (sym q ∙ a)
   lock (goes {k = k} {j = j} {s = s} {t = s′} {e = o} h q run) r = go (one k h r) (λ t′ r′. lock run r′)
     where
-      go : {t : Stack} → Both p i held v (act (code k) s k) (act (code′ k) t k) → ((t′ : Stack) → Same p i held v j s′ t′ → Run code′ n j t′ o) → Run code′ n k t o
+      go : {t : Stack} → Both p i held v (act (code k) s k) (act (code′ k) t k) → ((t′ : Stack) → Same p i held v j s′ t′ → Run code′ n j t′ o)
+          → Run code′ n k t o
       go (stopped o′ a b) ih = stop-at (sym a ∙ q)
       go (moved j′ s″ t′ a b r′) ih =
           let ej : j′ ≡ j = cc in
@@ -155,7 +157,8 @@ module _ {code code′ : ℕ → Ins} {n p i : ℕ} {held : ℕ → Stack} {v : 
       go (moved j s′ t′ a b r′) = stop-at (sym q ∙ b)
   unlock (goes {k = k} {j = j} {s = t} {t = t₁} {e = o} h q run) r = go (one k h r) (λ s′ r′. unlock run r′)
     where
-      go : {s : Stack} → Both p i held v (act (code k) s k) (act (code′ k) t k) → ((s′ : Stack) → Same p i held v j s′ t₁ → Run code n j s′ o) → Run code n k s o
+      go : {s : Stack} → Both p i held v (act (code k) s k) (act (code′ k) t k) → ((s′ : Stack) → Same p i held v j s′ t₁ → Run code n j s′ o)
+          → Run code n k s o
       go (stopped o′ a b) ih = stop-at (sym b ∙ q)
       go (moved j′ s′ t′ a b r′) ih =
           let ej : j′ ≡ j = cc in

@@ -10,7 +10,8 @@ use Rattle.values.specs.declared.Maybe.{Maybe}
 use Rattle.values.specs.declared.Maybe.the-variants.{Is, Nothing}
 use Rattle.fold.specs.declared.Kind.{Kind}
 use Rattle.fold.specs.declared.Kind.the-variants.{Binop, Not, Minus, Other}
-use Rattle.runs.specs.Machine.{Stack, truth, Ins, Push, Unread, Apply, Jump, JumpIfFalse, Pass, End, Move, At, Stop, answer, apply, test, act, Run, ends, stops, goes, binopV, negV}
+use Rattle.runs.specs.Machine.{Stack, truth, Ins, Push, Unread, Apply, Jump, JumpIfFalse, Pass, End, Move, At, Stop, answer, apply, test, act, Run}
+use Rattle.runs.specs.Machine.{ends, stops, goes, binopV, negV}
 
 -- its targets moved
 abbrev pub turn : (ℕ → ℕ) → Ins → Ins

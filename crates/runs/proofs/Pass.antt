@@ -60,9 +60,11 @@ held-low a b q k s h = rw (le-leb k q h) refl
 held-high : (a b : Val) (q k : ℕ) (s : Stack) → q < k → held2 a b q k ++ s ≡ Known b ∷ Known a ∷ s
 held-high a b q k s h = rw (lt-leb k q h) refl
 
-module _ {n i : ℕ} {code dead kinds words : List ℕ} {constants : ℕ} (fine : Fine n (chunk code dead kinds words constants)) (whole : n ≡ count code) (hi : i < n)
+module _ {n i : ℕ} {code dead kinds words : List ℕ} {constants : ℕ} (fine : Fine n (chunk code dead kinds words constants))
+    (whole : n ≡ count code) (hi : i < n)
     (di : getD dead i 0 ≡ 0) where
-  pushes : (p : ℕ) (a : Val) → getD dead p 0 ≡ 0 → Operates code kinds words p a → (s : Stack) → act (living code dead kinds words p) s p ≡ At (suc p) (Known a ∷ s)
+  pushes : (p : ℕ) (a : Val) → getD dead p 0 ≡ 0 → Operates code kinds words p a → (s : Stack)
+      → act (living code dead kinds words p) s p ≡ At (suc p) (Known a ∷ s)
   unfolding act
   pushes p a d o s = rw (living-on code dead kinds words p d ∙ o .pushes) refl
 
@@ -70,7 +72,8 @@ module _ {n i : ℕ} {code dead kinds words : List ℕ} {constants : ℕ} (fine 
   unfolding act
   passes k d s = rw (living-off code dead kinds words k d) refl
 
-  module _ (p q : ℕ) (v : Val) (none : landsAny code p i ≡ false) (room : Room kinds words constants) (c x m : ℕ) (e : constLoad v kinds words constants .load ≡ As c x m) where
+  module _ (p q : ℕ) (v : Val)
+      (none : landsAny code p i ≡ false) (room : Room kinds words constants) (c x m : ℕ) (e : constLoad v kinds words constants .load ≡ As c x m) where
     abbrev Done : Type 0
     Done =
         Kept n (chunk code dead kinds words constants)
@@ -82,7 +85,8 @@ module _ {n i : ℕ} {code dead kinds words : List ℕ} {constants : ℕ} (fine 
     two-after : (o : Op) (a b : Val) → kindOf (opAt code i) ≡ Binop o → Near dead i q → Near dead q p
         → Operates code kinds words p a → Operates code kinds words q b → foldBinop o a b ≡ Is v → Done
     two-after o a b k nq np oa ob f =
-        keeps fine whole hi p q v (np .below) (omega (arith, nq .below)) (np .alive) gap (constLoad v kinds words constants .kinds) (constLoad v kinds words constants .words) c x m
+        keeps fine whole hi p q v (np .below) (omega (arith, nq .below)) (np .alive) gap (constLoad v kinds words constants .kinds)
+        (constLoad v kinds words constants .words) c x m
         (load (good-of f (binop-good o a b))) (load-grows v kinds words constants) (held2 a b q) none first inner last
       where
         gap : (k : ℕ) → p < k → k < i → (k ≡ q → ⊥) → getD dead k 0 ≡ 0 → ⊥
@@ -117,7 +121,8 @@ module _ {n i : ℕ} {code dead kinds words : List ℕ} {constants : ℕ} (fine 
     one-after : (minus : Bool) (a : Val) → kindOf (opAt code i) ≡ cond minus Minus Not → Near dead i p → i ≡ q
         → Operates code kinds words p a → foldUnary minus a ≡ Is v → Done
     one-after minus a k np iq oa f =
-        keeps fine whole hi p q v (omega (arith, np .below)) (omega arith) (np .alive) gap (constLoad v kinds words constants .kinds) (constLoad v kinds words constants .words) c x m
+        keeps fine whole hi p q v (omega (arith, np .below)) (omega arith) (np .alive) gap (constLoad v kinds words constants .kinds)
+        (constLoad v kinds words constants .words) c x m
         (load (one-good minus a v (oa .good) f)) (load-grows v kinds words constants) (λ _. Known a ∷ []) none (pushes p a (np .alive) oa)
         (λ j low high s. passes j (np .gap j low high) (Known a ∷ s)) last
       where
@@ -139,7 +144,8 @@ module _ {n i : ℕ} (s : Chunk) (fine : Fine n s) (whole : n ≡ count (s .code
   stay = record { fine = fine; runs = λ o. (λ run. run, λ run. run); code-long = refl; dead-long = refl; kinds-long = refl; words-long = refl }
 
   -- a result with no room in the pool
-  full : (v : Val) → Kept n s (chunk (s .code) (s .dead) (constLoad v (s .kinds) (s .words) (s .constants) .kinds) (constLoad v (s .kinds) (s .words) (s .constants) .words) (s .constants))
+  full : (v : Val) → Kept n s (chunk (s .code) (s .dead) (constLoad v (s .kinds) (s .words) (s .constants) .kinds) (constLoad v (s .kinds) (s .words)
+      (s .constants) .words) (s .constants))
   unfolding ins
   full v =
       record {
@@ -152,15 +158,19 @@ module _ {n i : ℕ} (s : Chunk) (fine : Fine n s) (whole : n ≡ count (s .code
       }
     where
       same : (k : ℕ) → k < n
-          → living (s .code) (s .dead) (constLoad v (s .kinds) (s .words) (s .constants) .kinds) (constLoad v (s .kinds) (s .words) (s .constants) .words) k ≡ codeOf s k
+          → living (s .code) (s .dead) (constLoad v (s .kinds) (s .words) (s .constants) .kinds) (constLoad v (s .kinds) (s .words)
+          (s .constants) .words) k ≡ codeOf s k
       same k h =
           ap (λ (l : Ins). cond (alive (s .dead) k) l Pass)
-          (read-same (s .constants) (s .kinds) (s .words) (constLoad v (s .kinds) (s .words) (s .constants) .kinds) (constLoad v (s .kinds) (s .words) (s .constants) .words)
+          (read-same (s .constants) (s .kinds) (s .words) (constLoad v (s .kinds) (s .words) (s .constants) .kinds) (constLoad v (s .kinds) (s .words)
+          (s .constants) .words)
           (load-grows v (s .kinds) (s .words) (s .constants)) (kindOf (opAt (s .code) k)) (opAt (s .code) k) (operandAt (s .code) k) (fine .each k h .there))
 
-  told-after : (di : getD (s .dead) i 0 ≡ 0) (p q : ℕ) (v : Val) (c x m : ℕ) → constLoad v (s .kinds) (s .words) (s .constants) .load ≡ As c x m → Room (s .kinds) (s .words) (s .constants)
+  told-after : (di : getD (s .dead) i 0 ≡ 0) (p q : ℕ) (v : Val) (c x m : ℕ) → constLoad v (s .kinds) (s .words) (s .constants) .load ≡ As c x m
+      → Room (s .kinds) (s .words) (s .constants)
       → Told bars i s p q v
-      → Kept n s (chunk (put (s .code) p c x) (kill (s .dead) q i) (constLoad v (s .kinds) (s .words) (s .constants) .kinds) (constLoad v (s .kinds) (s .words) (s .constants) .words) m)
+      → Kept n s (chunk (put (s .code) p c x) (kill (s .dead) q i) (constLoad v (s .kinds) (s .words) (s .constants) .kinds) (constLoad v (s .kinds)
+      (s .words) (s .constants) .words) m)
   told-after di p q v c x m e room (two o a b k nq np ea eb f free) =
       two-after fine whole hi di p q v (strict p free) room c x m e o a b k nq np
       (operates (s .code) (s .kinds) (s .words) (s .constants) p a ea) (operates (s .code) (s .kinds) (s .words) (s .constants) q b eb) f
@@ -216,7 +226,8 @@ module _ (bars : Bars) (strict : Strict bars) (n : ℕ) (s : Chunk) (fine : Fine
       go ih =
           let t = folded bars k s in
           let b = bars (t .code) k in
-          let a = step t (ih .kept .fine) (whole ∙ ap (λ (m : ℕ). m / stride) (sym (ih .kept .code-long))) h (held-ready (ih .held) whole h lent) b (λ p f. strict (t .code) k p f) in
+          let a = step t (ih .kept .fine) (whole ∙ ap (λ (m : ℕ). m / stride) (sym (ih .kept .code-long))) h
+          (held-ready (ih .held) whole h lent) b (λ p f. strict (t .code) k p f) in
           let u = tryFold b k t in
           record {
             held = rw (add-one k) at (held-more (ih .held) whole h lent u refl (a .code-long) (a .dead-long) (a .kinds-long) (a .words-long));

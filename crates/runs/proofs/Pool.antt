@@ -81,7 +81,8 @@ module _ (k w count : ℕ) (kinds words : List ℕ) where
           }
       go false false = grows-same count kinds words
 
-  placed : Room kinds words count → (i m : ℕ) → findOrPush kinds words count k w .kept ≡ At i m → Placed k w count kinds words (findOrPush kinds words count k w) i m
+  placed : Room kinds words count → (i m : ℕ) → findOrPush kinds words count k w .kept ≡ At i m
+      → Placed k w count kinds words (findOrPush kinds words count k w) i m
   unfolding findOrPush
   placed r i m e = go (ltb (position kinds words count k w) count) (ltb count 65535) refl refl e
     where
@@ -90,7 +91,8 @@ module _ (k w count : ℕ) (kinds words : List ℕ) where
           cond a (stored (At (position kinds words count k w) count) kinds words)
           (cond b (stored (At count (count + 1)) (set kinds count k) (set words count w)) (stored Full kinds words))
 
-      go : (a b : Bool) → ltb (position kinds words count k w) count ≡ a → ltb count 65535 ≡ b → at a b .kept ≡ At i m → Placed k w count kinds words (at a b) i m
+      go : (a b : Bool) → ltb (position kinds words count k w) count ≡ a → ltb count 65535 ≡ b → at a b .kept ≡ At i m
+          → Placed k w count kinds words (at a b) i m
       go true b p q e =
           let l = ltb-true (position kinds words count k w) count p in
           let h = and-true (eqb (getD kinds (position kinds words count k w) 0) k) (eqb (getD words (position kinds words count k w) 0) w)
@@ -104,12 +106,19 @@ module _ (k w count : ℕ) (kinds words : List ℕ) where
           let ei : count ≡ i = cc in
           let em : count + 1 ≡ m = cc in
           rw (← ei, ← em)
-          (record { kind = getD-set-same kinds count k 0 (r .kinds-more l); word = getD-set-same words count w 0 (r .words-more l); below = omega arith; least = omega arith })
+          (record {
+            kind = getD-set-same kinds count k 0 (r .kinds-more l);
+            word = getD-set-same words count w 0
+                (r .words-more l);
+            below = omega arith;
+            least = omega arith;
+          })
       go false false p q e = absurd (let z : _≡_ {A = ℕ} 0 1 = cc in omega arith)
 
 -- ---- a result
 
-pub load-grows : (v : Val) (kinds words : List ℕ) (count : ℕ) → Grows count kinds words (constLoad v kinds words count .kinds) (constLoad v kinds words count .words)
+pub load-grows : (v : Val) (kinds words : List ℕ) (count : ℕ)
+    → Grows count kinds words (constLoad v kinds words count .kinds) (constLoad v kinds words count .words)
 unfolding constLoad findOrPushConst
 load-grows (Int z) kinds words count = push-grows 1 (ofZ w64 z) count kinds words
 load-grows (Real x) kinds words count = push-grows 2 (toBits binary64 x) count kinds words
@@ -122,7 +131,8 @@ pub record Loads (v : Val) (count : ℕ) (kinds words : List ℕ) (o x m : ℕ) 
   pub calm : eqb o Jump || eqb o JumpIfFalse ≡ false
   pub least : count ≤ m
 
-kept-loads : (s : Stored) (k w count : ℕ) (kinds words : List ℕ) (v : Val) → toVal k w ≡ Is v → ((i m : ℕ) → s .kept ≡ At i m → Placed k w count kinds words s i m)
+kept-loads : (s : Stored) (k w count : ℕ) (kinds words : List ℕ) (v : Val) → toVal k w ≡ Is v → ((i m : ℕ) → s .kept ≡ At i m
+    → Placed k w count kinds words s i m)
     → (o x m : ℕ) → loadOf (s .kept) ≡ As o x m → Loads v count (s .kinds) (s .words) o x m
 unfolding read plain pushOf kindOf page
 kept-loads s k w count kinds words v e h o x m q = go (s .kept) refl q
@@ -141,7 +151,11 @@ pub load-back : (v : Val) → Good v → (count : ℕ) (kinds words : List ℕ) 
     → Loads v count (constLoad v kinds words count .kinds) (constLoad v kinds words count .words) o x m
 unfolding constLoad findOrPushConst toVal inRange read plain kindOf page
 load-back (Int z) g count kinds words r o x m e =
-    kept-loads (findOrPush kinds words count 1 (ofZ w64 z)) 1 (ofZ w64 z) count kinds words (Int z) (rw (back-ok z (omega arith), lt-ltb (mag z) (2 ^ 47) g) refl)
+    kept-loads (findOrPush kinds words count 1 (ofZ w64 z)) 1 (ofZ w64 z) count kinds words (Int z) (rw (
+      back-ok z (omega arith),
+      lt-ltb (mag z)
+          (2 ^ 47) g,
+    ) refl)
     (placed 1 (ofZ w64 z) count kinds words r) o x m e
 load-back (Real y) g count kinds words r o x m e =
     kept-loads (findOrPush kinds words count 2 (toBits binary64 y)) 2 (toBits binary64 y) count kinds words (Real y) (rw (ofBits-toBits binary64 y g) refl)

@@ -83,7 +83,8 @@ module _ (bars : Bars) (strict : Strict bars) (s : Chunk) (fresh : Fresh s) wher
       let p = packs-of t n long (all .kept .fine) e in
       (λ run. p .0 (m .0 (b .0 run)), λ run. b .1 (m .1 (p .1 run)))
 
-  pub folded-same : Same (s .code) (s .kinds) (s .words) (length (s .dead)) (compacted (foldAll bars s .dead) (foldAll bars s .code)) (foldAll bars s .kinds) (foldAll bars s .words)
+  pub folded-same : Same (s .code) (s .kinds) (s .words) (length (s .dead)) (compacted (foldAll bars s .dead) (foldAll bars s .code))
+      (foldAll bars s .kinds) (foldAll bars s .words)
       (live (foldAll bars s .dead) (length (foldAll bars s .dead)))
   folded-same = rw (← is-all) (record { ends = λ e run. runs e .0 run; back = λ e run. runs e .1 run })
 
@@ -93,7 +94,9 @@ module _ (bars : Bars) (strict : Strict bars) (s : Chunk) (fresh : Fresh s) wher
   idle-same = rw (← is-all) (λ d.
       record {
         ends = λ e run.
-            blank (t .code) (t .dead) (t .kinds) (t .words) n d e .1 (all .kept .runs e .0 (blank (s .code) (s .dead) (s .kinds) (s .words) n (λ k h. fresh .blank k) e .0 run));
+            blank (t .code) (t .dead) (t .kinds) (t .words) n d e .1 (all .kept .runs e .0 (blank (s .code) (s .dead) (s .kinds)
+            (s .words) n (λ k h. fresh .blank k) e .0 run));
         back = λ e run.
-            blank (s .code) (s .dead) (s .kinds) (s .words) n (λ k h. fresh .blank k) e .1 (all .kept .runs e .1 (blank (t .code) (t .dead) (t .kinds) (t .words) n d e .0 run));
+            blank (s .code) (s .dead) (s .kinds) (s .words) n (λ k h. fresh .blank k) e .1 (all .kept .runs e .1 (blank (t .code) (t .dead) (t .kinds)
+            (t .words) n d e .0 run));
       })

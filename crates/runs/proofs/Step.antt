@@ -28,7 +28,8 @@ use Rattle.fold.specs.Plan.{Chunk, chunk, page, kindOf, operandOf, foldUnary}
 use Rattle.fold.specs.Pass.{put}
 use Rattle.fold.proofs.Put.{put-long, put-other, operand-other, jump-other, put-here, operand-here, jump-here}
 use Rattle.compact.specs.Remap.{alive}
-use Rattle.runs.specs.Machine.{Value, Known, Stack, truth, Ins, Push, Apply, Jump, JumpIfFalse, Pass, At, answer, apply, act, binopV, negV, pushOf, plain, read, ins, Plain, End, Run}
+use Rattle.runs.specs.Machine.{Value, Known, Stack, truth, Ins, Push, Apply, Jump, JumpIfFalse, Pass, At, answer, apply, act, binopV, negV, pushOf}
+use Rattle.runs.specs.Machine.{plain, read, ins, Plain, End, Run}
 use Rattle.runs.proofs.Lock.{Outside, Clear, Group, Same, out, lock, unlock}
 use Rattle.runs.proofs.Good.{Good, good-of, not-good, neg-good, val-good}
 use Rattle.runs.proofs.Pool.{Loads, Grows}
@@ -141,7 +142,8 @@ module _ (code : List ℕ) (p i : ℕ) (none : landsAny code p i ≡ false) wher
       go false false false false false true h = tt
       go false false false false false false h = tt
 
-  read-clear : (kind : Kind) (c x : ℕ) (kinds words : List ℕ) → (eqb c op.Jump || eqb c op.JumpIfFalse ≡ true → Outside p i x) → Clear p i (read kind c x kinds words)
+  read-clear : (kind : Kind) (c x : ℕ) (kinds words : List ℕ) → (eqb c op.Jump || eqb c op.JumpIfFalse ≡ true → Outside p i x)
+      → Clear p i (read kind c x kinds words)
   unfolding read
   read-clear (Binop b) c x kinds words h = tt
   read-clear Not c x kinds words h = tt
@@ -187,7 +189,8 @@ not-is (Int z) = rw (not-not _) refl
 not-is (Real x) = rw (not-not _) refl
 not-is (Truth b) = refl
 
-pub one-acts : (minus : Bool) (a v : Val) (s : Stack) (k : ℕ) → foldUnary minus a ≡ Is v → act (Apply (cond minus Minus Not)) (Known a ∷ s) k ≡ At (suc k) (Known v ∷ s)
+pub one-acts : (minus : Bool) (a v : Val) (s : Stack) (k : ℕ) → foldUnary minus a ≡ Is v
+    → act (Apply (cond minus Minus Not)) (Known a ∷ s) k ≡ At (suc k) (Known v ∷ s)
 unfolding act apply answer negV foldUnary
 one-acts true a v s k e = rw e refl
 one-acts false a v s k e =
@@ -214,7 +217,8 @@ pub record Kept (n : ℕ) (s t : Chunk) : Type 0 where
   pub kinds-long : length (t .kinds) ≡ length (s .kinds)
   pub words-long : length (t .words) ≡ length (s .words)
 
-module _ {n i : ℕ} {code dead kinds words : List ℕ} {constants : ℕ} (fine : Fine n (chunk code dead kinds words constants)) (whole : n ≡ count code) (hi : i < n)
+module _ {n i : ℕ} {code dead kinds words : List ℕ} {constants : ℕ} (fine : Fine n (chunk code dead kinds words constants)) (whole : n
+    ≡ count code) (hi : i < n)
     (p q : ℕ) (v : Val) (pq : p < q) (qi : q ≤ i) (dp : getD dead p 0 ≡ 0) (gap : (k : ℕ) → p < k → k < i → (k ≡ q → ⊥) → getD dead k 0 ≡ 0 → ⊥)
     (kinds′ words′ : List ℕ) (c x m : ℕ) (load : Loads v constants kinds′ words′ c x m) (grows : Grows constants kinds words kinds′ words′) where
   fits : p < count code

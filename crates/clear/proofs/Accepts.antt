@@ -1,17 +1,19 @@
 -- A chunk that the folding call accepts is accepted after clearing too, with the same buffers lent. Assumes nothing.
 use Prim.Native.Nat.{ℕ, _+_, _≤_}
 use mathlib.Core.Path.{_≡_, sym, ap, _∙_}
-use mathlib.Core.Bool.{Bool, true}
+use native.Mathlib.Omega.{arith}
+use mathlib.Core.Bool.{Bool, true, false, cond}
 use mathlib.Core.List.{List}
-use lib.Dec.{eqb}
+use lib.Dec.{eqb, ltb}
 use lib.ListN.{length}
 use borrow.Author.Tests.{le-ltb}
 use Rattle.laws.specs.All.{every, many}
 use Rattle.laws.proofs.Branch.{and-true}
-use Rattle.code.specs.Check.{roomOf}
+use Rattle.code.specs.Check.{pairs, firstBadTry, triedOf, roomOf}
+use Rattle.code.specs.declared.Refusal.the-variants.{Try}
 use Rattle.code.specs.Op.{Phi}
 use Rattle.code.specs.declared.Checked.{Checked}
-use Rattle.code.specs.declared.Checked.the-variants.{Count}
+use Rattle.code.specs.declared.Checked.the-variants.{Count, No}
 use Rattle.code.proofs.Stages.{room-before, room-there}
 use Rattle.lent.specs.Chunk.{count, isPhi}
 use Rattle.lent.specs.Tables.{constantKept, within, constantsKept, mapKept, pairsKept, tableOf}
@@ -20,7 +22,7 @@ use Rattle.lent.specs.declared.Counts.{Counts}
 use Rattle.lent.specs.declared.Lens.{Lens}
 use Rattle.lent.proofs.Kept.{few, kinds-there, words-there}
 use Rattle.clear.specs.Unused.{named, before, pooled, recoded}
-use Rattle.clear.proofs.Whole.{many-ext}
+use Rattle.lent.proofs.Counting.{many-ext}
 use Rattle.clear.proofs.Tested.{table-met, check-met, whole-of}
 use Rattle.clear.proofs.Loads.{recoded-count, recoded-op}
 use Rattle.clear.proofs.Twice.{check-same, constants-same}
@@ -49,7 +51,15 @@ abbrev pub countsAfter : List ℕ → Counts → Counts
 countsAfter w c = record { constants = before w (c .constants); map = c .map; sources = c .sources; stmts = c .stmts; calls = c .calls }
 
 -- the table tests of the folding call
-module _ (n : ℕ) (w kinds words : List ℕ) (c : Counts) (l : Lens) where
+tried-met : (n : ℕ) (v : Checked) (t : List ℕ) → triedOf v t ≡ Count n → v ≡ Count n
+tried-met n (No r) t e = absurd (let z : _≡_ {A = ℕ} 0 1 = cc in omega arith)
+tried-met n (Count m) t e = go (ltb (firstBadTry t m) (pairs t)) e
+  where
+    go : (u : Bool) → cond u (No (Try (firstBadTry t m))) (Count m) ≡ Count n → Count m ≡ Count n
+    go true e = absurd (let z : _≡_ {A = ℕ} 0 1 = cc in omega arith)
+    go false e = e
+
+module _ (n : ℕ) (w tries kinds words : List ℕ) (c : Counts) (l : Lens) where
   abbrev m : ℕ
   m = c .constants
 
@@ -62,18 +72,19 @@ module _ (n : ℕ) (w kinds words : List ℕ) (c : Counts) (l : Lens) where
   abbrev words′ : List ℕ
   words′ = pooled (named w) m words
 
-  tables-again : tablesOf (checkOf w) (count w) kinds words c l ≡ Count n → tablesOf (checkOf w′) (count w′) kinds′ words′ (countsAfter w c) l ≡ Count n
+  tables-again : tablesOf (triedOf (checkOf w) tries) (count w) kinds words c l ≡ Count n
+      → tablesOf (triedOf (checkOf w′) tries) (count w′) kinds′ words′ (countsAfter w c) l ≡ Count n
   unfolding tablesOf
   tables-again e =
       let t₅ = table-met n _ 5 (pairsKept (c .calls) (l .calls)) (sym e) in
       let t₄ = table-met n _ 4 (pairsKept (c .stmts) (l .stmts)) (sym (t₅ .0)) in
       let t₃ = table-met n _ 3 (pairsKept (c .sources) (l .sources)) (sym (t₄ .0)) in
       let t₂ = table-met n _ 2 (mapKept (count w) (c .map) (l .map)) (sym (t₃ .0)) in
-      let t₁ = table-met n (checkOf w) 1 (constantsKept kinds words m) (sym (t₂ .0)) in
+      let t₁ = table-met n (triedOf (checkOf w) tries) 1 (constantsKept kinds words m) (sym (t₂ .0)) in
       let p = and-true (within m (length kinds) (length words)) (every (constantKept kinds words) m) (t₁ .1) in
-      let long = whole-of w (check-met n w (sym (t₁ .0))) in
+      let long = whole-of w (check-met n w (sym (tried-met n (checkOf w) tries (t₁ .0)))) in
       let k = constants-same w kinds words m (kinds-there m (length kinds) (length words) (p .0)) (words-there m (length kinds) (length words) (p .0)) (few m (length kinds) (length words) (p .0)) (p .1) in
-      let s₁ = table-on n (checkOf w′) 1 (constantsKept kinds′ words′ (before w m)) (check-same (before w) m w long ∙ t₁ .0) k in
+      let s₁ = table-on n (triedOf (checkOf w′) tries) 1 (constantsKept kinds′ words′ (before w m)) (ap (λ (v : Checked). triedOf v tries) (check-same (before w) m w long) ∙ t₁ .0) k in
       let s₂ = table-on n _ 2 (mapKept (count w′) (c .map) (l .map)) s₁ (rw (recoded-count (before w) m w) (t₂ .1)) in
       let s₃ = table-on n _ 3 (pairsKept (c .sources) (l .sources)) s₂ (t₃ .1) in
       let s₄ = table-on n _ 4 (pairsKept (c .stmts) (l .stmts)) s₃ (t₄ .1) in
@@ -98,6 +109,12 @@ module _ (n : ℕ) (w kinds words : List ℕ) (c : Counts) (l : Lens) where
       let s₅ = room-on n _ 5 (l .dead) (count w) s₄ (r₅ .1) in
       rw (g, recoded-count (before w) m w) (room-on n _ 6 (l .remap) (count w + 1) s₅ (r₆ .1))
 
-  pub accepted-after : readyOf w kinds words c l ≡ Count n → readyOf w′ kinds′ words′ (countsAfter w c) l ≡ Count n
+  pub accepted-after : (landings : ℕ) → readyOf w tries kinds words c l landings ≡ Count n → readyOf w′ tries kinds′ words′ (countsAfter w c) l landings ≡ Count n
   unfolding readyOf
-  accepted-after e = rooms-again (tablesOf (checkOf w) (count w) kinds words c l) (tablesOf (checkOf w′) (count w′) kinds′ words′ (countsAfter w c) l) tables-again e
+  accepted-after landings e =
+      let r₇ = room-met n (roomsOf (tablesOf (triedOf (checkOf w) tries) (count w) kinds words c l) w c l) 7 landings (count w + 1) e in
+      let s₆ =
+      rooms-again (tablesOf (triedOf (checkOf w) tries) (count w) kinds words c l) (tablesOf (triedOf (checkOf w′) tries) (count w′) kinds′ words′ (countsAfter w c) l) tables-again (r₇ .0)
+      in
+      room-on n (roomsOf (tablesOf (triedOf (checkOf w′) tries) (count w′) kinds′ words′ (countsAfter w c) l) w′ (countsAfter w c) l) 7 landings (count w′ + 1) s₆
+      (rw (recoded-count (before w) m w) (r₇ .1))

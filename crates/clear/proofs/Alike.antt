@@ -1,7 +1,7 @@
 -- Two chunks that differ only in where their constants stand have the same plans. Assumes nothing.
 use Prim.Native.Nat.{ℕ, zero, suc, _-_, _/_, _%_, _<_}
-use mathlib.Core.Path.{_≡_, refl, sym, ap, _∙_}
-use mathlib.Core.Bool.{Bool, true, false, cond}
+use mathlib.Core.Path.{_≡_, refl, sym, ap, _∙_, fun-ext}
+use mathlib.Core.Bool.{Bool, true, false, cond, _&&_, _||_}
 use mathlib.Core.List.{List}
 use lib.Dec.{eqb}
 use lib.ListN.{length, getD}
@@ -15,7 +15,9 @@ use Rattle.values.specs.declared.Maybe.{Maybe}
 use Rattle.values.specs.declared.Maybe.the-variants.{Is, Nothing}
 use Rattle.values.specs.declared.Op.{Op}
 use Rattle.chunk.specs.Pool.{constToVal}
-use Rattle.fold.specs.Plan.{Chunk, kindOf, prevLive, operandOf, lands, skipsInto, landsAny, blocked, withFound, withVal, foldUnary, tryFoldBinop, tryFoldUnary, planFor, planAt}
+use Rattle.landings.specs.Landings.{lands, landsAny, handlesAny, barred}
+use Rattle.fold.specs.Pass.{byScan}
+use Rattle.fold.specs.Plan.{Chunk, kindOf, prevLive, operandOf, skipsInto, blocked, withFound, withVal, foldUnary, tryFoldBinop, tryFoldUnary, planFor, planAt}
 use Rattle.fold.specs.declared.Found.{Found}
 use Rattle.fold.specs.declared.Found.the-variants.{At, Nowhere}
 use Rattle.fold.specs.declared.Kind.{Kind}
@@ -86,36 +88,42 @@ module _ {s t : Chunk} (a : Alike s t) where
           let j′ : jumps (t .code) k ≡ false = sym (ap (λ (x : ℕ). eqb (x % 2) 1) (a .marks k)) ∙ j in
           rw (j, j′)
 
-  blocked-same : (strict : Bool) (p i : ℕ) → blocked strict (s .code) p i ≡ blocked strict (t .code) p i
-  unfolding blocked skipsInto landsAny
-  blocked-same strict p i =
+  blocked-same : (bars : ℕ → Bool) (p i : ℕ) → blocked bars (s .code) p i ≡ blocked bars (t .code) p i
+  unfolding blocked skipsInto
+  blocked-same bars p i = rw (lands-same p i (p - 1))
+
+  -- strict mode bars the same folds
+  pub bars-same : (strict : Bool) (tries : List ℕ) (i : ℕ) → byScan strict tries (s .code) i ≡ byScan strict tries (t .code) i
+  unfolding barred landsAny
+  bars-same strict tries i =
+      fun-ext (λ p.
       let c : count (s .code) ≡ count (t .code) = ap (λ (x : ℕ). x / stride) (a .long) in
       let e : some (lands (s .code) p i) (count (s .code)) ≡ some (lands (t .code) p i) (count (t .code)) =
       ap (some (lands (s .code) p i)) c ∙ some-ext (lands (s .code) p i) (lands (t .code) p i) (count (t .code)) (lands-same p i) in
-      rw (e, lands-same p i (p - 1))
+      ap (λ (b : Bool). strict && (b || handlesAny tries p i)) e)
 
-  module _ (strict : Bool) (i : ℕ) where
-    binop-same : (o : Op) → tryFoldBinop strict o i s ≡ tryFoldBinop strict o i t
+  module _ (bars : ℕ → Bool) (i : ℕ) where
+    binop-same : (o : Op) → tryFoldBinop bars o i s ≡ tryFoldBinop bars o i t
     unfolding tryFoldBinop
     binop-same o =
         found-both (ap (λ (d : List ℕ). prevLive d i) (a .dead)) (λ q.
         found-both (ap (λ (d : List ℕ). prevLive d q) (a .dead)) (λ p.
         val-both (operand-same p) (λ x.
         val-both (operand-same q) (λ y.
-        val-both {a = foldBinop o x y} refl (λ v. ap (λ (b : Bool). cond b Stay (Put p q v)) (blocked-same strict p i))))))
+        val-both {a = foldBinop o x y} refl (λ v. ap (λ (b : Bool). cond b Stay (Put p q v)) (blocked-same bars p i))))))
 
-    unary-same : (minus : Bool) → tryFoldUnary strict minus i s ≡ tryFoldUnary strict minus i t
+    unary-same : (minus : Bool) → tryFoldUnary bars minus i s ≡ tryFoldUnary bars minus i t
     unfolding tryFoldUnary
     unary-same minus =
         found-both (ap (λ (d : List ℕ). prevLive d i) (a .dead)) (λ p.
         val-both (operand-same p) (λ x.
-        val-both {a = foldUnary minus x} refl (λ v. ap (λ (b : Bool). cond b Stay (Put p i v)) (blocked-same strict p i))))
+        val-both {a = foldUnary minus x} refl (λ v. ap (λ (b : Bool). cond b Stay (Put p i v)) (blocked-same bars p i))))
 
-    pub plan-same : planAt strict i s ≡ planAt strict i t
+    pub plan-same : planAt bars i s ≡ planAt bars i t
     unfolding planAt planFor
     plan-same = rw (a .ops i) (by (kindOf (opAt (t .code) i)))
       where
-        by : (k : Kind) → planFor k strict i s ≡ planFor k strict i t
+        by : (k : Kind) → planFor k bars i s ≡ planFor k bars i t
         by (Binop o) = binop-same o
         by Not = unary-same false
         by Minus = unary-same true

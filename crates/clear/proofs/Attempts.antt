@@ -21,39 +21,11 @@ use Rattle.fold.specs.Pass.{loadOf, constLoad, markOf, put, landed, applied, tr
 use Rattle.fold.specs.declared.Plan.{Plan}
 use Rattle.fold.specs.declared.Plan.the-variants.{Stay, Put}
 use Rattle.fold.proofs.Planned.{planned}
-use Rattle.fold.proofs.Grown.{put-other, put-here, put-long}
+use Rattle.fold.proofs.Put.{put-long, put-other, mark-other, operand-other, put-here, mark-here, operand-here, jump-here, jump-other}
 use Rattle.clear.proofs.Alike.{SameLoad, Alike, plan-same}
 use Rattle.clear.proofs.Pools.{cases, Grew, grew-none, Pools, fewer, stepped}
 
 -- ---- a load that is put at p
-
-module _ (w : List ℕ) (p o x : ℕ) where
-  mark-other : (k : ℕ) → (k ≡ p → ⊥) → markAt (put w p o x) k ≡ markAt w k
-  unfolding put
-  mark-other k h =
-      getD-set-other (set (set w (stride * p) o) (stride * p + 1) (markOf o)) (stride * p + 2) (stride * k + 1) x 0 (λ e. omega arith)
-      ∙ getD-set-other (set w (stride * p) o) (stride * p + 1) (stride * k + 1) (markOf o) 0 (λ e. h (omega arith))
-      ∙ getD-set-other w (stride * p) (stride * k + 1) o 0 (λ e. omega arith)
-
-  operand-other : (k : ℕ) → (k ≡ p → ⊥) → operandAt (put w p o x) k ≡ operandAt w k
-  unfolding put
-  operand-other k h =
-      getD-set-other (set (set w (stride * p) o) (stride * p + 1) (markOf o)) (stride * p + 2) (stride * k + 2) x 0 (λ e. h (omega arith))
-      ∙ getD-set-other (set w (stride * p) o) (stride * p + 1) (stride * k + 2) (markOf o) 0 (λ e. omega arith)
-      ∙ getD-set-other w (stride * p) (stride * k + 2) o 0 (λ e. omega arith)
-
-  module _ (h : p < count w) where
-    mark-here : markAt (put w p o x) p ≡ markOf o
-    unfolding put
-    mark-here =
-        getD-set-other (set (set w (stride * p) o) (stride * p + 1) (markOf o)) (stride * p + 2) (stride * p + 1) x 0 (λ e. omega arith)
-        ∙ getD-set-same (set w (stride * p) o) (stride * p + 1) (markOf o) 0 (rw (length-set w (stride * p) o) (omega arith))
-
-    operand-here : operandAt (put w p o x) p ≡ x
-    unfolding put
-    operand-here =
-        getD-set-same (set (set w (stride * p) o) (stride * p + 1) (markOf o)) (stride * p + 2) x 0
-        (rw (length-set (set w (stride * p) o) (stride * p + 1) (markOf o), length-set w (stride * p) o) (omega arith))
 
 names-of : (o : ℕ) → eqb (markOf o / 2 % 2) 1 ≡ eqb o LoadConst
 unfolding markOf
@@ -63,19 +35,8 @@ names-of o = go (eqb o LoadConst)
     go true = refl
     go false = refl
 
-jumps-of : (o : ℕ) → eqb (markOf o % 2) 1 ≡ false
-unfolding markOf
-jumps-of o = go (eqb o LoadConst)
-  where
-    go : (b : Bool) → eqb (cond b 2 0 % 2) 1 ≡ false
-    go true = refl
-    go false = refl
-
 abbrev nameMark : ℕ → Bool
 nameMark x = eqb (x / 2 % 2) 1
-
-abbrev jumpMark : ℕ → Bool
-jumpMark x = eqb (x % 2) 1
 
 -- the chunk with it
 abbrev wrote : Chunk → (p q i o x : ℕ) → (kinds words : List ℕ) → ℕ → Chunk
@@ -135,8 +96,8 @@ module _ {s t : Chunk} (a : Alike s t) (p q i o x y : ℕ) (h : p < count (s .co
             (λ z. names-other k z ∙ a .consts k (sym (ap (λ (u : ℕ). eqb u LoadConst) (put-other (s .code) p o x k z)) ∙ e));
         apart = λ k e.
             cases k p
-            (λ z. rw z (ap jumpMark (mark-here (s .code) p o x h) ∙ jumps-of o))
-            (λ z. ap jumpMark (mark-other (s .code) p o x k z) ∙ a .apart k (sym (names-other k z) ∙ e));
+            (λ z. rw z (jump-here (s .code) p o x h))
+            (λ z. jump-other (s .code) p o x k z ∙ a .apart k (sym (names-other k z) ∙ e));
       }
 
 -- ---- both chunks, with their pools
@@ -184,36 +145,36 @@ module _ {s t : Chunk} (z : Sim s t) (p q i : ℕ) (h : p < count (s .code)) whe
   put-sim (Truth false) few a b c d = truth-sim LoadFalse refl
 
 -- one attempt
-module _ (strict : Bool) (i : ℕ) (s : Chunk) where
-  pub try-live : (plan : Plan) → eqb (getD (s .dead) i 0) 0 ≡ true → planAt strict i s ≡ plan → tryFold strict i s ≡ applied plan i s
+module _ (bars : ℕ → Bool) (i : ℕ) (s : Chunk) where
+  pub try-live : (plan : Plan) → eqb (getD (s .dead) i 0) 0 ≡ true → planAt bars i s ≡ plan → tryFold bars i s ≡ applied plan i s
   unfolding tryFold
   try-live plan e f = rw e (ap (λ (x : Plan). applied x i s) f)
 
-  pub try-dead : eqb (getD (s .dead) i 0) 0 ≡ false → tryFold strict i s ≡ s
+  pub try-dead : eqb (getD (s .dead) i 0) 0 ≡ false → tryFold bars i s ≡ s
   unfolding tryFold
   try-dead e = rw e
 
-applied-sim : (strict : Bool) (i : ℕ) (s t : Chunk) → Sim s t → s .constants < 65535 → Ready s i → Ready t i → (plan : Plan) → planAt strict i s ≡ plan → planAt strict i t ≡ plan
+applied-sim : (bars : ℕ → Bool) (i : ℕ) (s t : Chunk) → Sim s t → s .constants < 65535 → Ready s i → Ready t i → (plan : Plan) → planAt bars i s ≡ plan → planAt bars i t ≡ plan
     → Sim (applied plan i s) (applied plan i t)
 unfolding applied
-applied-sim strict i s t z few r r′ Stay e f = z
-applied-sim strict i s t z few r r′ (Put p q v) e f =
-    let x = planned strict i s e in
-    let y = planned strict i t f in
+applied-sim bars i s t z few r r′ Stay e f = z
+applied-sim bars i s t z few r r′ (Put p q v) e f =
+    let x = planned bars i s e in
+    let y = planned bars i t f in
     let m = r .room (x .operator) in
     let m′ = r′ .room (y .operator) in
     let w = fewer (z .pools) in
     put-sim z p q i (omega (arith, x .first, r .readable .here)) v few (m .kinds-more few) (m .words-more few) (m′ .kinds-more (omega arith)) (m′ .words-more (omega arith))
 
-pub try-sim : (strict : Bool) (i : ℕ) (s t : Chunk) → Sim s t → s .constants < 65535 → Ready s i → Ready t i → Sim (tryFold strict i s) (tryFold strict i t)
-try-sim strict i s t z few r r′ = go (eqb (getD (s .dead) i 0) 0) refl
+pub try-sim : (bars : ℕ → Bool) (i : ℕ) (s t : Chunk) → Sim s t → s .constants < 65535 → Ready s i → Ready t i → Sim (tryFold bars i s) (tryFold bars i t)
+try-sim bars i s t z few r r′ = go (eqb (getD (s .dead) i 0) 0) refl
   where
-    go : (b : Bool) → eqb (getD (s .dead) i 0) 0 ≡ b → Sim (tryFold strict i s) (tryFold strict i t)
+    go : (b : Bool) → eqb (getD (s .dead) i 0) 0 ≡ b → Sim (tryFold bars i s) (tryFold bars i t)
     go true e =
         let f : eqb (getD (t .dead) i 0) 0 ≡ true = ap (λ (d : List ℕ). eqb (getD d i 0) 0) (sym (z .alike .dead)) ∙ e in
-        let plan = planAt strict i t in
-        let g = plan-same (z .alike) strict i in
-        rw (try-live strict i s plan e g, try-live strict i t plan f refl) (applied-sim strict i s t z few r r′ plan g refl)
+        let plan = planAt bars i t in
+        let g = plan-same (z .alike) bars i in
+        rw (try-live bars i s plan e g, try-live bars i t plan f refl) (applied-sim bars i s t z few r r′ plan g refl)
     go false e =
         let f : eqb (getD (t .dead) i 0) 0 ≡ false = ap (λ (d : List ℕ). eqb (getD d i 0) 0) (sym (z .alike .dead)) ∙ e in
-        rw (try-dead strict i s e, try-dead strict i t f) z
+        rw (try-dead bars i s e, try-dead bars i t f) z

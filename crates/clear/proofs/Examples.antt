@@ -14,9 +14,10 @@ use Rattle.lent.specs.Chunk.{folds, rules}
 use Rattle.lent.specs.Check.{checkOf}
 use Rattle.values.specs.Folds.{foldBinop, ints, inRange}
 use Rattle.chunk.specs.Pool.{toVal, constToVal, findOrPush, findOrPushConst}
-use Rattle.fold.specs.Plan.{Chunk, chunk, page, kindOf, prevLive, lands, skipsInto, blocked, tryFoldBinop, planFor, planAt}
+use Rattle.landings.specs.Landings.{lands, barred}
+use Rattle.fold.specs.Plan.{Chunk, chunk, page, kindOf, prevLive, skipsInto, blocked, tryFoldBinop, planFor, planAt}
 use Rattle.fold.specs.Plan as plan
-use Rattle.fold.specs.Pass.{constLoad, markOf, put, landed, applied, tryFold, folded, foldAll}
+use Rattle.fold.specs.Pass.{constLoad, markOf, put, landed, applied, tryFold, byScan, folded, foldAll}
 use Rattle.clear.specs.Unused.{named, kept, pooled, renumbered, operandOf, recoded, numbered, loaded}
 use Rattle.clear.specs.Clear.{buffers, outcome, cleared, readyOf, clearCall}
 use Rattle.clear.specs.declared.ClearAnswer.the-variants.{Is, No}
@@ -46,11 +47,11 @@ abbrev late : Chunk
 late = chunk (LoadConst ∷ 2 ∷ 1 ∷ LoadConst ∷ 2 ∷ 2 ∷ Add ∷ 0 ∷ 0 ∷ LoadConst ∷ 2 ∷ 3 ∷ []) (0 ∷ 0 ∷ 0 ∷ 0 ∷ []) (1 ∷ 1 ∷ 1 ∷ 0 ∷ []) (7 ∷ 2 ∷ 3 ∷ 0 ∷ []) 3
 
 -- uncleared, the sum is pushed to 3, where the last LoadConst loads it
-pub late-load : loaded (foldAll false late .words) (foldAll false late .constants) 3 ≡ 5 ∷ []
-unfolding loaded foldAll folded tryFold applied landed put markOf constLoad planAt planFor kindOf page tryFoldBinop prevLive plan.operandOf blocked lands skipsInto constToVal toVal foldBinop ints inRange findOrPushConst findOrPush first
+pub late-load : loaded (foldAll (byScan false []) late .words) (foldAll (byScan false []) late .constants) 3 ≡ 5 ∷ []
+unfolding loaded foldAll folded tryFold applied landed put markOf constLoad planAt planFor kindOf page tryFoldBinop prevLive plan.operandOf blocked barred lands skipsInto constToVal toVal foldBinop ints inRange findOrPushConst findOrPush first
 late-load = refl
 
 -- cleared, it is pushed to 2, and the last LoadConst still loads nothing
-pub late-none : loaded (foldAll false (clearedChunk late) .words) (foldAll false (clearedChunk late) .constants) 3 ≡ []
-unfolding loaded foldAll folded tryFold applied landed put markOf constLoad planAt planFor kindOf page tryFoldBinop prevLive plan.operandOf blocked lands skipsInto constToVal toVal foldBinop ints inRange findOrPushConst findOrPush first many each some named kept pooled renumbered operandOf recoded
+pub late-none : loaded (foldAll (byScan false []) (clearedChunk late) .words) (foldAll (byScan false []) (clearedChunk late) .constants) 3 ≡ []
+unfolding loaded foldAll folded tryFold applied landed put markOf constLoad planAt planFor kindOf page tryFoldBinop prevLive plan.operandOf blocked barred lands skipsInto constToVal toVal foldBinop ints inRange findOrPushConst findOrPush first many each some named kept pooled renumbered operandOf recoded
 late-none = refl

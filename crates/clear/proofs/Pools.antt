@@ -18,7 +18,7 @@ use Rattle.laws.proofs.Walk.{none-passed}
 use Rattle.chunk.specs.Pool.{equals, position, stored, findOrPush}
 use Rattle.chunk.specs.declared.Kept.the-variants.{At}
 use Rattle.chunk.proofs.Store.{found, pushed}
-use Rattle.clear.proofs.Whole.{many-ext}
+use Rattle.lent.proofs.Counting.{many-ext}
 
 pub cases : {X : Type 0} (a b : ℕ) → (a ≡ b → X) → ((a ≡ b → ⊥) → X) → X
 cases {X} a b y n = go (eqb a b) refl

@@ -25,16 +25,17 @@ use Rattle.values.specs.declared.Val.the-variants.{Int, Float as Real, Bool as 
 use Rattle.chunk.specs.Pool.{position, stored, findOrPush, findOrPushConst}
 use Rattle.chunk.specs.declared.Kept.the-variants.{At, Full}
 use Rattle.fold.specs.Plan.{Chunk, chunk, planAt}
-use Rattle.fold.specs.Pass.{constLoad, put, landed, applied, tryFold, folded, foldAll, Lent}
+use Rattle.fold.specs.Pass.{constLoad, put, landed, applied, tryFold, Bars, byScan, folded, foldAll, Lent}
 use Rattle.fold.specs.declared.Plan.{Plan}
 use Rattle.fold.specs.declared.Plan.the-variants.{Stay, Put}
-use Rattle.fold.proofs.Grown.{put-long, Held, held-none, held-more, held-ready}
+use Rattle.fold.proofs.Put.{put-long}
+use Rattle.fold.proofs.Grown.{Held, held-none, held-more, held-ready}
 use Rattle.clear.specs.Unused.{named, before, pooled, recoded}
 use Rattle.clear.proofs.Kept.{named-by, in-order, onto, pooled-kept}
 use Rattle.clear.proofs.Loads.{recoded-length, recoded-count, recoded-op, recoded-mark, unmarked-stays, near-moves}
 use Rattle.clear.proofs.Tested.{check-met, whole-of, never}
 use Rattle.clear.proofs.Room.{clearedChunk, room-after}
-use Rattle.clear.proofs.Alike.{SameLoad, Alike}
+use Rattle.clear.proofs.Alike.{bars-same, SameLoad, Alike}
 use Rattle.clear.proofs.Pools.{Pools}
 use Rattle.clear.proofs.Attempts.{Sim, settled, try-live, try-dead, try-sim}
 
@@ -85,45 +86,45 @@ unfolding applied
 long-applied Stay i s = long-same s
 long-applied (Put p q v) i s = long-put p q i s v
 
-long-try : (strict : Bool) (i : ℕ) (s : Chunk) → Long s (tryFold strict i s)
-long-try strict i s = go (eqb (getD (s .dead) i 0) 0) refl
+long-try : (bars : ℕ → Bool) (i : ℕ) (s : Chunk) → Long s (tryFold bars i s)
+long-try bars i s = go (eqb (getD (s .dead) i 0) 0) refl
   where
-    go : (b : Bool) → eqb (getD (s .dead) i 0) 0 ≡ b → Long s (tryFold strict i s)
-    go true e = rw (try-live strict i s (planAt strict i s) e refl) (long-applied (planAt strict i s) i s)
-    go false e = rw (try-dead strict i s e) (long-same s)
+    go : (b : Bool) → eqb (getD (s .dead) i 0) 0 ≡ b → Long s (tryFold bars i s)
+    go true e = rw (try-live bars i s (planAt bars i s) e refl) (long-applied (planAt bars i s) i s)
+    go false e = rw (try-dead bars i s e) (long-same s)
 
 -- ---- the pass
 
-module _ (strict : Bool) (s : Chunk) where
-  folded-next : (k : ℕ) → folded strict (suc k) s ≡ tryFold strict k (folded strict k s)
+module _ (bars : Bars) (s : Chunk) where
+  folded-next : (k : ℕ) → folded bars (suc k) s ≡ tryFold (bars (folded bars k s .code) k) k (folded bars k s)
   unfolding folded
   folded-next k = refl
 
-  folded-none : folded strict 0 s ≡ s
+  folded-none : folded bars 0 s ≡ s
   unfolding folded
   folded-none = refl
 
-  more-on : (d k : ℕ) → folded strict k s .constants ≤ folded strict (d + k) s .constants
+  more-on : (d k : ℕ) → folded bars k s .constants ≤ folded bars (d + k) s .constants
   more-on zero k = let e : 0 + k ≡ k = omega arith in rw e (omega arith)
   more-on (suc d) k =
       let e : suc d + k ≡ suc (d + k) = omega arith in
-      let l = long-try strict (d + k) (folded strict (d + k) s) in
+      let l = long-try (bars (folded bars (d + k) s .code) (d + k)) (d + k) (folded bars (d + k) s) in
       rw (e, folded-next (d + k)) (omega (arith, more-on d k, l .more))
 
-  more-up : (k n : ℕ) → k ≤ n → folded strict k s .constants ≤ folded strict n s .constants
+  more-up : (k n : ℕ) → k ≤ n → folded bars k s .constants ≤ folded bars n s .constants
   more-up k n h = let e : (n - k) + k ≡ n = omega arith in rw e at (more-on (n - k) k)
 
-  held-at : Lent s → (k : ℕ) → k ≤ count (s .code) → Held strict s (folded strict k s) k
-  held-at x zero h = rw folded-none (held-none strict s)
+  held-at : Lent s → (k : ℕ) → k ≤ count (s .code) → Held bars s (folded bars k s) k
+  held-at x zero h = rw folded-none (held-none bars s)
   held-at x (suc k) h =
       let g = held-at x k (omega arith) in
-      let l = long-try strict k (folded strict k s) in
-      let z = held-more g refl h x (tryFold strict k (folded strict k s)) refl (l .code) (l .dead) (l .kinds) (l .words) in
+      let l = long-try (bars (folded bars k s .code) k) k (folded bars k s) in
+      let z = held-more g refl h x (tryFold (bars (folded bars k s .code) k) k (folded bars k s)) refl (l .code) (l .dead) (l .kinds) (l .words) in
       rw (folded-next k) (rw (add-one k) at z)
 
-all-is : (strict : Bool) (s : Chunk) (n : ℕ) → n ≡ count (s .code) → foldAll strict s ≡ folded strict n s
+all-is : (bars : Bars) (s : Chunk) (n : ℕ) → n ≡ count (s .code) → foldAll bars s ≡ folded bars n s
 unfolding foldAll
-all-is strict s n c = ap (λ (k : ℕ). folded strict k s) (sym c)
+all-is bars s n c = ap (λ (k : ℕ). folded bars k s) (sym c)
 
 sim-to : {a b a′ b′ : Chunk} → a ≡ a′ → b ≡ b′ → Sim a′ b′ → Sim a b
 sim-to e f z = rw (e, f) z
@@ -137,18 +138,22 @@ before-end k n m e h = omega arith
 below-limit : (a b : ℕ) → a ≤ b → b < 65535 → a < 65535
 below-limit a b h l = omega arith
 
-module _ (strict : Bool) (s t : Chunk) (n : ℕ) (c : n ≡ count (s .code)) (c′ : n ≡ count (t .code)) (x : Lent s) (y : Lent t) (few : folded strict n s .constants < 65535) (z : Sim s t) where
-  sim-at : (k : ℕ) → k ≤ n → Sim (folded strict k s) (folded strict k t)
-  sim-at zero h = sim-to (folded-none strict s) (folded-none strict t) z
-  sim-at (suc k) h =
-      let a = held-at strict s x k (before-end k n (count (s .code)) c h) in
-      let b = held-at strict t y k (before-end k n (count (t .code)) c′ h) in
-      let l = below-limit (folded strict k s .constants) (folded strict n s .constants) (more-up strict s k n (before-it k n h)) few in
-      sim-to (folded-next strict s k) (folded-next strict t k)
-      (try-sim strict k (folded strict k s) (folded strict k t) (sim-at k (before-it k n h)) l (held-ready a c h x) (held-ready b c′ h y))
+module _ (strict : Bool) (tries : List ℕ) (s t : Chunk) (n : ℕ) (c : n ≡ count (s .code)) (c′ : n ≡ count (t .code)) (x : Lent s) (y : Lent t) (few : folded (byScan strict tries) n s .constants < 65535) (z : Sim s t) where
+  abbrev scan : Bars
+  scan = byScan strict tries
 
-  sim-all : Sim (foldAll strict s) (foldAll strict t)
-  sim-all = sim-to (all-is strict s n c) (all-is strict t n c′) (sim-at n (le-refl n))
+  sim-at : (k : ℕ) → k ≤ n → Sim (folded scan k s) (folded scan k t)
+  sim-at zero h = sim-to (folded-none scan s) (folded-none scan t) z
+  sim-at (suc k) h =
+      let a = held-at scan s x k (before-end k n (count (s .code)) c h) in
+      let b = held-at scan t y k (before-end k n (count (t .code)) c′ h) in
+      let l = below-limit (folded scan k s .constants) (folded scan n s .constants) (more-up scan s k n (before-it k n h)) few in
+      let i = sim-at k (before-it k n h) in
+      sim-to (folded-next scan s k ∙ ap (λ (q : ℕ → Bool). tryFold q k (folded scan k s)) (bars-same (i .alike) strict tries k)) (folded-next scan t k)
+      (try-sim (scan (folded scan k t .code) k) k (folded scan k s) (folded scan k t) i l (held-ready a c h x) (held-ready b c′ h y))
+
+  sim-all : Sim (foldAll scan s) (foldAll scan t)
+  sim-all = sim-to (all-is scan s n c) (all-is scan t n c′) (sim-at n (le-refl n))
 
 -- ---- what the record rules say of an accepted chunk
 
@@ -291,6 +296,6 @@ module _ (n : ℕ) (s : Chunk) (ok : checkOf (s .code) ≡ Count n) (there : All
       }
 
   -- folding before and after
-  pub refold : (strict : Bool) → Lent s → foldAll strict s .constants < 65535 → Alike (foldAll strict s) (foldAll strict (clearedChunk s))
-  refold strict x few =
-      sim-all strict s (clearedChunk s) (count w) refl (sym (recoded-count (before w) m w)) x (room-after s x) (rw (all-is strict s (count w) refl) at few) (record { alike = start-alike; pools = start-pools }) .alike
+  pub refold : (strict : Bool) (tries : List ℕ) → Lent s → foldAll (byScan strict tries) s .constants < 65535 → Alike (foldAll (byScan strict tries) s) (foldAll (byScan strict tries) (clearedChunk s))
+  refold strict tries x few =
+      sim-all strict tries s (clearedChunk s) (count w) refl (sym (recoded-count (before w) m w)) x (room-after s x) (rw (all-is (byScan strict tries) s (count w) refl) at few) (record { alike = start-alike; pools = start-pools }) .alike

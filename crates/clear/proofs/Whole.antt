@@ -17,17 +17,13 @@ use Rattle.code.specs.declared.Checked.{Checked}
 use Rattle.lent.specs.Chunk.{count, operandAt, markAt, opAt, names}
 use Rattle.lent.specs.Tables.{constantsKept, tableOf}
 use Rattle.lent.specs.Check.{checkOf}
+use Rattle.lent.proofs.Counting.{many-ext}
 use Rattle.clear.specs.Unused.{named, before, keptAt, kept, pooled, renumbered, operandOf, insOf, recoded, numbered}
 use Rattle.clear.specs.Passes.{Marks, marked, Moved, Down, freed, Low, numberIn}
 use Rattle.clear.specs.Clear.{buffers, outcome, cleared, readyOf}
 use Rattle.clear.specs.declared.ClearAnswer.the-variants.{Is}
 
 -- ---- two tests, or two numberings, that agree below m
-
-pub many-ext : (f g : ℕ → Bool) (m : ℕ) → ((i : ℕ) → i < m → f i ≡ g i) → many f m ≡ many g m
-unfolding many
-many-ext f g zero h = refl
-many-ext f g (suc m) h = rw (many-ext f g m (λ i l. h i (omega arith)), h m (omega arith))
 
 module _ (f g : ℕ → Bool) (m : ℕ) (h : (i : ℕ) → i < m → f i ≡ g i) where
   kept-ext : (l : List ℕ) → kept f m l ≡ kept g m l

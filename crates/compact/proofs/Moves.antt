@@ -17,7 +17,7 @@ use Rattle.laws.proofs.Each.{each-more, each-word, each-at}
 use Rattle.laws.proofs.InPlace.{Walked, walk-none, walk-read, walk-pass, walk-put, walk-three, walk-at, walk-as, walk-count, walk-whole, word-put}
 use Rattle.lent.specs.Chunk.{stride, opAt, markAt, operandAt, jumps}
 use Rattle.compact.specs.Remap.{alive, live, Remap, remapOf, mapped}
-use Rattle.compact.specs.Tables.{operandOf, leftAt, left, compacted, pairAt, placed, Compacted}
+use Rattle.compact.specs.Tables.{operandOf, leftAt, left, compacted, pairAt, placed, movedAll, Compacted}
 
 -- ---- remap
 
@@ -32,16 +32,6 @@ module _ (dead : List ℕ) where
   unfolding remapOf
   remap-of map e = record { whole = e; long = rw e (each-word (live dead) (length dead + 1)); at = λ i h. rw e (each-at (live dead) (length dead + 1) i (omega arith)) }
 
-  pub remap-on : (map last : List ℕ) → last ≡ map → map ≡ remapOf dead → Remap dead last
-  remap-on map last f e = remap-of last (f ∙ e)
-
-  -- a dead entry has the next one's number already
-  pub remap-same : (map old : List ℕ) (i : ℕ) → map ≡ old → Remap dead old → 0 < i → i ≤ length dead → (getD dead (i - 1) 0 ≡ 0 → ⊥)
-      → set map (i - 1) (getD map (i - 1 + 1) 0) ≡ old
-  remap-same map old i e r p h d =
-      rw e
-      (ap (set old (i - 1)) (r .at (i - 1 + 1) (omega arith) ∙ live-off (i - 1) d ∙ sym (r .at (i - 1) (omega arith))) ∙ set-getD old (i - 1) 0)
-
   module _ (map : List ℕ) (r : Remap dead map) (v : ℕ) where
     pub moved-in : v ≤ length dead → getD map v 0 ≡ mapped dead v
     unfolding mapped
@@ -54,7 +44,7 @@ module _ (dead : List ℕ) where
   unfolding mapped
   moved-out v h = rw (lt-leb v (length dead) h)
 
--- where the first walk stands at i, with `at` counted
+-- where the walk stands at i, with `at` counted
 pub record Counted (dead xs old : List ℕ) (at i : ℕ) : Type 0 where
   pub walked : Walked xs old (each (λ k. live dead k ∷ []) i) i i
   pub counts : at ≡ live dead i
@@ -223,6 +213,29 @@ module _ {dead xs old : List ℕ} {k : ℕ} (p : Placed dead xs old k) where
   pub placed-whole : length old / 2 ≤ k → k ≤ length old / 2 → length old % 2 ≡ 0 → xs ≡ placed dead old
   unfolding placed
   placed-whole h l z = let e : k ≡ length old / 2 = omega arith in walk-whole (p .walked) (omega arith) ∙ ap (each (pairAt dead old)) e
+
+-- ---- every word
+
+pub record Moving (dead xs old : List ℕ) (k : ℕ) : Type 0 where
+  pub walked : Walked xs old (each (λ j. mapped dead (getD old j 0) ∷ []) k) k k
+
+pub moving-none : (dead old : List ℕ) → Moving dead old old 0
+unfolding each
+moving-none dead old = record { walked = walk-none old }
+
+module _ {dead xs old : List ℕ} {k : ℕ} (p : Moving dead xs old k) where
+  pub moving-more : (v : ℕ) → v ≡ mapped dead (getD xs k 0) → k < length xs → Moving dead (set xs k v) old (k + 1)
+  moving-more v e h =
+      record { walked = word-put (λ j. mapped dead (getD old j 0)) (p .walked) (omega (arith, p .walked .same)) v (e ∙ ap (mapped dead) (walk-read (p .walked) k (le-refl k))) }
+
+  pub moving-same : length xs ≡ length old
+  moving-same = p .walked .same
+
+  pub moving-whole : length xs ≤ k → k ≤ length old → xs ≡ movedAll dead old
+  unfolding movedAll
+  moving-whole h l =
+      let e : k ≡ length old = omega (arith, p .walked .same) in
+      walk-whole (p .walked) (omega (arith, p .walked .same)) ∙ ap (each (λ j. mapped dead (getD old j 0) ∷ [])) e
 
 -- ---- all of it
 

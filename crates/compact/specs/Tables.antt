@@ -31,6 +31,10 @@ pairAt dead t k = mapped dead (getD t (2 * k) 0) ∷ getD t (2 * k + 1) 0 ∷ []
 unfoldable pub placed : List ℕ → List ℕ → List ℕ
 placed dead t = each (pairAt dead t) (length t / 2)
 
+-- every word of each pair maps: tries are remapped like jump operands
+unfoldable pub movedAll : List ℕ → List ℕ → List ℕ
+movedAll dead t = each (λ k. mapped dead (getD t k 0) ∷ []) (length t)
+
 -- all of it, from n dead marks
 pub record Compacted (dead w stmts calls : List ℕ) (r : ℕ) (w′ remap′ stmts′ calls′ : List ℕ) : Type 0 where
   pub count : r ≡ live dead (length dead)

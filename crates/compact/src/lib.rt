@@ -5,13 +5,13 @@ ghost use Prim.Native.Nat.{_+_, _-_, _*_, _%_, _≤_, _<_};
 ghost use lib.ListN.{length, take, replicate, set};
 ghost use Rattle.lent.specs.Chunk.{stride, count, opAt, markAt};
 ghost use Rattle.compact.specs.Remap.{live, Remap, remapOf, mapped};
-ghost use Rattle.compact.specs.Tables.{operandOf, compacted, placed, Compacted};
+ghost use Rattle.compact.specs.Tables.{operandOf, compacted, placed, movedAll, Compacted};
 use lent::STRIDE;
 
-// remap, front to back: the number of live instructions before each position.
-fn count_live(dead: &[u8], remap: &mut [u32])
+// remap(0) to remap(n), front to back: the number of live instructions before each position.
+fn fill_remap(dead: &[u8], remap: &mut [u32])
     requires { ⌜ (length (now remap) ≡ length (now dead) + 1) × (length (now dead) ≤ 65535) ⌝ }
-    ensures { λ _. ⌜ now (remap .exit) ≡ remapOf (now (dead .entry)) ⌝ }
+    ensures { λ _. ⌜ Remap (now (dead .entry)) (now (remap .exit)) ⌝ }
 {
     let n = dead.len();
     let mut at: usize = 0;
@@ -22,30 +22,6 @@ fn count_live(dead: &[u8], remap: &mut [u32])
         i += 1;
     }
     remap[n] = at as u32;
-}
-
-// The Rust's second walk, back to front: a dead entry takes the next one's number, which it has already.
-fn forward_dead(dead: &[u8], remap: &mut [u32])
-    requires { ⌜ Remap (now dead) (now remap) ⌝ }
-    ensures { λ _. ⌜ now (remap .exit) ≡ now (remap .entry) ⌝ }
-{
-    let mut i = dead.len();
-    while 0 < i {
-        i -= 1;
-        if dead[i] == 0 {
-            continue;
-        }
-        remap[i] = remap[i + 1];
-    }
-}
-
-// remap(0) to remap(n), by both walks.
-fn fill_remap(dead: &[u8], remap: &mut [u32])
-    requires { ⌜ (length (now remap) ≡ length (now dead) + 1) × (length (now dead) ≤ 65535) ⌝ }
-    ensures { λ _. ⌜ Remap (now (dead .entry)) (now (remap .exit)) ⌝ }
-{
-    count_live(dead, remap);
-    forward_dead(dead, remap);
 }
 
 // Where a position goes.
@@ -129,6 +105,19 @@ fn place(pairs: &mut [u32], dead: &[u8], remap: &[u32])
         let at = 2 * k;
         let v = moved(dead, remap, pairs[at]);
         pairs[at] = v;
+        k += 1;
+    }
+}
+
+// Every word follows: the tries are pairs of positions.
+pub fn place_words(words: &mut [u32], dead: &[u8], remap: &[u32])
+    requires { ⌜ Remap (now dead) (now remap) ⌝ }
+    ensures { λ _. ⌜ now (words .exit) ≡ movedAll (now (dead .entry)) (now (words .entry)) ⌝ }
+{
+    let mut k: usize = 0;
+    while k < words.len() {
+        let v = moved(dead, remap, words[k]);
+        words[k] = v;
         k += 1;
     }
 }

@@ -6,50 +6,33 @@ use mathlib.Core.Path.{_≡_, refl, sym, ap, _∙_}
 use mathlib.Core.Bool.{Bool, true, false, cond}
 use mathlib.Core.List.{List}
 use lib.Dec.{eqb}
-use lib.ListN.{length, getD, set, length-set}
-use lib.Seq.{getD-set-same, getD-set-other}
+use lib.ListN.{length, getD}
 use mir.Val.{boolByte}
 use Rattle.laws.specs.All.{many}
-use Rattle.lent.specs.Chunk.{stride, count, opAt, folds}
+use Rattle.lent.specs.Chunk.{count, opAt, folds}
 use Rattle.lent.specs.Check.{constantRoom}
+use Rattle.lent.proofs.Counting.{many-le}
 use Rattle.values.specs.declared.Val.{Val}
 use Rattle.values.specs.declared.Val.the-variants.{Int, Float as Real, Bool as Truth}
 use Rattle.chunk.specs.Pool.{Room, Stored, findOrPushConst}
 use Rattle.chunk.specs.declared.Kept.{Kept}
 use Rattle.chunk.specs.declared.Kept.the-variants.{At, Full}
 use Rattle.chunk.proofs.Store.{kept-few}
-use Rattle.fold.specs.Plan.{Chunk, planAt}
-use Rattle.fold.specs.Pass.{Loading, loadOf, constLoad, markOf, put, landed, applied, tryFold, folded, foldAll, Readable, Ready, Lent}
+use Rattle.landings.specs.Latest.{latest, isLanding}
+use Rattle.fold.specs.Plan.{Chunk, after, planAt}
+use Rattle.fold.specs.Pass.{Loading, loadOf, constLoad, landed, applied, tryFold, Bars, byTable, folded, foldAll, Readable, Ready, Lent}
 use Rattle.fold.specs.declared.Loaded.{Loaded}
 use Rattle.fold.specs.declared.Loaded.the-variants.{As, No}
 use Rattle.fold.specs.declared.Plan.{Plan}
 use Rattle.fold.specs.declared.Plan.the-variants.{Stay, Put}
 use Rattle.fold.proofs.Planned.{Planned, planned}
+use Rattle.fold.proofs.Put.{put-other}
 
 -- ---- one attempt
 
 pub record Grown (s t : Chunk) (i : ℕ) : Type 0 where
   pub later : (k : ℕ) → i ≤ k → opAt (t .code) k ≡ opAt (s .code) k
   pub few : t .constants ≤ constantRoom (s .constants) (boolByte (folds (opAt (s .code) i)))
-
--- an instruction put elsewhere, and here
-pub put-other : (w : List ℕ) (p o x k : ℕ) → (k ≡ p → ⊥) → opAt (put w p o x) k ≡ opAt w k
-unfolding put
-put-other w p o x k h =
-    getD-set-other (set (set w (stride * p) o) (stride * p + 1) (markOf o)) (stride * p + 2) (stride * k) x 0 (λ e. omega arith)
-    ∙ getD-set-other (set w (stride * p) o) (stride * p + 1) (stride * k) (markOf o) 0 (λ e. omega arith)
-    ∙ getD-set-other w (stride * p) (stride * k) o 0 (λ e. h (omega arith))
-
-pub put-here : (w : List ℕ) (p o x : ℕ) → p < count w → opAt (put w p o x) p ≡ o
-unfolding put
-put-here w p o x h =
-    getD-set-other (set (set w (stride * p) o) (stride * p + 1) (markOf o)) (stride * p + 2) (stride * p) x 0 (λ e. omega arith)
-    ∙ getD-set-other (set w (stride * p) o) (stride * p + 1) (stride * p) (markOf o) 0 (λ e. omega arith)
-    ∙ getD-set-same w (stride * p) o 0 (omega arith)
-
-pub put-long : (w : List ℕ) (p o x : ℕ) → length (put w p o x) ≡ length w
-unfolding put
-put-long w p o x = simp length-set
 
 abbrev countOf : Loaded → ℕ → ℕ
 countOf (As o x m) n = m
@@ -88,16 +71,16 @@ module _ (i : ℕ) (s : Chunk) where
               }
           by No b = record { later = λ k g. refl; few = omega arith }
 
-  pub try-grown : (strict : Bool) → Grown s (tryFold strict i s) i
+  pub try-grown : (bars : ℕ → Bool) → Grown s (tryFold bars i s) i
   unfolding tryFold applied
-  try-grown strict = go (eqb (getD (s .dead) i 0) 0)
+  try-grown bars = go (eqb (getD (s .dead) i 0) 0)
     where
-      by : (plan : Plan) → planAt strict i s ≡ plan → Grown s (applied plan i s) i
+      by : (plan : Plan) → planAt bars i s ≡ plan → Grown s (applied plan i s) i
       by Stay e = idle
-      by (Put p q v) e = put-grown p q v (planned strict i s e)
+      by (Put p q v) e = put-grown p q v (planned bars i s e)
 
-      go : (t : Bool) → Grown s (cond t (applied (planAt strict i s) i s) s) i
-      go true = by (planAt strict i s) refl
+      go : (t : Bool) → Grown s (cond t (applied (planAt bars i s) i s) s) i
+      go true = by (planAt bars i s) refl
       go false = idle
 
 -- ---- the pass
@@ -105,8 +88,8 @@ module _ (i : ℕ) (s : Chunk) where
 abbrev operators : Chunk → ℕ → ℕ
 operators s k = many (λ j. folds (opAt (s .code) j)) k
 
-pub record Held (strict : Bool) (s t : Chunk) (i : ℕ) : Type 0 where
-  pub is : t ≡ folded strict i s
+pub record Held (bars : Bars) (s t : Chunk) (i : ℕ) : Type 0 where
+  pub is : t ≡ folded bars i s
   pub later : (k : ℕ) → i ≤ k → opAt (t .code) k ≡ opAt (s .code) k
   pub few : t .constants ≤ constantRoom (s .constants) (operators s i)
   pub code-long : length (t .code) ≡ length (s .code)
@@ -114,26 +97,16 @@ pub record Held (strict : Bool) (s t : Chunk) (i : ℕ) : Type 0 where
   pub kinds-long : length (t .kinds) ≡ length (s .kinds)
   pub words-long : length (t .words) ≡ length (s .words)
 
-pub held-none : (strict : Bool) (s : Chunk) → Held strict s s 0
+pub held-none : (bars : Bars) (s : Chunk) → Held bars s s 0
 unfolding folded many
-held-none strict s =
+held-none bars s =
     record { is = refl; later = λ k h. refl; few = omega arith; code-long = refl; dead-long = refl; kinds-long = refl; words-long = refl }
 
 many-here : (f : ℕ → Bool) (k : ℕ) → many f (suc k) ≡ many f k + boolByte (f k)
 unfolding many
 many-here f k = refl
 
-many-on : (f : ℕ → Bool) (d k : ℕ) → many f k ≤ many f (d + k)
-unfolding many
-many-on f zero k = let e : 0 + k ≡ k = omega arith in rw e (omega arith)
-many-on f (suc d) k =
-    let e : suc d + k ≡ suc (d + k) = omega arith in
-    rw e (omega (arith, many-on f d k))
-
-many-le : (f : ℕ → Bool) (k n : ℕ) → k ≤ n → many f k ≤ many f n
-many-le f k n h = let e : (n - k) + k ≡ n = omega arith in rw e at (many-on f (n - k) k)
-
-module _ {strict : Bool} {s t : Chunk} {i n : ℕ} (h : Held strict s t i) (z : n ≡ count (s .code)) (l′ : i < n) (b : Lent s) where
+module _ {bars : Bars} {s t : Chunk} {i n : ℕ} (h : Held bars s t i) (z : n ≡ count (s .code)) (l′ : i < n) (b : Lent s) where
   l : i < count (s .code)
   l = omega arith
 
@@ -165,13 +138,13 @@ module _ {strict : Bool} {s t : Chunk} {i n : ℕ} (h : Held strict s t i) (z : 
             };
       }
 
-  pub held-more : (u : Chunk) → u ≡ tryFold strict i t → length (u .code) ≡ length (t .code) → length (u .dead) ≡ length (t .dead) → length (u .kinds) ≡ length (t .kinds)
-      → length (u .words) ≡ length (t .words) → Held strict s u (i + 1)
+  pub held-more : (u : Chunk) → u ≡ tryFold (bars (t .code) i) i t → length (u .code) ≡ length (t .code) → length (u .dead) ≡ length (t .dead) → length (u .kinds) ≡ length (t .kinds)
+      → length (u .words) ≡ length (t .words) → Held bars s u (i + 1)
   unfolding folded
   held-more u e c d k w =
-      let g : Grown t u i = rw e (try-grown i t strict) in
+      let g : Grown t u i = rw e (try-grown i t (bars (t .code) i)) in
       record {
-        is = rw (add-one i) (e ∙ ap (tryFold strict i) (h .is));
+        is = rw (add-one i) (e ∙ ap (λ (x : Chunk). tryFold (bars (x .code) i) i x) (h .is));
         later = λ j m. g .later j (omega arith) ∙ h .later j (omega arith);
         few = rw (add-one i) (omega (arith, g .few, h .few, here, ap (λ (o : ℕ). boolByte (folds o)) (h .later i (omega arith))));
         code-long = c ∙ h .code-long;
@@ -181,6 +154,30 @@ module _ {strict : Bool} {s t : Chunk} {i n : ℕ} (h : Held strict s t i) (z : 
       }
 
 -- all n of them
-pub held-all : {strict : Bool} {s t : Chunk} {i n : ℕ} → Held strict s t i → n ≡ count (s .code) → n ≤ i → i ≤ n → t ≡ foldAll strict s
+pub held-all : {bars : Bars} {s t : Chunk} {i n : ℕ} → Held bars s t i → n ≡ count (s .code) → n ≤ i → i ≤ n → t ≡ foldAll bars s
 unfolding foldAll
 held-all {s = s} {i = i} h z a b = let e : count (s .code) ≡ i = omega arith in rw e (h .is)
+
+-- ---- with the last landing in hand
+
+pub record Asked (strict : Bool) (l : List ℕ) (s t : Chunk) (last i : ℕ) : Type 0 where
+  pub held : Held (byTable strict l) s t i
+  pub told : last ≡ latest (isLanding strict l) i
+
+pub asked-none : (strict : Bool) (l : List ℕ) (s : Chunk) → Asked strict l s s 0 0
+unfolding latest
+asked-none strict l s = record { held = held-none (byTable strict l) s; told = refl }
+
+module _ {strict : Bool} {l : List ℕ} {s t : Chunk} {last i n : ℕ} (h : Asked strict l s t last i) (z : n ≡ count (s .code)) (b : i < n) (f : Lent s) where
+  pub asked-ready : Ready t i
+  asked-ready = held-ready (h .held) z b f
+
+  pub asked-more : {more : ℕ} (u : Chunk) → more ≡ cond (isLanding strict l i) i last → u ≡ tryFold (after more) i t → length (u .code) ≡ length (t .code)
+      → length (u .dead) ≡ length (t .dead) → length (u .kinds) ≡ length (t .kinds) → length (u .words) ≡ length (t .words) → Asked strict l s u more (i + 1)
+  unfolding latest
+  asked-more {more} u m e c d k w =
+      let y : more ≡ latest (isLanding strict l) (suc i) = m ∙ ap (λ (x : ℕ). cond (isLanding strict l i) i x) (h .told) in
+      record { held = held-more (h .held) z b f u (rw y at e) c d k w; told = rw (add-one i) y }
+
+pub asked-all : {strict : Bool} {l : List ℕ} {s t : Chunk} {last i n : ℕ} → Asked strict l s t last i → n ≡ count (s .code) → n ≤ i → i ≤ n → t ≡ foldAll (byTable strict l) s
+asked-all h z a b = held-all (h .held) z a b

@@ -2,5 +2,7 @@
 pub mod Parts
 pub mod Ways
 pub mod Planned
+pub mod Put
 pub mod Grown
 pub mod Passed
+pub mod Landed

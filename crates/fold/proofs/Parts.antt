@@ -15,7 +15,8 @@ use Rattle.values.specs.declared.Maybe.{Maybe}
 use Rattle.values.specs.declared.Maybe.the-variants.{Is, Nothing}
 use Rattle.chunk.specs.Pool.{toVal, constToVal}
 use Rattle.chunk.proofs.Store.{val-sound}
-use Rattle.fold.specs.Plan.{prevLive, operandOf, lands, skipsInto, landsAny, blocked}
+use Rattle.landings.specs.Landings.{lands}
+use Rattle.fold.specs.Plan.{prevLive, operandOf, skipsInto, blocked, after}
 use Rattle.fold.specs.declared.Found.{Found}
 use Rattle.fold.specs.declared.Found.the-variants.{At, Nowhere}
 
@@ -112,15 +113,11 @@ module _ (w : List ℕ) (p i : ℕ) where
       positive zero n = absurd (n refl)
       positive (suc p) n = omega arith
 
-  module _ (strict : Bool) {r : Bool} (e : r ≡ skipsInto w p i) where
-    pub skip-blocks : r ≡ true → true ≡ blocked strict w p i
+  module _ (bars : ℕ → Bool) {r : Bool} (e : r ≡ skipsInto w p i) where
+    pub skip-blocks : r ≡ true → true ≡ blocked bars w p i
     unfolding blocked
     skip-blocks h = rw (sym e, h) refl
 
-    pub strict-blocks : {t : Bool} → r ≡ false → strict ≡ true → t ≡ landsAny w p i → t ≡ blocked strict w p i
-    unfolding blocked
-    strict-blocks h s f = rw (sym e, h, s) f
-
-    pub plain-passes : r ≡ false → strict ≡ false → false ≡ blocked strict w p i
-    unfolding blocked
-    plain-passes h s = rw (sym e, h, s) refl
+  pub last-blocks : (last : ℕ) {r : Bool} → r ≡ skipsInto w p i → r ≡ false → ltb p last ≡ blocked (after last) w p i
+  unfolding blocked
+  last-blocks last e h = rw (sym e, h) refl

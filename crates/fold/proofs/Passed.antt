@@ -18,13 +18,13 @@ use Rattle.chunk.specs.declared.Kept.{Kept}
 use Rattle.chunk.specs.declared.Kept.the-variants.{At, Full}
 use Rattle.chunk.proofs.Store.{full-stays}
 use Rattle.fold.specs.Plan.{Chunk, chunk, planAt}
-use Rattle.fold.specs.Pass.{Loading, loading, loadOf, fromPool, constLoad, put, landed, applied, tryFold, folded, foldAll}
+use Rattle.fold.specs.Pass.{Loading, loading, loadOf, fromPool, constLoad, put, landed, applied, tryFold, Bars, folded, foldAll}
 use Rattle.fold.specs.declared.Loaded.{Loaded}
 use Rattle.fold.specs.declared.Loaded.the-variants.{As, No}
 use Rattle.fold.specs.declared.Plan.{Plan}
 use Rattle.fold.specs.declared.Plan.the-variants.{Stay, Put}
 use Rattle.fold.proofs.Planned.{Planned, planned}
-use Rattle.fold.proofs.Grown.{put-other, put-here, put-long}
+use Rattle.fold.proofs.Put.{put-other, put-here, put-long}
 
 -- a mark stays or becomes 1
 abbrev pub Mark : ℕ → ℕ → Type 0
@@ -128,28 +128,28 @@ module _ (i : ℕ) (s : Chunk) (hc : i < count (s .code)) (hd : i < length (s .d
       go (As o x m) e = rw e (wrote p q o x h (rw e at (load-bare v (s .kinds) (s .words) (s .constants))) (l .kinds) (l .words) m)
       go No e = rw (no-load v (s .kinds) (s .words) (s .constants) e) (same s)
 
-  try-passed : (strict : Bool) → Passed s (tryFold strict i s)
+  try-passed : (bars : ℕ → Bool) → Passed s (tryFold bars i s)
   unfolding tryFold applied
-  try-passed strict = go (eqb (getD (s .dead) i 0) 0)
+  try-passed bars = go (eqb (getD (s .dead) i 0) 0)
     where
-      by : (plan : Plan) → planAt strict i s ≡ plan → Passed s (applied plan i s)
+      by : (plan : Plan) → planAt bars i s ≡ plan → Passed s (applied plan i s)
       by Stay e = same s
-      by (Put p q v) e = put-passed p q v (planned strict i s e)
+      by (Put p q v) e = put-passed p q v (planned bars i s e)
 
-      go : (t : Bool) → Passed s (cond t (applied (planAt strict i s) i s) s)
-      go true = by (planAt strict i s) refl
+      go : (t : Bool) → Passed s (cond t (applied (planAt bars i s) i s) s)
+      go true = by (planAt bars i s) refl
       go false = same s
 
 -- ---- the pass
 
-module _ (strict : Bool) (s : Chunk) (h : count (s .code) ≤ length (s .dead)) where
-  some-passed : (k : ℕ) → k ≤ count (s .code) → Passed s (folded strict k s)
+module _ (bars : Bars) (s : Chunk) (h : count (s .code) ≤ length (s .dead)) where
+  some-passed : (k : ℕ) → k ≤ count (s .code) → Passed s (folded bars k s)
   unfolding folded
   some-passed zero l = same s
   some-passed (suc k) l =
       let p = some-passed k (omega arith) in
-      both p (try-passed k (folded strict k s) (rw (p .code-long) l) (omega (arith, p .dead-long)) strict)
+      both p (try-passed k (folded bars k s) (rw (p .code-long) l) (omega (arith, p .dead-long)) (bars (folded bars k s .code) k))
 
-  pub all-passed : Passed s (foldAll strict s)
+  pub all-passed : Passed s (foldAll bars s)
   unfolding foldAll
   all-passed = some-passed (count (s .code)) (omega arith)

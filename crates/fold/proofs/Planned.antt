@@ -79,8 +79,8 @@ module _ {X : Type 0} {p q : ℕ} {v : Val} where
   jump-put true r e h = stay-put e
   jump-put false r e h = h e
 
-module _ (strict : Bool) (i : ℕ) (s : Chunk) {p q : ℕ} {v : Val} where
-  binop-places : (o : Op) → tryFoldBinop strict o i s ≡ Put p q v → (p < i) × (q < suc i) × (opAt (s .code) p ≡ LoadConst)
+module _ (bars : ℕ → Bool) (i : ℕ) (s : Chunk) {p q : ℕ} {v : Val} where
+  binop-places : (o : Op) → tryFoldBinop bars o i s ≡ Put p q v → (p < i) × (q < suc i) × (opAt (s .code) p ≡ LoadConst)
   unfolding tryFoldBinop
   binop-places o e =
       found-put (prevLive (s .dead) i) _ e (λ q′ eq e.
@@ -88,33 +88,33 @@ module _ (strict : Bool) (i : ℕ) (s : Chunk) {p q : ℕ} {v : Val} where
       val-put (operandOf (s .code) (s .kinds) (s .words) (s .constants) p′) _ e (λ a ea e.
       val-put (operandOf (s .code) (s .kinds) (s .words) (s .constants) q′) _ e (λ b eb e.
       val-put (foldBinop o a b) _ e (λ v′ ev e.
-      jump-put (blocked strict (s .code) p′ i) (Put p′ q′ v′) e (λ e.
+      jump-put (blocked bars (s .code) p′ i) (Put p′ q′ v′) e (λ e.
       let sp : p′ ≡ p = cc in
       let sq : q′ ≡ q = cc in
       let h = before (s .dead) i q′ eq in
       let k = before (s .dead) q′ p′ ep in
       (omega arith, omega arith, rw (← sp) (operand-load (s .code) (s .kinds) (s .words) (s .constants) p′ a ea))))))))
 
-  unary-places : (minus : Bool) → tryFoldUnary strict minus i s ≡ Put p q v → (p < i) × (q < suc i) × (opAt (s .code) p ≡ LoadConst)
+  unary-places : (minus : Bool) → tryFoldUnary bars minus i s ≡ Put p q v → (p < i) × (q < suc i) × (opAt (s .code) p ≡ LoadConst)
   unfolding tryFoldUnary
   unary-places minus e =
       found-put (prevLive (s .dead) i) _ e (λ p′ ep e.
       val-put (operandOf (s .code) (s .kinds) (s .words) (s .constants) p′) _ e (λ a ea e.
       val-put (foldUnary minus a) _ e (λ v′ ev e.
-      jump-put (blocked strict (s .code) p′ i) (Put p′ i v′) e (λ e.
+      jump-put (blocked bars (s .code) p′ i) (Put p′ i v′) e (λ e.
       let sp : p′ ≡ p = cc in
       let sq : i ≡ q = cc in
       let h = before (s .dead) i p′ ep in
       (omega arith, omega arith, rw (← sp) (operand-load (s .code) (s .kinds) (s .words) (s .constants) p′ a ea))))))
 
-  pub planned : planAt strict i s ≡ Put p q v → Planned s i p q
+  pub planned : planAt bars i s ≡ Put p q v → Planned s i p q
   unfolding planAt planFor
   planned e = go (kindOf (opAt (s .code) i)) refl e
     where
       made : (k : Kind) → kindOf (opAt (s .code) i) ≡ k → (k ≡ Other → ⊥) → (p < i) × (q < suc i) × (opAt (s .code) p ≡ LoadConst) → Planned s i p q
       made k ek n h = record { first = h .0; second = h .1; load = h .2; operator = named-folds (opAt (s .code) i) (λ z. n (sym ek ∙ z)) }
 
-      go : (k : Kind) → kindOf (opAt (s .code) i) ≡ k → planFor k strict i s ≡ Put p q v → Planned s i p q
+      go : (k : Kind) → kindOf (opAt (s .code) i) ≡ k → planFor k bars i s ≡ Put p q v → Planned s i p q
       go (Binop o) ek e = made (Binop o) ek (λ z. let w : _≡_ {A = ℕ} 0 1 = cc in omega arith) (binop-places o e)
       go Not ek e = made Not ek (λ z. let w : _≡_ {A = ℕ} 0 1 = cc in omega arith) (unary-places false e)
       go Minus ek e = made Minus ek (λ z. let w : _≡_ {A = ℕ} 0 1 = cc in omega arith) (unary-places true e)
@@ -122,9 +122,9 @@ module _ (strict : Bool) (i : ℕ) (s : Chunk) {p q : ℕ} {v : Val} where
 
 -- ---- so they are there, and there is room for the result
 
-module _ (strict : Bool) (i : ℕ) (s : Chunk) {plan : Plan} {p q : ℕ} {v : Val} (e : plan ≡ planAt strict i s) (f : plan ≡ Put p q v) (r : Ready s i) where
+module _ (bars : ℕ → Bool) (i : ℕ) (s : Chunk) {plan : Plan} {p q : ℕ} {v : Val} (e : plan ≡ planAt bars i s) (f : plan ≡ Put p q v) (r : Ready s i) where
   is : Planned s i p q
-  is = planned strict i s (sym e ∙ f)
+  is = planned bars i s (sym e ∙ f)
 
   pub first-there : p < count (s .code)
   first-there = omega (arith, is .first, r .readable .here)

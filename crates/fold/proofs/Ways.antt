@@ -31,37 +31,37 @@ use Rattle.fold.specs.declared.Plan.the-variants.{Stay, Put}
 
 -- ---- two operands
 
-module _ (strict : Bool) (o : Op) (i : ℕ) (s : Chunk) {f : Found} (ef : f ≡ prevLive (s .dead) i) where
-  pub no-second : f ≡ Nowhere → Stay ≡ tryFoldBinop strict o i s
+module _ (bars : ℕ → Bool) (o : Op) (i : ℕ) (s : Chunk) {f : Found} (ef : f ≡ prevLive (s .dead) i) where
+  pub no-second : f ≡ Nowhere → Stay ≡ tryFoldBinop bars o i s
   unfolding tryFoldBinop
   no-second h = rw (sym ef, h) refl
 
   module _ {q : ℕ} (hf : f ≡ At q) {g : Found} (eg : g ≡ prevLive (s .dead) q) where
-    pub no-first : g ≡ Nowhere → Stay ≡ tryFoldBinop strict o i s
+    pub no-first : g ≡ Nowhere → Stay ≡ tryFoldBinop bars o i s
     unfolding tryFoldBinop
     no-first h = rw (sym ef, hf, sym eg, h) refl
 
     module _ {p : ℕ} (hg : g ≡ At p) {a : Maybe} (ea : a ≡ operandOf (s .code) (s .kinds) (s .words) (s .constants) p) where
-      pub no-a : a ≡ Nothing → Stay ≡ tryFoldBinop strict o i s
+      pub no-a : a ≡ Nothing → Stay ≡ tryFoldBinop bars o i s
       unfolding tryFoldBinop
       no-a h = rw (sym ef, hf, sym eg, hg, sym ea, h) refl
 
       module _ {x : Val} (ha : a ≡ Is x) {b : Maybe} (eb : b ≡ operandOf (s .code) (s .kinds) (s .words) (s .constants) q) where
-        pub no-b : b ≡ Nothing → Stay ≡ tryFoldBinop strict o i s
+        pub no-b : b ≡ Nothing → Stay ≡ tryFoldBinop bars o i s
         unfolding tryFoldBinop
         no-b h = rw (sym ef, hf, sym eg, hg, sym ea, ha, sym eb, h) refl
 
         module _ {y : Val} (hb : b ≡ Is y) {r : Maybe} (er : r ≡ foldBinop o x y) where
-          pub no-result : r ≡ Nothing → Stay ≡ tryFoldBinop strict o i s
+          pub no-result : r ≡ Nothing → Stay ≡ tryFoldBinop bars o i s
           unfolding tryFoldBinop
           no-result h = rw (sym ef, hf, sym eg, hg, sym ea, ha, sym eb, hb, sym er, h) refl
 
-          module _ {v : Val} (hr : r ≡ Is v) {t : Bool} (et : t ≡ blocked strict (s .code) p i) where
-            pub a-jump : t ≡ true → Stay ≡ tryFoldBinop strict o i s
+          module _ {v : Val} (hr : r ≡ Is v) {t : Bool} (et : t ≡ blocked bars (s .code) p i) where
+            pub a-jump : t ≡ true → Stay ≡ tryFoldBinop bars o i s
             unfolding tryFoldBinop
             a-jump h = rw (sym ef, hf, sym eg, hg, sym ea, ha, sym eb, hb, sym er, hr, sym et, h) refl
 
-            pub no-jump : t ≡ false → Put p q v ≡ tryFoldBinop strict o i s
+            pub no-jump : t ≡ false → Put p q v ≡ tryFoldBinop bars o i s
             unfolding tryFoldBinop
             no-jump h = rw (sym ef, hf, sym eg, hg, sym ea, ha, sym eb, hb, sym er, hr, sym et, h) refl
 
@@ -75,48 +75,48 @@ pub as-not : {r : Maybe} {m : Bool} (v : Val) → m ≡ false → r ≡ foldNot 
 unfolding foldUnary
 as-not v e h = rw e h
 
-module _ (strict minus : Bool) (i : ℕ) (s : Chunk) {f : Found} (ef : f ≡ prevLive (s .dead) i) where
-  pub none-before : f ≡ Nowhere → Stay ≡ tryFoldUnary strict minus i s
+module _ (bars : ℕ → Bool) (minus : Bool) (i : ℕ) (s : Chunk) {f : Found} (ef : f ≡ prevLive (s .dead) i) where
+  pub none-before : f ≡ Nowhere → Stay ≡ tryFoldUnary bars minus i s
   unfolding tryFoldUnary
   none-before h = rw (sym ef, h) refl
 
   module _ {p : ℕ} (hf : f ≡ At p) {a : Maybe} (ea : a ≡ operandOf (s .code) (s .kinds) (s .words) (s .constants) p) where
-    pub no-operand : a ≡ Nothing → Stay ≡ tryFoldUnary strict minus i s
+    pub no-operand : a ≡ Nothing → Stay ≡ tryFoldUnary bars minus i s
     unfolding tryFoldUnary
     no-operand h = rw (sym ef, hf, sym ea, h) refl
 
     module _ {x : Val} (ha : a ≡ Is x) {r : Maybe} (er : r ≡ foldUnary minus x) where
-      pub no-unary : r ≡ Nothing → Stay ≡ tryFoldUnary strict minus i s
+      pub no-unary : r ≡ Nothing → Stay ≡ tryFoldUnary bars minus i s
       unfolding tryFoldUnary
       no-unary h = rw (sym ef, hf, sym ea, ha, sym er, h) refl
 
-      module _ {v : Val} (hr : r ≡ Is v) {t : Bool} (et : t ≡ blocked strict (s .code) p i) where
-        pub a-jump-1 : t ≡ true → Stay ≡ tryFoldUnary strict minus i s
+      module _ {v : Val} (hr : r ≡ Is v) {t : Bool} (et : t ≡ blocked bars (s .code) p i) where
+        pub a-jump-1 : t ≡ true → Stay ≡ tryFoldUnary bars minus i s
         unfolding tryFoldUnary
         a-jump-1 h = rw (sym ef, hf, sym ea, ha, sym er, hr, sym et, h) refl
 
-        pub no-jump-1 : t ≡ false → Put p i v ≡ tryFoldUnary strict minus i s
+        pub no-jump-1 : t ≡ false → Put p i v ≡ tryFoldUnary bars minus i s
         unfolding tryFoldUnary
         no-jump-1 h = rw (sym ef, hf, sym ea, ha, sym er, hr, sym et, h) refl
 
 -- ---- by the opcode
 
-module _ {r : Plan} (strict : Bool) (i : ℕ) (s : Chunk) {o : ℕ} {k : Kind} (e : o ≡ opAt (s .code) i) (f : k ≡ kindOf o) where
-  pub a-binop : {b : Op} → k ≡ Binop b → r ≡ tryFoldBinop strict b i s → r ≡ planAt strict i s
+module _ {r : Plan} (bars : ℕ → Bool) (i : ℕ) (s : Chunk) {o : ℕ} {k : Kind} (e : o ≡ opAt (s .code) i) (f : k ≡ kindOf o) where
+  pub a-binop : {b : Op} → k ≡ Binop b → r ≡ tryFoldBinop bars b i s → r ≡ planAt bars i s
   unfolding planAt planFor
   a-binop h x = rw (sym e, sym f, h) x
 
-  pub a-not : k ≡ Not → r ≡ tryFoldUnary strict false i s → r ≡ planAt strict i s
+  pub a-not : k ≡ Not → r ≡ tryFoldUnary bars false i s → r ≡ planAt bars i s
   unfolding planAt planFor
   a-not h x = rw (sym e, sym f, h) x
 
-  pub a-minus : k ≡ Minus → r ≡ tryFoldUnary strict true i s → r ≡ planAt strict i s
+  pub a-minus : k ≡ Minus → r ≡ tryFoldUnary bars true i s → r ≡ planAt bars i s
   unfolding planAt planFor
   a-minus h x = rw (sym e, sym f, h) x
 
-pub no-operator : (strict : Bool) (i : ℕ) (s : Chunk) {o : ℕ} {k : Kind} → o ≡ opAt (s .code) i → k ≡ kindOf o → k ≡ Other → Stay ≡ planAt strict i s
+pub no-operator : (bars : ℕ → Bool) (i : ℕ) (s : Chunk) {o : ℕ} {k : Kind} → o ≡ opAt (s .code) i → k ≡ kindOf o → k ≡ Other → Stay ≡ planAt bars i s
 unfolding planAt planFor
-no-operator strict i s e f h = rw (sym e, sym f, h) refl
+no-operator bars i s e f h = rw (sym e, sym f, h) refl
 
 -- ---- a load
 
@@ -159,16 +159,16 @@ module _ (code dead kinds words : List ℕ) (n p q i : ℕ) (v : Val) {l : Loade
 
 -- ---- one attempt
 
-module _ (strict : Bool) (i : ℕ) (s : Chunk) where
-  pub is-dead : (getD (s .dead) i 0 ≡ 0 → ⊥) → s ≡ tryFold strict i s
+module _ (bars : ℕ → Bool) (i : ℕ) (s : Chunk) where
+  pub is-dead : (getD (s .dead) i 0 ≡ 0 → ⊥) → s ≡ tryFold bars i s
   unfolding tryFold
   is-dead h = rw (ne-eqb _ 0 h) refl
 
-  module _ (h : getD (s .dead) i 0 ≡ 0) {plan : Plan} (e : plan ≡ planAt strict i s) where
-    pub stays : plan ≡ Stay → s ≡ tryFold strict i s
+  module _ (h : getD (s .dead) i 0 ≡ 0) {plan : Plan} (e : plan ≡ planAt bars i s) where
+    pub stays : plan ≡ Stay → s ≡ tryFold bars i s
     unfolding tryFold applied
     stays f = rw (eq-eqb _ 0 h, sym e, f) refl
 
-    pub is-put : {p q : ℕ} {v : Val} {r : Chunk} → plan ≡ Put p q v → r ≡ applied (Put p q v) i s → r ≡ tryFold strict i s
+    pub is-put : {p q : ℕ} {v : Val} {r : Chunk} → plan ≡ Put p q v → r ≡ applied (Put p q v) i s → r ≡ tryFold bars i s
     unfolding tryFold
     is-put f k = rw (eq-eqb _ 0 h, sym e, f) k

@@ -14,7 +14,9 @@ use Rattle.values.specs.declared.Val.the-variants.{Int, Float as Real, Bool as 
 use Rattle.chunk.specs.Pool.{Room, Stored, findOrPushConst}
 use Rattle.chunk.specs.declared.Kept.{Kept}
 use Rattle.chunk.specs.declared.Kept.the-variants.{At, Full}
-use Rattle.fold.specs.Plan.{Chunk, chunk, planAt}
+use Rattle.landings.specs.Landings.{barred}
+use Rattle.landings.specs.Latest.{latest, isLanding}
+use Rattle.fold.specs.Plan.{Chunk, chunk, after, planAt}
 use Rattle.fold.specs.declared.Loaded.{Loaded}
 use Rattle.fold.specs.declared.Loaded.the-variants.{As, No}
 use Rattle.fold.specs.declared.Plan.{Plan}
@@ -66,19 +68,31 @@ applied (Put p q v) i s =
     landed (l .load) (l .kinds) (l .words) p q i s
 
 -- one attempt, of an operator that is not dead
-unfoldable pub tryFold : Bool → ℕ → Chunk → Chunk
+unfoldable pub tryFold : (ℕ → Bool) → ℕ → Chunk → Chunk
 unfolding applied planAt
-tryFold strict i s = cond (eqb (getD (s .dead) i 0) 0) (applied (planAt strict i s) i s) s
+tryFold bars i s = cond (eqb (getD (s .dead) i 0) 0) (applied (planAt bars i s) i s) s
+
+-- what bars a fold: in this code, of the operator at i, whose first operand is at p
+abbrev pub Bars : Type 0
+Bars = List ℕ → ℕ → ℕ → Bool
+
+-- strict mode: any jump or handler of the chunk in (p, i]; plain mode bars nothing
+abbrev pub byScan : Bool → List ℕ → Bars
+byScan strict tries w i p = barred strict w tries p i
+
+-- the same by a table of landings: the last one at or before i is past p
+abbrev pub byTable : Bool → List ℕ → Bars
+byTable strict l w i p = after (latest (isLanding strict l) (suc i)) p
 
 -- operators are tried once each, first to last: the first k of them
-unfoldable pub folded : Bool → ℕ → Chunk → Chunk
+unfoldable pub folded : Bars → ℕ → Chunk → Chunk
 unfolding tryFold
-folded strict zero s = s
-folded strict (suc k) s = tryFold strict k (folded strict k s)
+folded bars zero s = s
+folded bars (suc k) s = tryFold (bars (folded bars k s .code) k) k (folded bars k s)
 
-unfoldable pub foldAll : Bool → Chunk → Chunk
+unfoldable pub foldAll : Bars → Chunk → Chunk
 unfolding folded
-foldAll strict s = folded strict (count (s .code)) s
+foldAll bars s = folded bars (count (s .code)) s
 
 -- the buffers that a plan at i reads
 pub record Readable (s : Chunk) (i : ℕ) : Type 0 where

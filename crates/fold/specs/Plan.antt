@@ -2,12 +2,12 @@
 use Prim.Native.Nat.{ℕ, zero, suc, _-_}
 use mathlib.Core.Bool.{Bool, true, false, cond, _&&_, _||_}
 use mathlib.Core.List.{List, [], _∷_}
-use lib.Dec.{ltb, leb, eqb}
+use lib.Dec.{ltb, eqb}
 use lib.ListN.{getD}
 use Rattle.laws.specs.Page.{Row, _↝_, look}
-use Rattle.laws.specs.Some.{some}
 use Rattle.code.specs.Op as op
-use Rattle.lent.specs.Chunk.{count, opAt, operandAt, jumps}
+use Rattle.lent.specs.Chunk.{opAt, operandAt}
+use Rattle.landings.specs.Landings.{lands}
 use Rattle.values.specs.Folds.{foldBinop, foldNot, foldNeg}
 use Rattle.values.specs.declared.Val.{Val}
 use Rattle.values.specs.declared.Maybe.{Maybe}
@@ -70,23 +70,19 @@ prevLive dead (suc i) = cond (eqb (getD dead i 0) 0) (At i) (prevLive dead i)
 unfoldable pub operandOf : (code kinds words : List ℕ) → ℕ → ℕ → Maybe
 operandOf code kinds words constants p = cond (eqb (opAt code p) op.LoadConst) (constToVal kinds words constants (operandAt code p)) Nothing
 
--- a jump at k into (p, i]
-unfoldable pub lands : List ℕ → ℕ → ℕ → ℕ → Bool
-lands w p i k = jumps w k && (ltb p (operandAt w k) && leb (operandAt w k) i)
-
 -- no fold if the instruction just before the first operand is a jump into (first operand, operator]
 unfoldable pub skipsInto : List ℕ → ℕ → ℕ → Bool
 unfolding lands
 skipsInto w p i = ltb 0 p && lands w p i (p - 1)
 
--- strict mode: no fold if any jump in the chunk lands there
-unfoldable pub landsAny : List ℕ → ℕ → ℕ → Bool
-unfolding lands
-landsAny w p i = some (lands w p i) (count w)
+-- and none if a landing bars the first operand p: strict mode
+unfoldable pub blocked : (ℕ → Bool) → List ℕ → ℕ → ℕ → Bool
+unfolding skipsInto
+blocked bars w p i = skipsInto w p i || bars p
 
-unfoldable pub blocked : Bool → List ℕ → ℕ → ℕ → Bool
-unfolding skipsInto landsAny
-blocked strict w p i = skipsInto w p i || (strict && landsAny w p i)
+-- the last landing bars every operand before it
+abbrev pub after : ℕ → ℕ → Bool
+after last p = ltb p last
 
 -- each missing operand ends the attempt
 abbrev pub withFound : Found → (ℕ → Plan) → Plan
@@ -97,34 +93,34 @@ abbrev pub withVal : Maybe → (Val → Plan) → Plan
 withVal (Is v) f = f v
 withVal Nothing f = Stay
 
-unfoldable pub tryFoldBinop : Bool → Op → ℕ → Chunk → Plan
+unfoldable pub tryFoldBinop : (ℕ → Bool) → Op → ℕ → Chunk → Plan
 unfolding prevLive operandOf blocked
-tryFoldBinop strict o i s =
+tryFoldBinop bars o i s =
     withFound (prevLive (s .dead) i) (λ q.
     withFound (prevLive (s .dead) q) (λ p.
     withVal (operandOf (s .code) (s .kinds) (s .words) (s .constants) p) (λ a.
     withVal (operandOf (s .code) (s .kinds) (s .words) (s .constants) q) (λ b.
-    withVal (foldBinop o a b) (λ v. cond (blocked strict (s .code) p i) Stay (Put p q v))))))
+    withVal (foldBinop o a b) (λ v. cond (blocked bars (s .code) p i) Stay (Put p q v))))))
 
 -- Minus, or Not
 unfoldable pub foldUnary : Bool → Val → Maybe
 foldUnary true v = foldNeg v
 foldUnary false v = foldNot v
 
-unfoldable pub tryFoldUnary : Bool → Bool → ℕ → Chunk → Plan
+unfoldable pub tryFoldUnary : (ℕ → Bool) → Bool → ℕ → Chunk → Plan
 unfolding prevLive operandOf blocked foldUnary
-tryFoldUnary strict minus i s =
+tryFoldUnary bars minus i s =
     withFound (prevLive (s .dead) i) (λ p.
     withVal (operandOf (s .code) (s .kinds) (s .words) (s .constants) p) (λ a.
-    withVal (foldUnary minus a) (λ v. cond (blocked strict (s .code) p i) Stay (Put p i v))))
+    withVal (foldUnary minus a) (λ v. cond (blocked bars (s .code) p i) Stay (Put p i v))))
 
-unfoldable pub planFor : Kind → Bool → ℕ → Chunk → Plan
+unfoldable pub planFor : Kind → (ℕ → Bool) → ℕ → Chunk → Plan
 unfolding tryFoldBinop tryFoldUnary
-planFor (Binop o) strict i s = tryFoldBinop strict o i s
-planFor Not strict i s = tryFoldUnary strict false i s
-planFor Minus strict i s = tryFoldUnary strict true i s
-planFor Other strict i s = Stay
+planFor (Binop o) bars i s = tryFoldBinop bars o i s
+planFor Not bars i s = tryFoldUnary bars false i s
+planFor Minus bars i s = tryFoldUnary bars true i s
+planFor Other bars i s = Stay
 
-unfoldable pub planAt : Bool → ℕ → Chunk → Plan
+unfoldable pub planAt : (ℕ → Bool) → ℕ → Chunk → Plan
 unfolding planFor kindOf
-planAt strict i s = planFor (kindOf (opAt (s .code) i)) strict i s
+planAt bars i s = planFor (kindOf (opAt (s .code) i)) bars i s

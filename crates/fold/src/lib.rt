@@ -11,8 +11,9 @@ ghost use lib.ListN.{length};
 ghost use Rattle.lent.specs.Chunk.{count};
 ghost use Rattle.values.specs.Folds.{Sound};
 ghost use Rattle.chunk.specs.Pool.{Room, findOrPushConst};
-ghost use Rattle.fold.specs.Plan.{chunk, kindOf, prevLive, operandOf, lands, skipsInto, landsAny, blocked, foldUnary, tryFoldBinop, tryFoldUnary, planAt};
-ghost use Rattle.fold.specs.Pass.{loading, fromPool, constLoad, markOf, put, applied, tryFold, foldAll, Readable, Ready, Lent};
+ghost use Rattle.landings.specs.Landings.{lands};
+ghost use Rattle.fold.specs.Plan.{chunk, kindOf, prevLive, operandOf, skipsInto, blocked, after, foldUnary, tryFoldBinop, tryFoldUnary, planAt};
+ghost use Rattle.fold.specs.Pass.{loading, fromPool, constLoad, markOf, put, applied, tryFold, byTable, foldAll, Readable, Ready, Lent};
 
 // A position, where there is one.
 pub enum Found {
@@ -40,23 +41,27 @@ pub enum Loaded {
     No,
 }
 
-// The pass over a chunk. Answers the new count of constants.
+// The pass over a chunk, which asks each count of landings once. Answers the new count of constants.
 pub fn fold_all(
     code: &mut [u16],
     dead: &mut [u8],
     kinds: &mut [u8],
     words: &mut [u64],
     constants: usize,
+    landings: &[u64],
     strict: bool,
 ) -> usize
     requires { ⌜ Lent (chunk (now code) (now dead) (now kinds) (now words) constants) ⌝ }
-    ensures { λ r. ⌜ chunk (now (code .exit)) (now (dead .exit)) (now (kinds .exit)) (now (words .exit)) r ≡ foldAll strict (chunk (now (code .entry)) (now (dead .entry)) (now (kinds .entry)) (now (words .entry)) constants) ⌝ }
+    requires { ⌜ count (now code) ≤ length (now landings) ⌝ }
+    ensures { λ r. ⌜ chunk (now (code .exit)) (now (dead .exit)) (now (kinds .exit)) (now (words .exit)) r ≡ foldAll (byTable strict (now (landings .entry))) (chunk (now (code .entry)) (now (dead .entry)) (now (kinds .entry)) (now (words .entry)) constants) ⌝ }
 {
     let n = code.len() / STRIDE;
     let mut held = constants;
+    let mut last: usize = 0;
     let mut ip: usize = 0;
     while ip < n {
-        held = try_fold(code, dead, kinds, words, held, strict, ip);
+        last = landings::last_at(landings, strict, last, ip);
+        held = try_fold(code, dead, kinds, words, held, last, ip);
         ip += 1;
     }
     held
@@ -69,16 +74,16 @@ fn try_fold(
     kinds: &mut [u8],
     words: &mut [u64],
     constants: usize,
-    strict: bool,
+    last: usize,
     ip: usize,
 ) -> usize
     requires { ⌜ Ready (chunk (now code) (now dead) (now kinds) (now words) constants) ip ⌝ }
-    ensures { λ r. ⌜ chunk (now (code .exit)) (now (dead .exit)) (now (kinds .exit)) (now (words .exit)) r ≡ tryFold strict ip (chunk (now (code .entry)) (now (dead .entry)) (now (kinds .entry)) (now (words .entry)) constants) ⌝ }
+    ensures { λ r. ⌜ chunk (now (code .exit)) (now (dead .exit)) (now (kinds .exit)) (now (words .exit)) r ≡ tryFold (after last) ip (chunk (now (code .entry)) (now (dead .entry)) (now (kinds .entry)) (now (words .entry)) constants) ⌝ }
 {
     if dead[ip] != 0 {
         return constants;
     }
-    let Plan::Put(p, q, v) = plan_at(code, dead, kinds, words, constants, strict, ip) else {
+    let Plan::Put(p, q, v) = plan_at(code, dead, kinds, words, constants, last, ip) else {
         return constants;
     };
     apply(code, dead, kinds, words, constants, p, q, ip, v)
@@ -91,17 +96,17 @@ fn plan_at(
     kinds: &[u8],
     words: &[u64],
     constants: usize,
-    strict: bool,
+    last: usize,
     ip: usize,
 ) -> Plan
     requires { ⌜ Readable (chunk (now code) (now dead) (now kinds) (now words) constants) ip ⌝ }
-    ensures { λ r. ⌜ r ≡ planAt strict ip (chunk (now (code .entry)) (now (dead .entry)) (now (kinds .entry)) (now (words .entry)) constants) ⌝ }
+    ensures { λ r. ⌜ r ≡ planAt (after last) ip (chunk (now (code .entry)) (now (dead .entry)) (now (kinds .entry)) (now (words .entry)) constants) ⌝ }
 {
     let kind = kind_of(lent::op_at(code, ip));
     match kind {
-        Kind::Binop(op) => try_fold_binop(code, dead, kinds, words, constants, strict, op, ip),
-        Kind::Not => try_fold_unary(code, dead, kinds, words, constants, strict, false, ip),
-        Kind::Minus => try_fold_unary(code, dead, kinds, words, constants, strict, true, ip),
+        Kind::Binop(op) => try_fold_binop(code, dead, kinds, words, constants, last, op, ip),
+        Kind::Not => try_fold_unary(code, dead, kinds, words, constants, last, false, ip),
+        Kind::Minus => try_fold_unary(code, dead, kinds, words, constants, last, true, ip),
         Kind::Other => Plan::Stay,
     }
 }
@@ -140,12 +145,12 @@ fn try_fold_binop(
     kinds: &[u8],
     words: &[u64],
     constants: usize,
-    strict: bool,
+    last: usize,
     op: Op,
     ip: usize,
 ) -> Plan
     requires { ⌜ Readable (chunk (now code) (now dead) (now kinds) (now words) constants) ip ⌝ }
-    ensures { λ r. ⌜ r ≡ tryFoldBinop strict op ip (chunk (now (code .entry)) (now (dead .entry)) (now (kinds .entry)) (now (words .entry)) constants) ⌝ }
+    ensures { λ r. ⌜ r ≡ tryFoldBinop (after last) op ip (chunk (now (code .entry)) (now (dead .entry)) (now (kinds .entry)) (now (words .entry)) constants) ⌝ }
 {
     let Found::At(prev1) = prev_live(dead, ip) else {
         return Plan::Stay;
@@ -162,7 +167,7 @@ fn try_fold_binop(
     let Maybe::Is(result) = values::fold_binop(op, a, b) else {
         return Plan::Stay;
     };
-    if blocks(code, strict, prev2, ip) {
+    if blocks(code, last, prev2, ip) {
         return Plan::Stay;
     }
     Plan::Put(prev2, prev1, result)
@@ -174,12 +179,12 @@ fn try_fold_unary(
     kinds: &[u8],
     words: &[u64],
     constants: usize,
-    strict: bool,
+    last: usize,
     minus: bool,
     ip: usize,
 ) -> Plan
     requires { ⌜ Readable (chunk (now code) (now dead) (now kinds) (now words) constants) ip ⌝ }
-    ensures { λ r. ⌜ r ≡ tryFoldUnary strict minus ip (chunk (now (code .entry)) (now (dead .entry)) (now (kinds .entry)) (now (words .entry)) constants) ⌝ }
+    ensures { λ r. ⌜ r ≡ tryFoldUnary (after last) minus ip (chunk (now (code .entry)) (now (dead .entry)) (now (kinds .entry)) (now (words .entry)) constants) ⌝ }
 {
     let Found::At(prev1) = prev_live(dead, ip) else {
         return Plan::Stay;
@@ -190,7 +195,7 @@ fn try_fold_unary(
     let Maybe::Is(result) = fold_unary(minus, v) else {
         return Plan::Stay;
     };
-    if blocks(code, strict, prev1, ip) {
+    if blocks(code, last, prev1, ip) {
         return Plan::Stay;
     }
     Plan::Put(prev1, ip, result)
@@ -232,18 +237,15 @@ fn operand_of(code: &[u16], kinds: &[u8], words: &[u64], constants: usize, p: us
     chunk::const_to_val(kinds, words, constants, wide(lent::operand_at(code, p)))
 }
 
-// Whether a jump keeps the fold of (start, end] from being made.
-fn blocks(code: &[u16], strict: bool, start: usize, end: usize) -> bool
+// Whether a jump just before, or the last landing, keeps the fold of (start, end] from being made.
+fn blocks(code: &[u16], last: usize, start: usize, end: usize) -> bool
     requires { ⌜ start < count (now code) ⌝ }
-    ensures { λ r. ⌜ r ≡ blocked strict (now (code .entry)) start end ⌝ }
+    ensures { λ r. ⌜ r ≡ blocked (after last) (now (code .entry)) start end ⌝ }
 {
     if skips_into(code, start, end) {
         return true;
     }
-    if strict {
-        return lands_any(code, start, end);
-    }
-    false
+    start < last
 }
 
 // Whether the jump just before `start` lands in (start, end].
@@ -255,21 +257,6 @@ fn skips_into(code: &[u16], start: usize, end: usize) -> bool
         return false;
     }
     lands_at(code, start, end, start - 1)
-}
-
-// Whether any jump of the chunk lands in (start, end].
-fn lands_any(code: &[u16], start: usize, end: usize) -> bool
-    ensures { λ r. ⌜ r ≡ landsAny (now (code .entry)) start end ⌝ }
-{
-    let n = code.len() / STRIDE;
-    let mut k: usize = 0;
-    while k < n {
-        if lands_at(code, start, end, k) {
-            return true;
-        }
-        k += 1;
-    }
-    false
 }
 
 // Whether the instruction at k is a jump into (start, end].

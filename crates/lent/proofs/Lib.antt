@@ -1,2 +1,3 @@
 pub mod Checks
 pub mod Kept
+pub mod Counting

@@ -6,7 +6,7 @@ use lib.Dec.{leb, ltb, eqb}
 use lib.ListN.{length}
 use Rattle.laws.specs.Walk.{first}
 use Rattle.laws.specs.All.{many}
-use Rattle.code.specs.Check.{roomOf}
+use Rattle.code.specs.Check.{triedOf, roomOf}
 use Rattle.code.specs.declared.Refusal.the-variants.{Length, Record}
 use Rattle.code.specs.declared.Checked.{Checked}
 use Rattle.code.specs.declared.Checked.the-variants.{Count, No}
@@ -77,6 +77,6 @@ roomsOf v w c l =
     5 (l .dead) (count w))
     6 (l .remap) (count w + 1)
 
--- 1, 2, 7, 5: all tests of the folding call
-unfoldable pub readyOf : List ℕ → List ℕ → List ℕ → Counts → Lens → Checked
-readyOf w kinds words c l = roomsOf (tablesOf (checkOf w) (count w) kinds words c l) w c l
+-- 1, 2, 4, 7, 5: all tests of the folding call; the last short buffer is the table of landings
+unfoldable pub readyOf : List ℕ → List ℕ → List ℕ → List ℕ → Counts → Lens → ℕ → Checked
+readyOf w tries kinds words c l landings = roomOf (roomsOf (tablesOf (triedOf (checkOf w) tries) (count w) kinds words c l) w c l) 7 landings (count w + 1)

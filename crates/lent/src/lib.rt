@@ -302,11 +302,21 @@ fn rooms(v: Checked, code: &[u16], counts: Counts, lens: Lens) -> Checked
     code::room(v, 6, lens.remap, n + 1)
 }
 
-// The tests of the folding call: refusals 1, 2, 7 and 5.
-pub fn ready(code: &[u16], kinds: &[u8], words: &[u64], counts: Counts, lens: Lens) -> Checked
-    ensures { λ r. ⌜ r ≡ readyOf (now (code .entry)) (now (kinds .entry)) (now (words .entry)) counts lens ⌝ }
+// The tests of the folding call: refusals 1, 2, 4, 7 and 5.
+pub fn ready(
+    code: &[u16],
+    tries: &[u32],
+    kinds: &[u8],
+    words: &[u64],
+    counts: Counts,
+    lens: Lens,
+    landings: usize,
+) -> Checked
+    ensures { λ r. ⌜ r ≡ readyOf (now (code .entry)) (now (tries .entry)) (now (kinds .entry)) (now (words .entry)) counts lens landings ⌝ }
 {
     let n = code.len() / STRIDE;
-    let v = tables(check(code), n, kinds, words, counts, lens);
-    rooms(v, code, counts, lens)
+    let v = code::tried(check(code), tries);
+    let v = tables(v, n, kinds, words, counts, lens);
+    let v = rooms(v, code, counts, lens);
+    code::room(v, 7, landings, n + 1)
 }

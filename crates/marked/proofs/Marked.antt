@@ -36,17 +36,18 @@ use Rattle.chunk.specs.Pool.{toVal, constToVal, findOrPush, findOrPushConst}
 use Rattle.lent.specs.Chunk.{folds, rules as chunkRules}
 use Rattle.lent.specs.Check.{checkOf as chunkCheckOf, tablesOf, tallyOf, roomsOf, readyOf}
 use Rattle.fold.specs.Plan as plan
-use Rattle.fold.specs.Plan.{kindOf, prevLive, lands, skipsInto, landsAny, blocked, foldUnary, tryFoldBinop, tryFoldUnary, planFor, planAt}
+use Rattle.landings.specs.Landings.{lands, landsAny, handlesAny, barred}
+use Rattle.fold.specs.Plan.{kindOf, prevLive, skipsInto, blocked, foldUnary, tryFoldBinop, tryFoldUnary, planFor, planAt}
 use Rattle.fold.specs.Pass.{constLoad, put, landed, applied, tryFold, folded, foldAll}
 use Rattle.compact.specs.Remap.{remapOf, mapped}
 use Rattle.compact.specs.Tables.{operandOf, left, compacted, placed}
 use Rattle.phi_pass.specs.Phi.{paired, noop, markAt, marked as phisMarked, pairsLeft, indexed}
 use Rattle.finish.specs.Finish.{sourcesAfter, renewed, finished}
-use Rattle.optimizer.specs.Fold.{foldPass, constantFold, joined, foldCall}
+use Rattle.optimizer.specs.Fold.{foldPass, constantFold, joined, foldLent, rejoined, foldCall}
 use Rattle.marked.specs.Marked.{K, rowsK, code4, code5, code6, room, Marked}
 
 pub marked : Marked
-unfolding set.minus flow.joined rowAt sweep below tally value rowsOf first page ruleOf kindsOf hasRole isJump cases caseOf usedBy givenBy isLevel firstLevel storeOf overPending pastStore restores idle usedAt givenAt afterAt firstOf listed handlersOf added resumeOf resultAt keptAt listsTo offsetsTo stagesOf checkOf rules firstBadTry tryKept globalAnswer globalOf traced tracedBy stepAt setsIt passesBy writes foldBinop foldNeg ints floats divmod quotient remainder shifted inRange floorDiv floorMod downDiv downMod shiftUp div ofInt eq neg ofBits toBits foldCall joined constantFold foldPass finished renewed sourcesAfter readyOf tablesOf roomsOf tallyOf chunkCheckOf chunkRules folds every many each some remapOf mapped operandOf left compacted placed paired noop markAt phisMarked pairsLeft indexed foldAll folded tryFold applied landed put constLoad planAt planFor kindOf plan.page tryFoldBinop tryFoldUnary foldUnary prevLive plan.operandOf blocked lands skipsInto landsAny constToVal toVal findOrPushConst findOrPush
+unfolding set.minus flow.joined rowAt sweep below tally value rowsOf first page ruleOf kindsOf hasRole isJump cases caseOf usedBy givenBy isLevel firstLevel storeOf overPending pastStore restores idle usedAt givenAt afterAt firstOf listed handlersOf added resumeOf resultAt keptAt listsTo offsetsTo stagesOf checkOf rules firstBadTry tryKept globalAnswer globalOf traced tracedBy stepAt setsIt passesBy writes foldBinop foldNeg ints floats divmod quotient remainder shifted inRange floorDiv floorMod downDiv downMod shiftUp div ofInt eq neg ofBits toBits foldCall rejoined foldLent handlesAny barred joined constantFold foldPass finished renewed sourcesAfter readyOf tablesOf roomsOf tallyOf chunkCheckOf chunkRules folds every many each some remapOf mapped operandOf left compacted placed paired noop markAt phisMarked pairsLeft indexed foldAll folded tryFold applied landed put constLoad planAt planFor kindOf plan.page tryFoldBinop tryFoldUnary foldUnary prevLive plan.operandOf blocked lands skipsInto landsAny constToVal toVal findOrPushConst findOrPush
 marked =
     record {
       p1 = (told refl held (le-refl 1), refl);

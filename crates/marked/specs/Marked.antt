@@ -61,11 +61,11 @@ operator o = o ∷ 0 ∷ 0 ∷ []
 abbrev pub jump : ℕ → List ℕ
 jump x = op.Jump ∷ 1 ∷ x ∷ []
 
--- the folding call over this code and these constants, so many of them; no Phi, no position pair
+-- the folding call over this code and these constants, so many of them; no Phi, no position pair, no try
 abbrev pub called : Bool → List ℕ → List ℕ → List ℕ → ℕ → Outcome FoldAnswer
 called strict code kinds words constants =
-    foldCall strict (buffers code kinds words (room (chunk.count code)) [] [] [] (room (chunk.count code)) (room (chunk.count code + 1)))
-    (record { constants = constants; map = 0; sources = 0; stmts = 0; calls = 0 })
+    foldCall strict (buffers code kinds words (room (chunk.count code)) [] [] [] (room (chunk.count code)) (room (chunk.count code + 1))) [] (room (chunk.count code + 1))
+    (record { constants = constants; map = 0; sources = 0; stmts = 0; calls = 0 }) .result
 
 -- it leaves so many instructions and constants, and the buffers so
 abbrev pub leaves : ℕ → ℕ → (code kinds words map dead remap : List ℕ) → Outcome FoldAnswer

@@ -24,41 +24,36 @@ use Rattle.lent.specs.Chunk.{stride, count, opAt, markAt, folds, rules, breaksA
 use Rattle.lent.specs.Check.{uneven, firstBad, checkOf, readyOf}
 use Rattle.lent.specs.declared.Counts.{Counts}
 use Rattle.lent.proofs.Checks.{accepted}
+use Rattle.lent.proofs.Counting.{zeros-at}
 use Rattle.values.specs.declared.Val.{Val}
 use Rattle.values.specs.declared.Val.the-variants.{Int, Float as Real, Bool as Truth}
 use Rattle.chunk.specs.Pool.{findOrPushConst}
 use Rattle.chunk.specs.declared.Kept.{Kept}
 use Rattle.chunk.specs.declared.Kept.the-variants.{At, Full}
 use Rattle.fold.specs.Plan.{Chunk, chunk, planAt}
-use Rattle.fold.specs.Pass.{Loading, loadOf, constLoad, markOf, put, landed, applied, tryFold, folded, foldAll}
+use Rattle.fold.specs.Pass.{Loading, loadOf, constLoad, markOf, put, landed, applied, tryFold, Bars, byScan, folded, foldAll}
 use Rattle.fold.specs.declared.Loaded.{Loaded}
 use Rattle.fold.specs.declared.Loaded.the-variants.{As, No as Unloaded}
 use Rattle.fold.specs.declared.Plan.{Plan}
 use Rattle.fold.specs.declared.Plan.the-variants.{Stay, Put}
 use Rattle.fold.proofs.Planned.{Planned, planned}
-use Rattle.fold.proofs.Grown.{put-other, put-here, put-long}
+use Rattle.fold.proofs.Put.{put-long, put-other, mark-other, put-here, mark-here}
 use Rattle.compact.specs.Remap.{alive, live}
 use Rattle.compact.specs.Tables.{operandOf, leftAt, left, compacted}
+use Rattle.compact.proofs.Left.{left-long}
 use Rattle.phi_pass.specs.Phi.{marked}
 use Rattle.phi_pass.proofs.Pairs.{marked-length}
 use Rattle.finish.specs.Finish.{Tables, tables, mapOf, sourcesOf, renewed, finished}
-use Rattle.optimizer.specs.Fold.{Buffers, lensOf, needed, outcome, foldPass, constantFold, joined, foldCall}
+use Rattle.optimizer.specs.Fold.{Buffers, lensOf, needed, outcome, foldPass, constantFold, joined, foldLent, called, rejoined, foldCall}
 use Rattle.optimizer.specs.declared.FoldAnswer.the-variants.{No}
+use Rattle.optimizer.proofs.Ruled.{Ruled, no-words, ruled-of}
 use Rattle.optimizer.proofs.Tested.{held-of}
 use Rattle.optimizer.proofs.Whole.{pass-kept}
 
--- every instruction keeps the record rules; past the end there is none to break them
-abbrev Ruled : List ℕ → Type 0
-Ruled w = (k : ℕ) → rules (opAt w k) (markAt w k) ≡ true
-
-no-words : rules 0 0 ≡ true
-unfolding rules folds
-no-words = refl
-
 -- rules are kept, and the code is as long
-record Keeps (w w′ : List ℕ) : Type 0 where
-  ruled : Ruled w → Ruled w′
-  long : length w′ ≡ length w
+pub record Keeps (w w′ : List ℕ) : Type 0 where
+  pub ruled : Ruled w → Ruled w′
+  pub long : length w′ ≡ length w
 
 same : (w : List ℕ) → Keeps w w
 same w = record { ruled = λ r. r; long = refl }
@@ -69,25 +64,12 @@ both p q = record { ruled = λ r. q .ruled (p .ruled r); long = q .long ∙ p .l
 -- ---- a load with its mark
 
 module _ (w : List ℕ) (p o x : ℕ) where
-  mark-other : (k : ℕ) → (k ≡ p → ⊥) → markAt (put w p o x) k ≡ markAt w k
-  unfolding put
-  mark-other k h =
-      getD-set-other (set (set w (stride * p) o) (stride * p + 1) (markOf o)) (stride * p + 2) (stride * k + 1) x 0 (λ e. omega arith)
-      ∙ getD-set-other (set w (stride * p) o) (stride * p + 1) (stride * k + 1) (markOf o) 0 (λ e. h (omega arith))
-      ∙ getD-set-other w (stride * p) (stride * k + 1) o 0 (λ e. omega arith)
-
-  mark-here : p < count w → markAt (put w p o x) p ≡ markOf o
-  unfolding put
-  mark-here h =
-      getD-set-other (set (set w (stride * p) o) (stride * p + 1) (markOf o)) (stride * p + 2) (stride * p + 1) x 0 (λ e. omega arith)
-      ∙ getD-set-same (set w (stride * p) o) (stride * p + 1) (markOf o) 0 (rw (length-set w (stride * p) o) (omega arith))
-
   put-keeps : rules o (markOf o) ≡ true → p < count w → Keeps w (put w p o x)
   put-keeps e h = record { ruled = λ r k. go r k (eqb k p) refl; long = put-long w p o x }
     where
       go : Ruled w → (k : ℕ) (t : Bool) → eqb k p ≡ t → rules (opAt (put w p o x) k) (markAt (put w p o x) k) ≡ true
-      go r k true q = rw (eqb-true k p q, put-here w p o x h, mark-here h) e
-      go r k false q = rw (put-other w p o x k (eqb-false k p q), mark-other k (eqb-false k p q)) (r k)
+      go r k true q = rw (eqb-true k p q, put-here w p o x h, mark-here w p o x h) e
+      go r k false q = rw (put-other w p o x k (eqb-false k p q), mark-other w p o x k (eqb-false k p q)) (r k)
 
 abbrev Fair : Loaded → Type 0
 Fair (As o x m) = rules o (markOf o) ≡ true
@@ -119,33 +101,33 @@ module _ (i : ℕ) (s : Chunk) (h : i < count (s .code)) where
           by (As o x m) f = put-keeps (s .code) p o x f (omega (arith, a .first))
           by Unloaded f = same (s .code)
 
-  try-keeps : (strict : Bool) → Keeps (s .code) (tryFold strict i s .code)
+  try-keeps : (bars : ℕ → Bool) → Keeps (s .code) (tryFold bars i s .code)
   unfolding tryFold applied
-  try-keeps strict = go (eqb (getD (s .dead) i 0) 0)
+  try-keeps bars = go (eqb (getD (s .dead) i 0) 0)
     where
-      by : (plan : Plan) → planAt strict i s ≡ plan → Keeps (s .code) (applied plan i s .code)
+      by : (plan : Plan) → planAt bars i s ≡ plan → Keeps (s .code) (applied plan i s .code)
       by Stay e = same (s .code)
-      by (Put p q v) e = applied-keeps p q v (planned strict i s e)
+      by (Put p q v) e = applied-keeps p q v (planned bars i s e)
 
-      go : (t : Bool) → Keeps (s .code) (cond t (applied (planAt strict i s) i s) s .code)
-      go true = by (planAt strict i s) refl
+      go : (t : Bool) → Keeps (s .code) (cond t (applied (planAt bars i s) i s) s .code)
+      go true = by (planAt bars i s) refl
       go false = same (s .code)
 
-module _ (strict : Bool) (s : Chunk) where
-  some-keep : (k : ℕ) → k ≤ count (s .code) → Keeps (s .code) (folded strict k s .code)
+module _ (bars : Bars) (s : Chunk) where
+  some-keep : (k : ℕ) → k ≤ count (s .code) → Keeps (s .code) (folded bars k s .code)
   unfolding folded
   some-keep zero l = same (s .code)
   some-keep (suc k) l =
       let p = some-keep k (omega arith) in
-      both p (try-keeps k (folded strict k s) (rw (p .long) l) strict)
+      both p (try-keeps k (folded bars k s) (rw (p .long) l) (bars (folded bars k s .code) k))
 
-  all-keep : Keeps (s .code) (foldAll strict s .code)
+  all-keep : Keeps (s .code) (foldAll bars s .code)
   unfolding foldAll
   all-keep = some-keep (count (s .code)) (omega arith)
 
-pass-keeps : (strict : Bool) (s : Chunk) → Keeps (s .code) (foldPass strict s .code)
+pass-keeps : (bars : Bars) (s : Chunk) → Keeps (s .code) (foldPass bars s .code)
 unfolding foldPass
-pass-keeps strict s = all-keep strict (chunk (s .code) (replicate (length (s .dead)) 0) (s .kinds) (s .words) (s .constants))
+pass-keeps bars s = all-keep bars (chunk (s .code) (replicate (length (s .dead)) 0) (s .kinds) (s .words) (s .constants))
 
 -- ---- compaction
 
@@ -171,24 +153,10 @@ one-ruled o m v e (suc k) =
     let q : markAt (o ∷ m ∷ v ∷ []) (suc k) ≡ 0 = List·getD-eq-default (o ∷ m ∷ v ∷ []) 0 {n = stride * suc k + 1} (omega arith) in
     rw (p, q) no-words
 
-zeros : (n i : ℕ) → _≡_ {A = ℕ} (getD (replicate n 0) i 0) 0
-zeros zero i = refl
-zeros (suc n) zero = refl
-zeros (suc n) (suc i) = zeros n i
-
 zero-ruled : (n : ℕ) → Ruled (replicate n 0)
-zero-ruled n k = rw (zeros n (stride * k), zeros n (stride * k + 1)) no-words
+zero-ruled n k = rw (zeros-at n (stride * k), zeros-at n (stride * k + 1)) no-words
 
 module _ (dead w : List ℕ) where
-  one-long : (k : ℕ) (t : Bool) → length (cond t (opAt w k ∷ markAt w k ∷ operandOf dead w k ∷ []) []) ≡ stride * boolByte t
-  one-long k true = refl
-  one-long k false = refl
-
-  left-long : (k : ℕ) → length (each (leftAt dead w) k) ≡ stride * live dead k
-  unfolding each many
-  left-long zero = refl
-  left-long (suc k) = length-append (each (leftAt dead w) k) (leftAt dead w k) ∙ omega (arith, left-long k, one-long k (alive dead k))
-
   at-ruled : Ruled w → (k : ℕ) (t : Bool) → Ruled (cond t (opAt w k ∷ markAt w k ∷ operandOf dead w k ∷ []) [])
   at-ruled r k true = one-ruled (opAt w k) (markAt w k) (operandOf dead w k) (r k)
   at-ruled r k false = λ j. no-words
@@ -196,17 +164,17 @@ module _ (dead w : List ℕ) where
   left-ruled : Ruled w → (k : ℕ) → Ruled (each (leftAt dead w) k)
   unfolding each
   left-ruled r zero = λ j. no-words
-  left-ruled r (suc k) = append-ruled (each (leftAt dead w) k) (leftAt dead w k) (live dead k) (left-long k) (left-ruled r k) (at-ruled r k (alive dead k))
+  left-ruled r (suc k) = append-ruled (each (leftAt dead w) k) (leftAt dead w k) (live dead k) (left-long dead w k) (left-ruled r k) (at-ruled r k (alive dead k))
 
   compacted-keeps : stride * length dead ≤ length w → Keeps w (compacted dead w)
   unfolding compacted left
   compacted-keeps h =
       let l = each (leftAt dead w) (length dead) in
       record {
-        ruled = λ r. append-ruled l (replicate (length w - length l) 0) (live dead (length dead)) (left-long (length dead)) (left-ruled r (length dead)) (zero-ruled (length w - length l));
+        ruled = λ r. append-ruled l (replicate (length w - length l) 0) (live dead (length dead)) (left-long dead w (length dead)) (left-ruled r (length dead)) (zero-ruled (length w - length l));
         long =
             length-append l (replicate (length w - length l) 0)
-            ∙ omega (arith, length-replicate {A = ℕ} (length w - length l) 0, left-long (length dead), many-few (alive dead) (length dead));
+            ∙ omega (arith, length-replicate {A = ℕ} (length w - length l) 0, left-long dead w (length dead), many-few (alive dead) (length dead));
       }
 
 finished-keeps : (t : Tables) → stride * length (t .dead) ≤ length (t .code) → Keeps (t .code) (finished t .code)
@@ -225,14 +193,14 @@ finished-keeps t h = go (every (alive d) (length d))
 
 -- ---- the call
 
-fold-keeps : (strict : Bool) (b : Buffers) (c : Counts) → count (b .code) ≤ length (b .dead) → stride * length (b .dead) ≤ length (b .code)
-    → Keeps (b .code) (constantFold strict b c .after .code)
+pub fold-keeps : (bars : Bars) (b : Buffers) (c : Counts) → count (b .code) ≤ length (b .dead) → stride * length (b .dead) ≤ length (b .code)
+    → Keeps (b .code) (constantFold bars b c .after .code)
 unfolding constantFold
-fold-keeps strict b c h l =
+fold-keeps bars b c h l =
     let s = chunk (b .code) (b .dead) (b .kinds) (b .words) (c .constants) in
-    let f = foldPass strict s in
-    let k = pass-keeps strict s in
-    let z : length (f .dead) ≡ length (b .dead) = pass-kept strict s f h refl .dead-long ∙ length-replicate (length (b .dead)) 0 in
+    let f = foldPass bars s in
+    let k = pass-keeps bars s in
+    let z : length (f .dead) ≡ length (b .dead) = pass-kept bars s f h refl .dead-long ∙ length-replicate (length (b .dead)) 0 in
     both k
     (finished-keeps
     (tables (f .code) (b .map) (b .sources) (b .stmts) (b .calls) (f .dead) (b .remap) (record { instructions = length (b .dead); map = c .map; sources = c .sources }))
@@ -245,17 +213,6 @@ first-none : (f : ℕ → Bool) (m k : ℕ) → ((j : ℕ) → f j ≡ false) �
 unfolding first
 first-none f zero k h = omega arith
 first-none f (suc m) k h = rw (h k) (omega (arith, first-none f m (suc k) h))
-
--- what the tests say of a code that passes them
-ruled-of : (w : List ℕ) → length w ≡ stride * count w → count w ≤ firstBad w → Ruled w
-ruled-of w l h k = go (ltb k (count w)) refl
-  where
-    go : (t : Bool) → ltb k (count w) ≡ t → rules (opAt w k) (markAt w k) ≡ true
-    go true q = not-false _ (none-passed (breaksAt w) k (count w) 0 (omega arith) (omega arith) (omega (arith, ltb-true k (count w) q)))
-    go false q =
-        let p : opAt w k ≡ 0 = List·getD-eq-default w 0 {n = stride * k} (omega (arith, ltb-false k (count w) q)) in
-        let r : markAt w k ≡ 0 = List·getD-eq-default w 0 {n = stride * k + 1} (omega (arith, ltb-false k (count w) q)) in
-        rw (p, r) no-words
 
 -- a code that keeps the rules of one that passes them, and its length, passes too
 checks : (w w′ : List ℕ) (n : ℕ) → Keeps w w′ → checkOf w ≡ Count n → checkOf w′ ≡ Count n
@@ -274,14 +231,15 @@ checks w w′ n k e = go (uneven w) refl (ltb (firstBad w) (count w)) refl e
         sym (accepted w′ (firstBad w′) refl u (omega arith)) ∙ ap (λ (m : ℕ). Count (m / stride)) (k .long) ∙ z
 
 -- tests 1 and 2 pass again after the folding call
-pub again : (strict : Bool) (b : Buffers) (c : Counts) (n : ℕ) → checkOf (b .code) ≡ Count n → checkOf (foldCall strict b c .after .code) ≡ Count n
-unfolding foldCall joined
-again strict b c n e = go (readyOf (b .code) (b .kinds) (b .words) c (lensOf b)) refl
+pub again : (strict : Bool) (b : Buffers) (tries landings : List ℕ) (c : Counts) (n : ℕ) → checkOf (b .code) ≡ Count n
+    → checkOf (foldCall strict b tries landings c .result .after .code) ≡ Count n
+unfolding foldCall rejoined joined foldLent
+again strict b tries landings c n e = go (readyOf (b .code) tries (b .kinds) (b .words) c (lensOf b) (length landings)) refl
   where
-    go : (v : Checked) → v ≡ readyOf (b .code) (b .kinds) (b .words) c (lensOf b)
-        → checkOf (asked v (λ r. outcome (No r) b) (joined b c (constantFold strict (needed b c) c)) .after .code) ≡ Count n
+    go : (v : Checked) → v ≡ readyOf (b .code) tries (b .kinds) (b .words) c (lensOf b) (length landings)
+        → checkOf (asked v (λ r. called (outcome (No r) b) tries landings) (rejoined b landings c (foldLent strict tries (needed b c) c)) .result .after .code) ≡ Count n
     go (Refused r) q = e
     go (Count m) q =
-        let h = held-of b c m (Count m) q refl in
+        let h = held-of b tries c (length landings) m (Count m) q refl in
         let d : length (take (count (b .code)) (b .dead)) ≡ count (b .code) = length-take-le (count (b .code)) (b .dead) (h .dead) in
-        checks (b .code) (constantFold strict (needed b c) c .after .code) n (fold-keeps strict (needed b c) c (omega arith) (omega (arith, h .whole))) e
+        checks (b .code) (constantFold (byScan strict tries) (needed b c) c .after .code) n (fold-keeps (byScan strict tries) (needed b c) c (omega arith) (omega (arith, h .whole))) e

@@ -14,25 +14,17 @@ use Rattle.laws.specs.All.{every}
 use Rattle.laws.proofs.Branch.{and-true}
 use Rattle.laws.proofs.Each.{each-at}
 use Rattle.lent.specs.Chunk.{count}
+use Rattle.lent.proofs.Counting.{every-at}
 use Rattle.lent.specs.declared.Counts.{Counts}
 use Rattle.compact.specs.Remap.{alive}
 use Rattle.phi_pass.specs.Phi.{markAt, marked}
 use Rattle.phi_pass.proofs.Pairs.{marked-length, dead-stays}
 use Rattle.fold.specs.Plan.{Chunk, chunk}
+use Rattle.fold.specs.Pass.{Bars}
 use Rattle.fold.proofs.Passed.{Passed, Died}
 use Rattle.finish.specs.Finish.{Tables, tables, mapOf, sourcesOf, renewed, finished}
 use Rattle.optimizer.specs.Fold.{Buffers, buffers, outcome, foldPass, constantFold}
 use Rattle.optimizer.proofs.Whole.{pass-kept}
-
-every-at : (f : ℕ → Bool) (n k : ℕ) → every f n ≡ true → k < n → f k ≡ true
-unfolding every
-every-at f zero k e h = absurd (omega arith)
-every-at f (suc n) k e h =
-    let p = and-true (every f n) (f n) e in
-    ⊎-elim (λ q. rw q (p .1)) (λ q. every-at f n k (p .0) q) (eq-or-lt-of-le (below k n h))
-  where
-    below : (k n : ℕ) → k < suc n → k ≤ n
-    below k n h = omega arith
 
 -- marks that are all alive are 0
 all-zero : (d : List ℕ) (n : ℕ) → length d ≡ n → every (alive d) (length d) ≡ true → d ≡ replicate n 0
@@ -49,7 +41,7 @@ in-list l k e = go (ltb k (length l)) refl
     go false q = let z : getD l k 0 ≡ 0 = List·getD-eq-default l 0 (ltb-false k (length l) q) in absurd (omega arith)
 
 module _ (t : Tables) where
-  finished-dead : finished t .dead ≡ marked (t .code) (mapOf t) (sourcesOf t) (t .dead)
+  pub finished-dead : finished t .dead ≡ marked (t .code) (mapOf t) (sourcesOf t) (t .dead)
   unfolding finished renewed
   finished-dead = go (every (alive (marked (t .code) (mapOf t) (sourcesOf t) (t .dead))) (length (marked (t .code) (mapOf t) (sourcesOf t) (t .dead))))
     where
@@ -82,18 +74,18 @@ module _ (t : Tables) where
       let w : _≡_ {A = ℕ} 1 0 = sym o ∙ x ∙ sym y ∙ z in
       omega arith
 
-module _ (strict : Bool) (b : Buffers) (c : Counts) (h : count (b .code) ≤ length (b .dead)) where
-  pub as-lent : every (alive (constantFold strict b c .after .dead)) (length (constantFold strict b c .after .dead)) ≡ true
-      → constantFold strict b c
+module _ (bars : Bars) (b : Buffers) (c : Counts) (h : count (b .code) ≤ length (b .dead)) where
+  pub as-lent : every (alive (constantFold bars b c .after .dead)) (length (constantFold bars b c .after .dead)) ≡ true
+      → constantFold bars b c
       ≡ outcome (record { instructions = length (b .dead); constants = c .constants; map = c .map; sources = c .sources })
       (buffers (b .code) (b .kinds) (b .words) (b .map) (b .sources) (b .stmts) (b .calls) (replicate (length (b .dead)) 0) (b .remap))
   unfolding constantFold
   as-lent e =
       let s = chunk (b .code) (b .dead) (b .kinds) (b .words) (c .constants) in
-      let f = foldPass strict s in
+      let f = foldPass bars s in
       let t = tables (f .code) (b .map) (b .sources) (b .stmts) (b .calls) (f .dead) (b .remap) (record { instructions = length (b .dead); map = c .map; sources = c .sources }) in
       let d = marked (t .code) (mapOf t) (sourcesOf t) (t .dead) in
-      let p = pass-kept strict s f h refl in
+      let p = pass-kept bars s f h refl in
       let z : every (alive d) (length d) ≡ true = rw (finished-dead t) at e in
       let q : f ≡ chunk (b .code) (replicate (length (b .dead)) 0) (b .kinds) (b .words) (c .constants) = ⊎-elim (λ i. i) (λ i. absurd (none-one t z (i .place) (i .mark))) (p .idle) in
       let l : length d ≡ length (b .dead) = marked-length (t .code) (mapOf t) (sourcesOf t) (t .dead) ∙ p .dead-long ∙ length-replicate (length (b .dead)) 0 in

@@ -1,5 +1,10 @@
+pub mod Ruled
 pub mod Again
 pub mod Idle
-pub mod Examples
 pub mod Tested
 pub mod Whole
+pub mod Settled
+pub mod Examples
+pub mod Readied
+pub mod Answered
+pub mod Tries

@@ -1,5 +1,5 @@
 -- What the tests of the folding call leave of the buffers. Assumes nothing.
-use Prim.Native.Nat.{ℕ, _+_, _*_, _%_, _/_, _≤_, max}
+use Prim.Native.Nat.{ℕ, _+_, _*_, _%_, _/_, _≤_, _<_, max}
 use native.Mathlib.Omega.{arith}
 use mathlib.Core.Path.{_≡_, refl, sym, ap, _∙_}
 use mathlib.Core.Logic.{_⊎_, inl, inr, ⊎-elim}
@@ -7,22 +7,28 @@ use mathlib.Core.Bool.{Bool, true, false, cond, not, _&&_, _||_}
 use mathlib.Core.List.{List}
 use lib.Dec.{eqb, leb, ltb}
 use lib.ListN.{length}
+use mir.Val.{boolByte}
 use borrow.Author.Tests.{eqb-true, leb-true, ltb-false, not-false}
 use Rattle.laws.specs.All.{every}
 use Rattle.laws.proofs.Branch.{and-true, or-false}
-use Rattle.code.specs.Check.{roomOf}
+use Rattle.laws.proofs.Walk.{none-passed}
+use Rattle.code.specs.Op.{LoadConst}
+use Rattle.code.specs.Rules.{tryKept}
+use Rattle.code.specs.Check.{pairs, firstBadTry, triedOf, roomOf}
 use Rattle.code.proofs.Stages.{room-before, room-there}
 use Rattle.code.specs.declared.Refusal.{Refusal}
-use Rattle.code.specs.declared.Refusal.the-variants.{Length, Record, Table}
+use Rattle.code.specs.declared.Refusal.the-variants.{Length, Record, Try, Table}
 use Rattle.code.specs.declared.Checked.{Checked}
 use Rattle.code.specs.declared.Checked.the-variants.{Count, No}
-use Rattle.lent.specs.Chunk.{stride, count}
+use Rattle.lent.specs.Chunk.{stride, count, opAt, markAt, jumps, folds, rules}
+use Rattle.landings.specs.Landings.{Unmarked}
 use Rattle.lent.specs.Tables.{constantKept, within, constantsKept, mapKept, pairsKept, tableOf}
 use Rattle.lent.specs.Check.{uneven, firstBad, checkOf, tablesOf, tallyOf, constantRoom, sourceRoom, roomsOf, readyOf}
 use Rattle.lent.specs.declared.Counts.{Counts}
 use Rattle.lent.specs.declared.Lens.{Lens}
 use Rattle.lent.proofs.Kept.{few}
 use Rattle.optimizer.specs.Fold.{Buffers, lensOf, Held}
+use Rattle.optimizer.proofs.Ruled.{ruled-of}
 
 never : {A : Type 0} (n : ℕ) (r : Refusal) → Count n ≡ No r → A
 never n r e = let z : _≡_ {A = ℕ} 0 1 = cc in absurd (omega arith)
@@ -51,15 +57,24 @@ pairs-whole words len e =
     let p = and-true (eqb (words % 2) 0) (leb words len) e in
     (eqb-true (words % 2) 0 (p .0), leb-true words len (p .1))
 
-check-met : (n : ℕ) (w : List ℕ) → Count n ≡ checkOf w → (length w % stride ≡ 0) × (count w ≤ 65535)
+-- what tests 1 and 2 say of a code that passes them
+record Met (w : List ℕ) (n : ℕ) : Type 0 where
+  even : length w % stride ≡ 0
+  few : count w ≤ 65535
+  good : count w ≤ firstBad w
+  is : n ≡ count w
+
+check-met : (n : ℕ) (w : List ℕ) → Count n ≡ checkOf w → Met w n
 unfolding checkOf
 check-met n w h = go (uneven w) refl (ltb (firstBad w) (count w)) refl h
   where
-    go : (u : Bool) → uneven w ≡ u → (b : Bool) → ltb (firstBad w) (count w) ≡ b → Count n ≡ checkOf w → (length w % stride ≡ 0) × (count w ≤ 65535)
+    go : (u : Bool) → uneven w ≡ u → (b : Bool) → ltb (firstBad w) (count w) ≡ b → Count n ≡ checkOf w → Met w n
     go true e b f h = never n (Length (length w)) (rw e at h)
-    go false e b f h =
+    go false e true f h = never n (Record (firstBad w)) (rw (e, f) at h)
+    go false e false f h =
         let p = or-false (not (eqb (length w % stride) 0)) (ltb 65535 (count w)) e in
-        (eqb-true _ _ (not-false _ (p .0)), ltb-false _ _ (p .1))
+        let z : Count n ≡ Count (count w) = rw (e, f) at h in
+        record { even = eqb-true _ _ (not-false _ (p .0)); few = ltb-false _ _ (p .1); good = ltb-false _ _ f; is = cc }
 
 whole-of : (w : List ℕ) → length w % stride ≡ 0 → length w ≡ stride * count w
 whole-of w e = omega arith
@@ -67,11 +82,44 @@ whole-of w e = omega arith
 pairs-in : (s phis : ℕ) → s % 2 ≡ 0 → s ≤ sourceRoom s phis
 pairs-in s phis e = omega arith
 
-module _ (b : Buffers) (c : Counts) (n : ℕ) where
-  pub held-of : (v : Checked) → v ≡ readyOf (b .code) (b .kinds) (b .words) c (lensOf b) → v ≡ Count n → Held b c
+tried-met : (n : ℕ) (v : Checked) (t : List ℕ) → Count n ≡ triedOf v t → (v ≡ Count n) × (pairs t ≤ firstBadTry t n)
+tried-met n (No r) t e = never n r e
+tried-met n (Count m) t e = go (ltb (firstBadTry t m) (pairs t)) refl e
+  where
+    go : (u : Bool) → ltb (firstBadTry t m) (pairs t) ≡ u → Count n ≡ cond u (No (Try (firstBadTry t m))) (Count m)
+        → (Count m ≡ Count n) × (pairs t ≤ firstBadTry t n)
+    go true q e = never n (Try (firstBadTry t m)) e
+    go false q e = let z : n ≡ m = cc in (sym e, rw z (ltb-false _ _ q))
+
+kept-tries : (t : List ℕ) (n m : ℕ) → n ≡ m → pairs t ≤ firstBadTry t n → (j : ℕ) → j < pairs t → tryKept t m j ≡ true
+unfolding firstBadTry
+kept-tries t n m q p j h = rw (← q) (not-false _ (none-passed (λ i. not (tryKept t n i)) j (pairs t) 0 (omega arith) (omega arith) (omega arith)))
+
+-- a LoadConst that keeps its record rule has no jump mark
+load-calm : (m : ℕ) → rules LoadConst m ≡ true → eqb (m % 2) 1 ≡ false
+unfolding rules folds
+load-calm m e = go (eqb (m % 2) 1) (eqb (m / 2 % 2) 1) (leb m 3) e
+  where
+    go : (j k l : Bool) → true && l && (not j || false) && ((false || k) && (not k || not (j || false || false))) ≡ true → j ≡ false
+    go false k l e = refl
+    go true k true e = absurd (let z : _≡_ {A = ℕ} 0 1 = ap boolByte e in omega arith)
+    go true k false e = absurd (let z : _≡_ {A = ℕ} 0 1 = ap boolByte e in omega arith)
+
+unmarked-of : (w : List ℕ) (n : ℕ) → Met w n → Unmarked w
+unmarked-of w n m k o =
+    let r : rules (opAt w k) (markAt w k) ≡ true = ruled-of w (omega (arith, m .even)) (m .good) k in
+    load-calm (markAt w k) (rw o at r)
+
+module _ (b : Buffers) (tries : List ℕ) (c : Counts) (landings n : ℕ) (v : Checked) (e : v ≡ readyOf (b .code) tries (b .kinds) (b .words) c (lensOf b) landings) (f : v ≡ Count n) where
+  pub table-there : count (b .code) + 1 ≤ landings
+  unfolding readyOf
+  table-there = room-met n (roomsOf (tablesOf (triedOf (checkOf (b .code)) tries) (count (b .code)) (b .kinds) (b .words) c (lensOf b)) (b .code) c (lensOf b)) 7 landings (count (b .code) + 1) (sym f ∙ e) .1
+
+  passed : Held b c × ((j : ℕ) → j < pairs tries → tryKept tries (count (b .code)) j ≡ true)
   unfolding readyOf roomsOf tablesOf
-  held-of v e f =
-      let r₆ = room-met n _ 6 _ _ (sym f ∙ e) in
+  passed =
+      let r₇ = room-met n (roomsOf (tablesOf (triedOf (checkOf (b .code)) tries) (count (b .code)) (b .kinds) (b .words) c (lensOf b)) (b .code) c (lensOf b)) 7 landings (count (b .code) + 1) (sym f ∙ e) in
+      let r₆ = room-met n _ 6 _ _ (sym (r₇ .0)) in
       let r₅ = room-met n _ 5 _ _ (sym (r₆ .0)) in
       let r₄ = room-met n _ 4 _ _ (sym (r₅ .0)) in
       let r₃ = room-met n _ 3 _ _ (sym (r₄ .0)) in
@@ -82,25 +130,36 @@ module _ (b : Buffers) (c : Counts) (n : ℕ) where
       let t₃ = table-met n _ 3 _ (sym (t₄ .0)) in
       let t₂ = table-met n _ 2 _ (sym (t₃ .0)) in
       let t₁ = table-met n _ 1 _ (sym (t₂ .0)) in
-      let k = check-met n (b .code) (sym (t₁ .0)) in
+      let y = tried-met n (checkOf (b .code)) tries (sym (t₁ .0)) in
+      let k = check-met n (b .code) (sym (y .0)) in
       let s = pairs-whole (c .sources) (length (b .sources)) (t₃ .1) in
       let p = pairs-whole (c .stmts) (length (b .stmts)) (t₄ .1) in
       let q = pairs-whole (c .calls) (length (b .calls)) (t₅ .1) in
-      let i = and-true (within (c .constants) (length (b .kinds)) (length (b .words))) (every (constantKept (b .kinds) (b .words)) (c .constants)) (t₁ .1) .0 in
-      record {
-        whole = whole-of (b .code) (k .0);
-        few = k .1;
-        constants = few (c .constants) (length (b .kinds)) (length (b .words)) i;
-        kinds = r₁ .1;
-        words = r₂ .1;
-        entries = map-few (count (b .code)) (c .map) (length (b .map)) (t₂ .1);
-        map = r₃ .1;
-        pairs = pairs-in (c .sources) (tallyOf (b .code) .phis) (s .0);
-        sources = r₄ .1;
-        stmt-pairs = p .0;
-        stmts = p .1;
-        call-pairs = q .0;
-        calls = q .1;
-        dead = r₅ .1;
-        remap = r₆ .1;
-      }
+      let i = and-true (within (c .constants) (length (b .kinds)) (length (b .words))) (every (constantKept (b .kinds) (b .words)) (c .constants)) (t₁ .1) .0 in (
+        record {
+          whole = whole-of (b .code) (k .even);
+          few = k .few;
+          constants = few (c .constants) (length (b .kinds)) (length (b .words)) i;
+          kinds = r₁ .1;
+          words = r₂ .1;
+          entries = map-few (count (b .code)) (c .map) (length (b .map)) (t₂ .1);
+          map = r₃ .1;
+          pairs = pairs-in (c .sources) (tallyOf (b .code) .phis) (s .0);
+          sources = r₄ .1;
+          stmt-pairs = p .0;
+          stmts = p .1;
+          call-pairs = q .0;
+          calls = q .1;
+          dead = r₅ .1;
+          remap = r₆ .1;
+          unmarked = unmarked-of (b .code) n k;
+        },
+        kept-tries tries n (count (b .code)) (k .is) (y .1),
+      )
+
+  pub held-of : Held b c
+  held-of = passed .0
+
+  -- refusal 4 was not given
+  pub tries-there : (j : ℕ) → j < pairs tries → tryKept tries (count (b .code)) j ≡ true
+  tries-there = passed .1

@@ -1,12 +1,18 @@
 -- Laws of `constantFold`, `joined` and `foldCall`, from what the parts ensure. Assumes nothing.
-use Prim.Native.Nat.{ℕ, _+_, _-_, _*_, _%_, _^_, _≤_, _<_, max}
+use Prim.Native.Nat.{ℕ, zero, suc, _+_, _-_, _*_, _%_, _^_, _≤_, _<_, max}
 use native.Mathlib.Omega.{arith}
-use mathlib.Core.Path.{_≡_, refl, sym, ap, _∙_}
-use mathlib.Core.Bool.{Bool, true, false}
-use mathlib.Core.List.{List, _++_}
-use lib.ListN.{length, take, drop, replicate, length-replicate}
-use lib.Seq.{length-take-le}
-use Rattle.laws.specs.All.{many}
+use mathlib.Core.Path.{_≡_, refl, sym, ap, _∙_, subst}
+use mathlib.Core.Bool.{Bool, true, false, cond}
+use mathlib.Core.List.{List, [], _∷_, _++_}
+use lib.Dec.{leb}
+use lib.ListN.{length, getD, take, drop, replicate, length-replicate}
+use lib.Seq.{length-take-le, ext-getD}
+use mir.Val.{boolByte}
+use borrow.Author.Tests.{leb-true}
+use Rattle.laws.specs.All.{every, many}
+use Rattle.laws.specs.Each.{each}
+use Rattle.laws.proofs.Branch.{and-true}
+use Rattle.laws.proofs.Each.{each-word, each-at}
 use Rattle.laws.proofs.Many.{many-few, many-fewer}
 use Rattle.code.specs.declared.Refusal.{Refusal}
 use Rattle.code.specs.declared.Checked.{Checked}
@@ -17,10 +23,17 @@ use Rattle.lent.specs.Check.{constantRoom, sourceRoom, tallyOf, readyOf}
 use Rattle.lent.specs.declared.Counts.{Counts}
 use Rattle.lent.specs.declared.Tally.{Tally}
 use Rattle.fold.specs.Plan.{Chunk, chunk}
-use Rattle.fold.specs.Pass.{foldAll, Lent}
+use Rattle.landings.specs.Landings.{landingsOf, Unmarked}
+use Rattle.fold.specs.Pass.{Bars, byScan, byTable, foldAll, Lent}
+use Rattle.fold.proofs.Landed.{same-folds}
+use Rattle.compact.specs.Remap.{alive, live, Remap, mapped}
+use Rattle.compact.specs.Tables.{movedAll}
+use Rattle.compact.proofs.Moves.{remap-of}
+use Rattle.compact.proofs.Mapped.{none-moved}
+use Rattle.phi_pass.specs.Phi.{marked}
 use Rattle.fold.proofs.Passed.{Passed, all-passed}
-use Rattle.finish.specs.Finish.{Tables, tables, finished, Fit}
-use Rattle.optimizer.specs.Fold.{Buffers, buffers, lensOf, needed, sourcesNeeded, Outcome, outcome, constantFold, foldPass, joined, foldCall, Held, Exact}
+use Rattle.finish.specs.Finish.{Tables, tables, mapOf, sourcesOf, renewed, finished, Fit}
+use Rattle.optimizer.specs.Fold.{Buffers, buffers, lensOf, needed, sourcesNeeded, Outcome, outcome, constantFold, foldPass, joined, Settled, settled, foldLent, Called, called, rejoined, foldCall, Held, Exact, Mapped}
 use Rattle.finish.specs.declared.Left.{Left}
 use Rattle.optimizer.specs.declared.Folded.{Folded}
 use Rattle.optimizer.specs.declared.FoldAnswer.{FoldAnswer}
@@ -30,17 +43,17 @@ pub cleared : (xs old : List ℕ) → xs ≡ take 0 old ++ replicate (length old
 cleared xs old e = let z : length old - 0 ≡ length old = omega arith in rw z at e
 
 -- the pass
-pub pass-is : (strict : Bool) (code dead kinds words marks : List ℕ) (k : ℕ) (t : Chunk)
-    → marks ≡ replicate (length dead) 0 → t ≡ foldAll strict (chunk code marks kinds words k) → t ≡ foldPass strict (chunk code dead kinds words k)
+pub pass-is : (bars : Bars) (code dead kinds words marks : List ℕ) (k : ℕ) (t : Chunk)
+    → marks ≡ replicate (length dead) 0 → t ≡ foldAll bars (chunk code marks kinds words k) → t ≡ foldPass bars (chunk code dead kinds words k)
 unfolding foldPass
-pass-is strict code dead kinds words marks k t e f = rw (← e) f
+pass-is bars code dead kinds words marks k t e f = rw (← e) f
 
-pub pass-kept : (strict : Bool) (s t : Chunk) → count (s .code) ≤ length (s .dead) → t ≡ foldPass strict s
+pub pass-kept : (bars : Bars) (s t : Chunk) → count (s .code) ≤ length (s .dead) → t ≡ foldPass bars s
     → Passed (chunk (s .code) (replicate (length (s .dead)) 0) (s .kinds) (s .words) (s .constants)) t
 unfolding foldPass
-pass-kept strict s t h e =
+pass-kept bars s t h e =
     let l : length {A = ℕ} (replicate (length (s .dead)) 0) ≡ length (s .dead) = length-replicate (length (s .dead)) 0 in
-    rw e (all-passed strict (chunk (s .code) (replicate (length (s .dead)) 0) (s .kinds) (s .words) (s .constants)) (rw l h))
+    rw e (all-passed bars (chunk (s .code) (replicate (length (s .dead)) 0) (s .kinds) (s .words) (s .constants)) (rw l h))
 
 pub lent-cleared : (code dead kinds words marks : List ℕ) (k : ℕ) → Lent (chunk code dead kinds words k) → marks ≡ replicate (length dead) 0 → Lent (chunk code marks kinds words k)
 lent-cleared code dead kinds words marks k x e =
@@ -60,13 +73,13 @@ module _ (code kinds words map sources stmts calls dead remap : List ℕ) (c : C
   pub lent-of : Exact (buffers code kinds words map sources stmts calls dead remap) c → Lent (chunk code dead kinds words (c .constants))
   lent-of x = let z = x .whole in record { few = x .constants; marks = omega arith; kinds-room = x .kinds; words-room = x .words }
 
-  pub fit-of : (strict : Bool) (code′ dead′ kinds′ words′ : List ℕ) (k : ℕ) → Exact (buffers code kinds words map sources stmts calls dead remap) c
-      → chunk code′ dead′ kinds′ words′ k ≡ foldPass strict (chunk code dead kinds words (c .constants))
+  pub fit-of : (bars : Bars) (code′ dead′ kinds′ words′ : List ℕ) (k : ℕ) → Exact (buffers code kinds words map sources stmts calls dead remap) c
+      → chunk code′ dead′ kinds′ words′ k ≡ foldPass bars (chunk code dead kinds words (c .constants))
       → Fit (tables code′ map sources stmts calls dead′ remap (record { instructions = length dead; map = c .map; sources = c .sources }))
-  fit-of strict code′ dead′ kinds′ words′ k x e =
+  fit-of bars code′ dead′ kinds′ words′ k x e =
       let w = x .whole in
       let s = x .pairs in
-      let p = pass-kept strict (chunk code dead kinds words (c .constants)) (chunk code′ dead′ kinds′ words′ k) (omega arith) e in
+      let p = pass-kept bars (chunk code dead kinds words (c .constants)) (chunk code′ dead′ kinds′ words′ k) (omega arith) e in
       let l : length dead′ ≡ length dead = p .dead-long ∙ length-replicate (length dead) 0 in
       let q = many-fewer (isPhi code′) (isPhi code) (λ j h. sym (p .phis j) ∙ h) (length dead) in
       record {
@@ -81,15 +94,15 @@ module _ (code kinds words map sources stmts calls dead remap : List ℕ) (c : C
         remap = rw l (x .remap);
       }
 
-  pub folds-all : (strict : Bool) (code′ dead′ kinds′ words′ : List ℕ) (k : ℕ) (code″ map″ sources″ stmts″ calls″ dead″ remap″ : List ℕ) (left : Left)
-      → chunk code′ dead′ kinds′ words′ k ≡ foldPass strict (chunk code dead kinds words (c .constants))
+  pub folds-all : (bars : Bars) (code′ dead′ kinds′ words′ : List ℕ) (k : ℕ) (code″ map″ sources″ stmts″ calls″ dead″ remap″ : List ℕ) (left : Left)
+      → chunk code′ dead′ kinds′ words′ k ≡ foldPass bars (chunk code dead kinds words (c .constants))
       → tables code″ map″ sources″ stmts″ calls″ dead″ remap″ left
       ≡ finished (tables code′ map sources stmts calls dead′ remap (record { instructions = length dead; map = c .map; sources = c .sources }))
       → outcome (record { instructions = left .instructions; constants = k; map = left .map; sources = left .sources })
       (buffers code″ kinds′ words′ map″ sources″ stmts″ calls″ dead″ remap″)
-      ≡ constantFold strict (buffers code kinds words map sources stmts calls dead remap) c
+      ≡ constantFold bars (buffers code kinds words map sources stmts calls dead remap) c
   unfolding constantFold
-  folds-all strict code′ dead′ kinds′ words′ k code″ map″ sources″ stmts″ calls″ dead″ remap″ left p g = rw (← p, ← g)
+  folds-all bars code′ dead′ kinds′ words′ k code″ map″ sources″ stmts″ calls″ dead″ remap″ left p g = rw (← p, ← g)
 
   -- each buffer as far as it is needed
   pub exact-of : (r : ℕ) → r ≡ sourceRoom (c .sources) (tallyOf code .phis) → Held (buffers code kinds words map sources stmts calls dead remap) c
@@ -116,24 +129,85 @@ module _ (code kinds words map sources stmts calls dead remap : List ℕ) (c : C
         stmts = rw (length-take-le (c .stmts) stmts (h .stmts)) (h .stmt-pairs);
         calls = rw (length-take-le (c .calls) calls (h .calls)) (h .call-pairs);
         remap = rw d (length-take-le (n + 1) remap (h .remap));
+        unmarked = h .unmarked;
       })
 
-  pub joins : (strict : Bool) (r : ℕ) (a : Folded) (code′ kinds′ words′ map′ sources′ stmts′ calls′ dead′ remap′ : List ℕ) → r ≡ sourceRoom (c .sources) (tallyOf code .phis)
-      → outcome a (buffers code′ kinds′ words′ map′ sources′ stmts′ calls′ dead′ remap′)
-      ≡ constantFold strict (buffers code kinds words (take (count code) map) (take r sources) (take (c .stmts) stmts) (take (c .calls) calls) (take (count code) dead) (take (count code + 1) remap)) c
-      → outcome (Is a)
+  -- the exact fold, with the table filled before it and after it
+  module _ (strict : Bool) (tries : List ℕ) where
+    by-scan : Unmarked code → constantFold (byTable strict (landingsOf code tries)) (buffers code kinds words map sources stmts calls dead remap) c
+        ≡ constantFold (byScan strict tries) (buffers code kinds words map sources stmts calls dead remap) c
+    unfolding constantFold foldPass
+    by-scan u = rw (same-folds (chunk code (replicate (length dead) 0) kinds words (c .constants)) u strict tries) refl
+
+    pub lends : (l₁ : List ℕ) (a : Folded) (code′ kinds′ words′ map′ sources′ stmts′ calls′ dead′ remap′ tries′ l₂ : List ℕ)
+        → Exact (buffers code kinds words map sources stmts calls dead remap) c
+        → l₁ ≡ landingsOf code tries
+        → outcome a (buffers code′ kinds′ words′ map′ sources′ stmts′ calls′ dead′ remap′) ≡ constantFold (byTable strict l₁) (buffers code kinds words map sources stmts calls dead remap) c
+        → tries′ ≡ movedAll dead′ tries
+        → l₂ ≡ landingsOf code′ tries′
+        → settled (outcome a (buffers code′ kinds′ words′ map′ sources′ stmts′ calls′ dead′ remap′)) tries′ l₂
+        ≡ foldLent strict tries (buffers code kinds words map sources stmts calls dead remap) c
+    unfolding foldLent
+    lends l₁ a code′ kinds′ words′ map′ sources′ stmts′ calls′ dead′ remap′ tries′ l₂ x e f g h =
+        let z : outcome a (buffers code′ kinds′ words′ map′ sources′ stmts′ calls′ dead′ remap′) ≡ constantFold (byScan strict tries) (buffers code kinds words map sources stmts calls dead remap) c =
+        f ∙ ap (λ (l : List ℕ). constantFold (byTable strict l) (buffers code kinds words map sources stmts calls dead remap) c) e ∙ by-scan (x .unmarked) in
+        rw (← z, h, g) refl
+
+  pub joins : (strict : Bool) (tries landings : List ℕ) (r : ℕ) (a : Folded) (code′ kinds′ words′ map′ sources′ stmts′ calls′ dead′ remap′ tries′ landings′ : List ℕ)
+      → r ≡ sourceRoom (c .sources) (tallyOf code .phis)
+      → settled (outcome a (buffers code′ kinds′ words′ map′ sources′ stmts′ calls′ dead′ remap′)) tries′ landings′
+      ≡ foldLent strict tries
+      (buffers code kinds words (take (count code) map) (take r sources) (take (c .stmts) stmts) (take (c .calls) calls) (take (count code) dead) (take (count code + 1) remap)) c
+      → called
+      (outcome (Is a)
       (buffers code′ kinds′ words′ (map′ ++ drop (count code) map) (sources′ ++ drop r sources) (stmts′ ++ drop (c .stmts) stmts) (calls′ ++ drop (c .calls) calls)
-      (dead′ ++ drop (count code) dead) (remap′ ++ drop (count code + 1) remap))
-      ≡ joined (buffers code kinds words map sources stmts calls dead remap) c (constantFold strict (needed (buffers code kinds words map sources stmts calls dead remap) c) c)
-  unfolding joined
-  joins strict r a code′ kinds′ words′ map′ sources′ stmts′ calls′ dead′ remap′ e f = rw (← e, ← f)
+      (dead′ ++ drop (count code) dead) (remap′ ++ drop (count code + 1) remap)))
+      tries′ (landings′ ++ drop (count code + 1) landings)
+      ≡ rejoined (buffers code kinds words map sources stmts calls dead remap) landings c (foldLent strict tries (needed (buffers code kinds words map sources stmts calls dead remap) c) c)
+  unfolding rejoined joined
+  joins strict tries landings r a code′ kinds′ words′ map′ sources′ stmts′ calls′ dead′ remap′ tries′ landings′ e f = rw (← e, ← f)
 
--- the call: a refusal leaves the buffers as they are
-module _ (strict : Bool) (b : Buffers) (c : Counts) (v : Checked) (e : v ≡ readyOf (b .code) (b .kinds) (b .words) c (lensOf b)) where
-  pub refused-by : (r : Refusal) → v ≡ Refused r → outcome (No r) b ≡ foldCall strict b c
-  unfolding foldCall
-  refused-by r h = refused v (readyOf (b .code) (b .kinds) (b .words) c (lensOf b)) e (λ q. outcome (No q) b) (joined b c (constantFold strict (needed b c) c)) r (outcome (No r) b) h refl
+-- remap is filled where something died
+finished-mapped : (t : Tables) → Mapped (finished t .dead) (finished t .remap)
+unfolding finished renewed
+finished-mapped t = go (every (alive d) (length d)) refl
+  where
+    d : List ℕ
+    d = marked (t .code) (mapOf t) (sourcesOf t) (t .dead)
 
-  pub told-by : (n : ℕ) (o : Outcome FoldAnswer) → v ≡ Count n → o ≡ joined b c (constantFold strict (needed b c) c) → o ≡ foldCall strict b c
+    m : Tables
+    m = tables (t .code) (t .map) (t .sources) (t .stmts) (t .calls) d (t .remap) (t .left)
+
+    go : (u : Bool) → every (alive d) (length d) ≡ u → Mapped (cond u m (renewed m) .dead) (cond u m (renewed m) .remap)
+    go true e = record { filled = λ f. absurd (let z : _≡_ {A = ℕ} 0 1 = ap boolByte (sym f ∙ e) in omega arith) }
+    go false e = record { filled = λ f. refl }
+
+fold-mapped : (bars : Bars) (b : Buffers) (c : Counts) → Mapped (constantFold bars b c .after .dead) (constantFold bars b c .after .remap)
+unfolding constantFold
+fold-mapped bars b c = finished-mapped _
+
+pub mapped-after : (bars : Bars) (b : Buffers) (c : Counts) (a : Folded) (code′ kinds′ words′ map′ sources′ stmts′ calls′ dead′ remap′ : List ℕ)
+    → outcome a (buffers code′ kinds′ words′ map′ sources′ stmts′ calls′ dead′ remap′) ≡ constantFold bars b c → Mapped dead′ remap′
+mapped-after bars b c a code′ kinds′ words′ map′ sources′ stmts′ calls′ dead′ remap′ e =
+    subst (λ (o : Outcome Folded). Mapped (o .after .dead) (o .after .remap)) (sym e) (fold-mapped bars b c)
+
+module _ (dead : List ℕ) (t : Bool) (e : t ≡ every (alive dead) (length dead)) where
+  pub map-there : (remap : List ℕ) → Mapped dead remap → t ≡ false → Remap dead remap
+  map-there remap m f = remap-of dead remap (m .filled (sym e ∙ f))
+
+  pub tries-stay : (tries : List ℕ) → t ≡ true → tries ≡ movedAll dead tries
+  tries-stay tries f = none-moved dead tries (sym e ∙ f)
+
+-- the call: a refusal leaves all that is lent as it is
+module _ (strict : Bool) (b : Buffers) (tries landings : List ℕ) (c : Counts) (v : Checked) (e : v ≡ readyOf (b .code) tries (b .kinds) (b .words) c (lensOf b) (length landings)) where
+  pub refused-by : (r : Refusal) → v ≡ Refused r → called (outcome (No r) b) tries landings ≡ foldCall strict b tries landings c
   unfolding foldCall
-  told-by n o h z = told v (readyOf (b .code) (b .kinds) (b .words) c (lensOf b)) e (λ q. outcome (No q) b) (joined b c (constantFold strict (needed b c) c)) n o h z
+  refused-by r h =
+      refused v (readyOf (b .code) tries (b .kinds) (b .words) c (lensOf b) (length landings)) e (λ q. called (outcome (No q) b) tries landings)
+      (rejoined b landings c (foldLent strict tries (needed b c) c)) r (called (outcome (No r) b) tries landings) h refl
+
+  pub told-by : (n : ℕ) (o : Called) → v ≡ Count n → o ≡ rejoined b landings c (foldLent strict tries (needed b c) c) → o ≡ foldCall strict b tries landings c
+  unfolding foldCall
+  told-by n o h z =
+      told v (readyOf (b .code) tries (b .kinds) (b .words) c (lensOf b) (length landings)) e (λ q. called (outcome (No q) b) tries landings)
+      (rejoined b landings c (foldLent strict tries (needed b c) c)) n o h z

@@ -1,17 +1,20 @@
 -- The folding call: what it answers, and what every lent buffer holds then. Assumes nothing.
 use Prim.Native.Nat.{ℕ, _+_, _*_, _%_, _≤_}
 use mathlib.Core.Path.{_≡_}
-use mathlib.Core.Bool.{Bool}
+use mathlib.Core.Bool.{Bool, false}
 use mathlib.Core.List.{List, _++_}
 use lib.ListN.{length, take, drop, replicate}
-use Rattle.laws.specs.All.{many}
+use Rattle.laws.specs.All.{every, many}
 use Rattle.code.specs.Answers.{asked}
 use Rattle.lent.specs.Chunk.{stride, count, opAt, folds, isPhi}
 use Rattle.lent.specs.Check.{constantRoom, sourceRoom, tallyOf, readyOf}
 use Rattle.lent.specs.declared.Counts.{Counts}
 use Rattle.lent.specs.declared.Lens.{Lens}
 use Rattle.fold.specs.Plan.{Chunk, chunk}
-use Rattle.fold.specs.Pass.{foldAll}
+use Rattle.landings.specs.Landings.{landingsOf, Unmarked}
+use Rattle.fold.specs.Pass.{Bars, byScan, foldAll}
+use Rattle.compact.specs.Remap.{alive, remapOf}
+use Rattle.compact.specs.Tables.{movedAll}
 use Rattle.finish.specs.Finish.{Tables, tables, finished}
 use Rattle.optimizer.specs.declared.Folded.{Folded}
 use Rattle.optimizer.specs.declared.FoldAnswer.{FoldAnswer}
@@ -66,13 +69,13 @@ module _ {A : Type 0} where
   outcome a b = record { answer = a; after = b }
 
 -- the pass over a chunk, from marks that are all 0
-unfoldable pub foldPass : Bool → Chunk → Chunk
-foldPass strict s = foldAll strict (chunk (s .code) (replicate (length (s .dead)) 0) (s .kinds) (s .words) (s .constants))
+unfoldable pub foldPass : Bars → Chunk → Chunk
+foldPass bars s = foldAll bars (chunk (s .code) (replicate (length (s .dead)) 0) (s .kinds) (s .words) (s .constants))
 
 -- folding, then the Phi pass and compaction, over buffers that are as long as needed
-unfoldable pub constantFold : Bool → Buffers → Counts → Outcome Folded
-constantFold strict b c =
-    let f = foldPass strict (chunk (b .code) (b .dead) (b .kinds) (b .words) (c .constants)) in
+unfoldable pub constantFold : Bars → Buffers → Counts → Outcome Folded
+constantFold bars b c =
+    let f = foldPass bars (chunk (b .code) (b .dead) (b .kinds) (b .words) (c .constants)) in
     let t =
     finished
     (tables (f .code) (b .map) (b .sources) (b .stmts) (b .calls) (f .dead) (b .remap) (record { instructions = length (b .dead); map = c .map; sources = c .sources }))
@@ -90,10 +93,39 @@ joined b c o =
     (a .stmts ++ drop (c .stmts) (b .stmts)) (a .calls ++ drop (c .calls) (b .calls)) (a .dead ++ drop (count (b .code)) (b .dead))
     (a .remap ++ drop (count (b .code) + 1) (b .remap)))
 
--- refusals 1, 2, 7 and 5, which leave every buffer untouched; else the fold
-unfoldable pub foldCall : Bool → Buffers → Counts → Outcome FoldAnswer
-foldCall strict b c =
-    asked (readyOf (b .code) (b .kinds) (b .words) c (lensOf b)) (λ r. outcome (No r) b) (joined b c (constantFold strict (needed b c) c))
+-- a fold with the tries and the table of landings after it
+pub record Settled : Type 0 where
+  pub fold : Outcome Folded
+  pub tries : List ℕ
+  pub landings : List ℕ
+
+abbrev pub settled : Outcome Folded → List ℕ → List ℕ → Settled
+settled o tries landings = record { fold = o; tries = tries; landings = landings }
+
+-- no fold over a landing in strict mode; then the tries follow, and the table counts what lands in the chunk that is left
+unfoldable pub foldLent : Bool → List ℕ → Buffers → Counts → Settled
+foldLent strict tries b c =
+    let o = constantFold (byScan strict tries) b c in
+    let t = movedAll (o .after .dead) tries in
+    settled o t (landingsOf (o .after .code) t)
+
+-- the call's answer, and what all that is lent holds then
+pub record Called : Type 0 where
+  pub result : Outcome FoldAnswer
+  pub tries : List ℕ
+  pub landings : List ℕ
+
+abbrev pub called : Outcome FoldAnswer → List ℕ → List ℕ → Called
+called o tries landings = record { result = o; tries = tries; landings = landings }
+
+unfoldable pub rejoined : Buffers → List ℕ → Counts → Settled → Called
+rejoined b landings c s = called (joined b c (s .fold)) (s .tries) (s .landings ++ drop (count (b .code) + 1) landings)
+
+-- refusals 1, 2, 4, 7 and 5, which leave all that is lent untouched; else the fold
+unfoldable pub foldCall : Bool → Buffers → List ℕ → List ℕ → Counts → Called
+foldCall strict b tries landings c =
+    asked (readyOf (b .code) tries (b .kinds) (b .words) c (lensOf b) (length landings)) (λ r. called (outcome (No r) b) tries landings)
+    (rejoined b landings c (foldLent strict tries (needed b c) c))
 
 -- what the tests leave of the buffers
 pub record Held (b : Buffers) (c : Counts) : Type 0 where
@@ -112,6 +144,7 @@ pub record Held (b : Buffers) (c : Counts) : Type 0 where
   pub calls : c .calls ≤ length (b .calls)
   pub dead : count (b .code) ≤ length (b .dead)
   pub remap : count (b .code) + 1 ≤ length (b .remap)
+  pub unmarked : Unmarked (b .code)
 
 -- the same of buffers that are as long as needed
 pub record Exact (b : Buffers) (c : Counts) : Type 0 where
@@ -127,3 +160,8 @@ pub record Exact (b : Buffers) (c : Counts) : Type 0 where
   pub stmts : length (b .stmts) % 2 ≡ 0
   pub calls : length (b .calls) % 2 ≡ 0
   pub remap : length (b .remap) ≡ length (b .dead) + 1
+  pub unmarked : Unmarked (b .code)
+
+-- remap is filled if anything died
+pub record Mapped (dead remap : List ℕ) : Type 0 where
+  pub filled : every (alive dead) (length dead) ≡ false → remap ≡ remapOf dead

@@ -5,8 +5,9 @@ ghost use lib.ListN.{length, take, replicate};
 ghost use Rattle.lent.specs.Chunk.{stride, count, isPhi};
 ghost use Rattle.lent.specs.Check.{sourceRoom, tallyOf};
 ghost use Rattle.fold.specs.Plan.{chunk};
-ghost use Rattle.fold.specs.Pass.{Lent};
-ghost use Rattle.optimizer.specs.Fold.{buffers, needed, outcome, constantFold, joined, foldCall, foldPass, Held, Exact};
+ghost use Rattle.fold.specs.Pass.{Lent, byTable};
+ghost use Rattle.compact.specs.Tables.{movedAll};
+ghost use Rattle.optimizer.specs.Fold.{buffers, needed, outcome, constantFold, settled, foldLent, called, rejoined, foldCall, foldPass, Held, Exact, Mapped};
 use code::Checked;
 use code::Refusal;
 use finish::Left;
@@ -46,13 +47,14 @@ fn fold_pass(
     kinds: &mut [u8],
     words: &mut [u64],
     constants: usize,
+    landings: &[u64],
     strict: bool,
 ) -> usize
-    requires { ⌜ Lent (chunk (now code) (now dead) (now kinds) (now words) constants) ⌝ }
-    ensures { λ r. ⌜ chunk (now (code .exit)) (now (dead .exit)) (now (kinds .exit)) (now (words .exit)) r ≡ foldPass strict (chunk (now (code .entry)) (now (dead .entry)) (now (kinds .entry)) (now (words .entry)) constants) ⌝ }
+    requires { ⌜ Lent (chunk (now code) (now dead) (now kinds) (now words) constants) × (count (now code) ≤ length (now landings)) ⌝ }
+    ensures { λ r. ⌜ chunk (now (code .exit)) (now (dead .exit)) (now (kinds .exit)) (now (words .exit)) r ≡ foldPass (byTable strict (now (landings .entry))) (chunk (now (code .entry)) (now (dead .entry)) (now (kinds .entry)) (now (words .entry)) constants) ⌝ }
 {
     clear_marks(dead);
-    fold::fold_all(code, dead, kinds, words, constants, strict)
+    fold::fold_all(code, dead, kinds, words, constants, landings, strict)
 }
 
 // How many words of phi_sources are needed.
@@ -74,18 +76,19 @@ fn constant_fold(
     call_byte_pos: &mut [u32],
     dead: &mut [u8],
     remap: &mut [u32],
+    landings: &[u64],
     counts: Counts,
     strict: bool,
 ) -> Folded
-    requires { ⌜ Exact (buffers (now code) (now kinds) (now words) (now «phi_map») (now «phi_sources») (now «stmt_pos») (now «call_byte_pos») (now dead) (now remap)) counts ⌝ }
-    ensures { λ r. ⌜ outcome r (buffers (now (code .exit)) (now (kinds .exit)) (now (words .exit)) (now («phi_map» .exit)) (now («phi_sources» .exit)) (now («stmt_pos» .exit)) (now («call_byte_pos» .exit)) (now (dead .exit)) (now (remap .exit))) ≡ constantFold strict (buffers (now (code .entry)) (now (kinds .entry)) (now (words .entry)) (now («phi_map» .entry)) (now («phi_sources» .entry)) (now («stmt_pos» .entry)) (now («call_byte_pos» .entry)) (now (dead .entry)) (now (remap .entry))) counts ⌝ }
+    requires { ⌜ Exact (buffers (now code) (now kinds) (now words) (now «phi_map») (now «phi_sources») (now «stmt_pos») (now «call_byte_pos») (now dead) (now remap)) counts × (count (now code) ≤ length (now landings)) ⌝ }
+    ensures { λ r. ⌜ outcome r (buffers (now (code .exit)) (now (kinds .exit)) (now (words .exit)) (now («phi_map» .exit)) (now («phi_sources» .exit)) (now («stmt_pos» .exit)) (now («call_byte_pos» .exit)) (now (dead .exit)) (now (remap .exit))) ≡ constantFold (byTable strict (now (landings .entry))) (buffers (now (code .entry)) (now (kinds .entry)) (now (words .entry)) (now («phi_map» .entry)) (now («phi_sources» .entry)) (now («stmt_pos» .entry)) (now («call_byte_pos» .entry)) (now (dead .entry)) (now (remap .entry))) counts ⌝ }
 {
     let left = Left {
         instructions: dead.len(),
         map: counts.map,
         sources: counts.sources,
     };
-    let constants = fold_pass(code, dead, kinds, words, counts.constants, strict);
+    let constants = fold_pass(code, dead, kinds, words, counts.constants, landings, strict);
     let after = finish::finish(
         code,
         phi_map,
@@ -104,6 +107,56 @@ fn constant_fold(
     }
 }
 
+// The tries follow, if anything died.
+fn move_tries(tries: &mut [u32], dead: &[u8], remap: &[u32])
+    requires { ⌜ Mapped (now dead) (now remap) ⌝ }
+    ensures { λ _. ⌜ now (tries .exit) ≡ movedAll (now (dead .entry)) (now (tries .entry)) ⌝ }
+{
+    if phi_pass::all_alive(dead) {
+        return;
+    }
+    compact::place_words(tries, dead, remap);
+}
+
+// The same with the tries and the table of landings, which is filled first and once more for the chunk that is left.
+fn fold_lent(
+    code: &mut [u16],
+    kinds: &mut [u8],
+    words: &mut [u64],
+    phi_map: &mut [u32],
+    phi_sources: &mut [u16],
+    stmt_pos: &mut [u32],
+    call_byte_pos: &mut [u32],
+    dead: &mut [u8],
+    remap: &mut [u32],
+    tries: &mut [u32],
+    landings: &mut [u64],
+    counts: Counts,
+    strict: bool,
+) -> Folded
+    requires { ⌜ Exact (buffers (now code) (now kinds) (now words) (now «phi_map») (now «phi_sources») (now «stmt_pos») (now «call_byte_pos») (now dead) (now remap)) counts × (length (now landings) ≡ count (now code) + 1) ⌝ }
+    ensures { λ r. ⌜ settled (outcome r (buffers (now (code .exit)) (now (kinds .exit)) (now (words .exit)) (now («phi_map» .exit)) (now («phi_sources» .exit)) (now («stmt_pos» .exit)) (now («call_byte_pos» .exit)) (now (dead .exit)) (now (remap .exit)))) (now (tries .exit)) (now (landings .exit)) ≡ foldLent strict (now (tries .entry)) (buffers (now (code .entry)) (now (kinds .entry)) (now (words .entry)) (now («phi_map» .entry)) (now («phi_sources» .entry)) (now («stmt_pos» .entry)) (now («call_byte_pos» .entry)) (now (dead .entry)) (now (remap .entry))) counts ⌝ }
+{
+    landings::fill(code, tries, landings);
+    let r = constant_fold(
+        code,
+        kinds,
+        words,
+        phi_map,
+        phi_sources,
+        stmt_pos,
+        call_byte_pos,
+        dead,
+        remap,
+        landings,
+        counts,
+        strict,
+    );
+    move_tries(tries, dead, remap);
+    landings::fill(code, tries, landings);
+    r
+}
+
 // Each buffer is lent as far as it is needed.
 fn fold_needed(
     code: &mut [u16],
@@ -115,18 +168,20 @@ fn fold_needed(
     call_byte_pos: &mut [u32],
     dead: &mut [u8],
     remap: &mut [u32],
+    tries: &mut [u32],
+    landings: &mut [u64],
     counts: Counts,
     strict: bool,
 ) -> Folded
-    requires { ⌜ Held (buffers (now code) (now kinds) (now words) (now «phi_map») (now «phi_sources») (now «stmt_pos») (now «call_byte_pos») (now dead) (now remap)) counts ⌝ }
-    ensures { λ r. ⌜ outcome (FoldAnswer.Is r) (buffers (now (code .exit)) (now (kinds .exit)) (now (words .exit)) (now («phi_map» .exit)) (now («phi_sources» .exit)) (now («stmt_pos» .exit)) (now («call_byte_pos» .exit)) (now (dead .exit)) (now (remap .exit))) ≡ joined (buffers (now (code .entry)) (now (kinds .entry)) (now (words .entry)) (now («phi_map» .entry)) (now («phi_sources» .entry)) (now («stmt_pos» .entry)) (now («call_byte_pos» .entry)) (now (dead .entry)) (now (remap .entry))) counts (constantFold strict (needed (buffers (now (code .entry)) (now (kinds .entry)) (now (words .entry)) (now («phi_map» .entry)) (now («phi_sources» .entry)) (now («stmt_pos» .entry)) (now («call_byte_pos» .entry)) (now (dead .entry)) (now (remap .entry))) counts) counts) ⌝ }
+    requires { ⌜ Held (buffers (now code) (now kinds) (now words) (now «phi_map») (now «phi_sources») (now «stmt_pos») (now «call_byte_pos») (now dead) (now remap)) counts × (count (now code) + 1 ≤ length (now landings)) ⌝ }
+    ensures { λ r. ⌜ called (outcome (FoldAnswer.Is r) (buffers (now (code .exit)) (now (kinds .exit)) (now (words .exit)) (now («phi_map» .exit)) (now («phi_sources» .exit)) (now («stmt_pos» .exit)) (now («call_byte_pos» .exit)) (now (dead .exit)) (now (remap .exit)))) (now (tries .exit)) (now (landings .exit)) ≡ rejoined (buffers (now (code .entry)) (now (kinds .entry)) (now (words .entry)) (now («phi_map» .entry)) (now («phi_sources» .entry)) (now («stmt_pos» .entry)) (now («call_byte_pos» .entry)) (now (dead .entry)) (now (remap .entry))) (now (landings .entry)) counts (foldLent strict (now (tries .entry)) (needed (buffers (now (code .entry)) (now (kinds .entry)) (now (words .entry)) (now («phi_map» .entry)) (now («phi_sources» .entry)) (now («stmt_pos» .entry)) (now («call_byte_pos» .entry)) (now (dead .entry)) (now (remap .entry))) counts) counts) ⌝ }
 {
     let n = code.len() / STRIDE;
     let more = n + 1;
     let sources = sources_needed(code, counts.sources);
     let stmts = counts.stmts;
     let calls = counts.calls;
-    constant_fold(
+    fold_lent(
         code,
         kinds,
         words,
@@ -136,6 +191,8 @@ fn fold_needed(
         &mut call_byte_pos[..calls],
         &mut dead[..n],
         &mut remap[..more],
+        tries,
+        &mut landings[..more],
         counts,
         strict,
     )
@@ -157,9 +214,11 @@ pub fn fold(
     call_byte_pos_count: usize,
     dead: &mut [u8],
     remap: &mut [u32],
+    tries: &mut [u32],
+    landings: &mut [u64],
     strict: bool,
 ) -> FoldAnswer
-    ensures { λ r. ⌜ outcome r (buffers (now (code .exit)) (now (kinds .exit)) (now (words .exit)) (now («phi_map» .exit)) (now («phi_sources» .exit)) (now («stmt_pos» .exit)) (now («call_byte_pos» .exit)) (now (dead .exit)) (now (remap .exit))) ≡ foldCall strict (buffers (now (code .entry)) (now (kinds .entry)) (now (words .entry)) (now («phi_map» .entry)) (now («phi_sources» .entry)) (now («stmt_pos» .entry)) (now («call_byte_pos» .entry)) (now (dead .entry)) (now (remap .entry))) (record { constants = constants; map = «phi_map_count»; sources = «phi_sources_count»; stmts = «stmt_pos_count»; calls = «call_byte_pos_count» }) ⌝ }
+    ensures { λ r. ⌜ called (outcome r (buffers (now (code .exit)) (now (kinds .exit)) (now (words .exit)) (now («phi_map» .exit)) (now («phi_sources» .exit)) (now («stmt_pos» .exit)) (now («call_byte_pos» .exit)) (now (dead .exit)) (now (remap .exit)))) (now (tries .exit)) (now (landings .exit)) ≡ foldCall strict (buffers (now (code .entry)) (now (kinds .entry)) (now (words .entry)) (now («phi_map» .entry)) (now («phi_sources» .entry)) (now («stmt_pos» .entry)) (now («call_byte_pos» .entry)) (now (dead .entry)) (now (remap .entry))) (now (tries .entry)) (now (landings .entry)) (record { constants = constants; map = «phi_map_count»; sources = «phi_sources_count»; stmts = «stmt_pos_count»; calls = «call_byte_pos_count» }) ⌝ }
 {
     let counts = Counts {
         constants,
@@ -178,7 +237,7 @@ pub fn fold(
         dead: dead.len(),
         remap: remap.len(),
     };
-    match lent::ready(code, kinds, words, counts, lens) {
+    match lent::ready(code, tries, kinds, words, counts, lens, landings.len()) {
         Checked::No(r) => FoldAnswer::No(r),
         Checked::Count(_) => FoldAnswer::Is(fold_needed(
             code,
@@ -190,6 +249,8 @@ pub fn fold(
             call_byte_pos,
             dead,
             remap,
+            tries,
+            landings,
             counts,
             strict,
         )),

@@ -18,7 +18,7 @@ use Rattle.phis.specs.Answers.{roomBoth}
 use Rattle.phis.proofs.Telling.{one-answer}
 use Rattle.kept.proofs.Alone.{outcome-one}
 use Rattle.lent.specs.declared.Counts.{Counts}
-use Rattle.optimizer.specs.Fold.{Buffers, Outcome}
+use Rattle.optimizer.specs.Fold.{Buffers, Called}
 use Rattle.optimizer.specs.declared.FoldAnswer.{FoldAnswer}
 use Rattle.clear.specs.Clear as clearing
 use Rattle.turniploom.specs.Answers.{By, filledTold, truthTold, keptTold, foldTold, TargetsTold, LoopsTold, DeadTold, GenTold, KeptTold, FoldTold, clearTold, ClearTold}
@@ -55,10 +55,11 @@ one-kept w regs tries wide rows offsets list r r′ a a′ b b′ c c′ s s′ 
     let (p, q, t, e) = outcome-one w regs tries wide rows offsets list s s′ (x .allowed) (y .allowed) in
     (by-one keptTold x y e, p, q, t)
 
-pub one-fold : (strict : Bool) (b : Buffers) (c : Counts) (r r′ : Answer) (a a′ : Buffers) → FoldTold strict b c r a → FoldTold strict b c r′ a′ → (r ≡ r′) × (a ≡ a′)
-one-fold strict b c r r′ a a′ x y =
+pub one-fold : (strict : Bool) (b : Buffers) (tries landings : List ℕ) (c : Counts) (r r′ : Answer) (a a′ : Buffers) (t t′ l l′ : List ℕ) → FoldTold strict b tries landings c r a t l
+    → FoldTold strict b tries landings c r′ a′ t′ l′ → (r ≡ r′) × (a ≡ a′) × (t ≡ t′) × (l ≡ l′)
+one-fold strict b tries landings c r r′ a a′ t t′ l l′ x y =
     let e = x .allowed ∙ sym (y .allowed) in
-    (by-one foldTold x y (ap (λ (o : Outcome FoldAnswer). o .answer) e), ap (λ (o : Outcome FoldAnswer). o .after) e)
+    (by-one foldTold x y (ap (λ (o : Called). o .result .answer) e), ap (λ (o : Called). o .result .after) e, ap (λ (o : Called). o .tries) e, ap (λ (o : Called). o .landings) e)
 
 pub one-clear : (b : clearing.Buffers) (m : ℕ) (r r′ : Answer) (a a′ : clearing.Buffers) → ClearTold b m r a → ClearTold b m r′ a′ → (r ≡ r′) × (a ≡ a′)
 one-clear b m r r′ a a′ x y =

@@ -27,7 +27,7 @@ use Rattle.callee.specs.declared.PushAnswer.the-variants as push
 use Rattle.callee.specs.declared.StackAnswer.{StackAnswer}
 use Rattle.callee.specs.declared.StackAnswer.the-variants as stack
 use Rattle.lent.specs.declared.Counts.{Counts}
-use Rattle.optimizer.specs.Fold.{Buffers, outcome, foldCall}
+use Rattle.optimizer.specs.Fold.{Buffers, outcome, called, foldCall}
 use Rattle.optimizer.specs.declared.FoldAnswer.{FoldAnswer}
 use Rattle.optimizer.specs.declared.FoldAnswer.the-variants as fold
 use Rattle.clear.specs.Clear as clearing
@@ -118,8 +118,8 @@ abbrev pub foldTold : FoldAnswer → Answer
 foldTold (fold.Is f) = answerOf (f .instructions) (f .constants) (f .map) (f .sources)
 foldTold (fold.No r) = refusedOf r
 
-abbrev pub FoldTold : Bool → Buffers → Counts → Answer → Buffers → Type 0
-FoldTold strict b c r b′ = By foldTold (λ v. outcome v b′ ≡ foldCall strict b c) r
+abbrev pub FoldTold : Bool → Buffers → List ℕ → List ℕ → Counts → Answer → Buffers → List ℕ → List ℕ → Type 0
+FoldTold strict b tries landings c r b′ tries′ landings′ = By foldTold (λ v. called (outcome v b′) tries′ landings′ ≡ foldCall strict b tries landings c) r
 
 -- the new count of constants
 abbrev pub clearTold : ClearAnswer → Answer

@@ -269,9 +269,11 @@ pub extern "C" fn turniploom_fold(
     call_byte_pos_count: usize,
     dead: &mut [u8],
     remap: &mut [u32],
+    tries: &mut [u32],
+    landings: &mut [u64],
     strict: bool,
 ) -> Answer
-    ensures { λ r. ⌜ FoldTold strict (buffers (now (code .entry)) (now (kinds .entry)) (now (words .entry)) (now («phi_map» .entry)) (now («phi_sources» .entry)) (now («stmt_pos» .entry)) (now («call_byte_pos» .entry)) (now (dead .entry)) (now (remap .entry))) (record { constants = constants; map = «phi_map_count»; sources = «phi_sources_count»; stmts = «stmt_pos_count»; calls = «call_byte_pos_count» }) r (buffers (now (code .exit)) (now (kinds .exit)) (now (words .exit)) (now («phi_map» .exit)) (now («phi_sources» .exit)) (now («stmt_pos» .exit)) (now («call_byte_pos» .exit)) (now (dead .exit)) (now (remap .exit))) ⌝ }
+    ensures { λ r. ⌜ FoldTold strict (buffers (now (code .entry)) (now (kinds .entry)) (now (words .entry)) (now («phi_map» .entry)) (now («phi_sources» .entry)) (now («stmt_pos» .entry)) (now («call_byte_pos» .entry)) (now (dead .entry)) (now (remap .entry))) (now (tries .entry)) (now (landings .entry)) (record { constants = constants; map = «phi_map_count»; sources = «phi_sources_count»; stmts = «stmt_pos_count»; calls = «call_byte_pos_count» }) r (buffers (now (code .exit)) (now (kinds .exit)) (now (words .exit)) (now («phi_map» .exit)) (now («phi_sources» .exit)) (now («stmt_pos» .exit)) (now («call_byte_pos» .exit)) (now (dead .exit)) (now (remap .exit))) (now (tries .exit)) (now (landings .exit)) ⌝ }
 {
     let a = optimizer::fold(
         code,
@@ -288,6 +290,8 @@ pub extern "C" fn turniploom_fold(
         call_byte_pos_count,
         dead,
         remap,
+        tries,
+        landings,
         strict,
     );
     folded(a)

@@ -4,22 +4,25 @@ use mathlib.Core.Path.{_≡_}
 use Prim.Native.Nat.{_≤_, _-_}
 use Rattle.lent.specs.Chunk.{count}
 use Rattle.fold.specs.Plan.{chunk}
-use Rattle.fold.proofs.Grown.{Held, held-none, held-ready, held-more, held-all}
+use Rattle.fold.proofs.Grown.{Asked, asked-none, asked-ready, asked-more, asked-all}
 use Rattle.fold.proofs.fold_all.Statement.{statement}
 use Rattle.fold.proofs.fold_all.Tie as tie
 
 abbrev Inv-loop : tie.InvT-loop
-Inv-loop code₀ dead₀ kinds₀ words₀ constants strict n held₀ ip₀ code dead kinds words held ip =
-    (n ≡ count code₀) × (ip ≤ n) × Held strict (chunk code₀ dead₀ kinds₀ words₀ constants) (chunk code dead kinds words held) ip
+Inv-loop code₀ dead₀ kinds₀ words₀ constants landings strict n held₀ last₀ ip₀ code dead kinds words held last ip =
+    (n ≡ count code₀) × (ip ≤ n) × Asked strict landings (chunk code₀ dead₀ kinds₀ words₀ constants) (chunk code dead kinds words held) last ip
 
 abbrev μ-loop : tie.MeasureT-loop
-μ-loop code₀ dead₀ kinds₀ words₀ constants strict n held₀ ip₀ code dead kinds words held ip = n - ip
+μ-loop code₀ dead₀ kinds₀ words₀ constants landings strict n held₀ last₀ ip₀ code dead kinds words held last ip = n - ip
 
 loop-holds : tie.Need-loop-holds Inv-loop μ-loop
-loop-holds c = search (needs, held-none)
+loop-holds c = search (needs, asked-none)
+
+last-at-requires : tie.Need-last-at-requires Inv-loop μ-loop
+last-at-requires c κs = search needs
 
 try-fold-requires : tie.Need-try-fold-requires Inv-loop μ-loop
-try-fold-requires c κs = search held-ready
+try-fold-requires c κs = search asked-ready
 
 add-ip : tie.Need-add-ip Inv-loop μ-loop
 add-ip c = search needs
@@ -28,7 +31,7 @@ loop-less : tie.Need-loop-less Inv-loop μ-loop
 loop-less c = search needs
 
 loop-again : tie.Need-loop-again Inv-loop μ-loop
-loop-again c = search (needs, held-more)
+loop-again c = search (needs, asked-more)
 
 same-length : tie.Need-same-length Inv-loop μ-loop
 same-length c = search needs
@@ -43,7 +46,7 @@ same-length-4 : tie.Need-same-length-4 Inv-loop μ-loop
 same-length-4 c = search needs
 
 returns : tie.Need-returns Inv-loop μ-loop
-returns c = search held-all
+returns c = search asked-all
 
 pub fold-all-spec : {M : Type 1} → statement M
 fold-all-spec =
@@ -52,6 +55,7 @@ fold-all-spec =
     Inv-loop
     μ-loop
     loop-holds
+    last-at-requires
     try-fold-requires
     add-ip
     loop-less

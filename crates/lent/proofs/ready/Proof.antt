@@ -1,8 +1,9 @@
--- `lent::ready` meets its contract: refusals 1 and 2, then 7, then 5. Assumes nothing.
+-- `lent::ready` meets its contract: refusals 1 and 2, then 4, 7 and 5. Assumes nothing.
 use borrow.Author.Needs.{needs}
 use mathlib.Core.Path.{_≡_}
 use mathlib.Core.List.{List}
-use Prim.Native.Nat.{ℕ}
+use Prim.Native.Nat.{ℕ, _+_}
+use Rattle.code.specs.Check.{triedOf, roomOf}
 use Rattle.code.specs.declared.Checked.{Checked}
 use Rattle.lent.specs.Chunk.{count}
 use Rattle.lent.specs.Check.{checkOf, tablesOf, roomsOf, readyOf}
@@ -11,13 +12,17 @@ use Rattle.lent.specs.declared.Lens.{Lens}
 use Rattle.lent.proofs.ready.Statement.{statement}
 use Rattle.lent.proofs.ready.Tie as tie
 
-three : (v u r : Checked) (w kinds words : List ℕ) (c : Counts) (l : Lens)
-    → v ≡ checkOf w → u ≡ tablesOf v (count w) kinds words c l → r ≡ roomsOf u w c l → r ≡ readyOf w kinds words c l
+five : (v t u y r : Checked) (w tries kinds words : List ℕ) (c : Counts) (l : Lens) (landings : ℕ)
+    → v ≡ checkOf w → t ≡ triedOf v tries → u ≡ tablesOf t (count w) kinds words c l → y ≡ roomsOf u w c l → r ≡ roomOf y 7 landings (count w + 1)
+    → r ≡ readyOf w tries kinds words c l landings
 unfolding readyOf
-three v u r w kinds words c l e f g = rw (g, f, e)
+five v t u y r w tries kinds words c l landings e f g h i = rw (i, h, g, f, e)
 
 check-requires : tie.Need-check-requires
 check-requires c κs = search needs
+
+tried-requires : tie.Need-tried-requires
+tried-requires c κs = search needs
 
 tables-requires : tie.Need-tables-requires
 tables-requires c κs = search needs
@@ -25,8 +30,16 @@ tables-requires c κs = search needs
 rooms-requires : tie.Need-rooms-requires
 rooms-requires c κs = search needs
 
+add-room : tie.Need-add-room
+add-room c = search needs
+
+room-requires : tie.Need-room-requires
+room-requires c κs = search needs
+
 returns : tie.Need-returns
-returns c = search three
+returns c = search five
 
 pub ready-spec : {M : Type 1} → statement M
-ready-spec = tie.close (tie.spec check-requires tables-requires rooms-requires returns)
+ready-spec =
+    tie.close
+    (tie.spec check-requires tried-requires tables-requires rooms-requires add-room room-requires returns)

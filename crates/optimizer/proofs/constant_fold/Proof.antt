@@ -8,7 +8,7 @@ fold-pass-requires : tie.Need-fold-pass-requires
 fold-pass-requires c κs = search needs
 
 finish-requires : tie.Need-finish-requires
-finish-requires c κs = fit-of _ _ _ _ _ _ _ _ _ _ _ _ _ _ _ _ (c .before .before .before .before .before .before .before .before .before .before .before .before .before .before .before .before .before .before .before .before .before .before .before .before .before .before .before .before .before .pre) (c .before .before .before .before .before .before .before .before .before .before .before .before .before .before .before .fold-pass .ensures)
+finish-requires c κs = fit-of _ _ _ _ _ _ _ _ _ _ _ _ _ _ _ _ (c .before .before .before .before .before .before .before .before .before .before .before .before .before .before .before .before .before .before .before .before .before .before .before .before .before .before .before .before .before .before .pre .0) (c .before .before .before .before .before .before .before .before .before .before .before .before .before .before .before .fold-pass .ensures)
 
 same-length : tie.Need-same-length
 same-length c = search needs

@@ -1,0 +1,86 @@
+-- Where a chunk's jumps and handlers land: document 02, wishes 2 and 10. Assumes nothing.
+use Prim.Native.Nat.{ℕ, _+_, _*_, _/_, _<_, _≤_}
+use mathlib.Core.Path.{_≡_}
+use mathlib.Core.Bool.{Bool, false, cond, _&&_, _||_}
+use mathlib.Core.List.{List, [], _∷_}
+use lib.Dec.{eqb, ltb, leb}
+use lib.ListN.{length, getD, set}
+use Rattle.laws.specs.All.{many}
+use Rattle.laws.specs.Some.{some}
+use Rattle.laws.specs.Each.{each}
+use Rattle.code.specs.Op.{LoadConst}
+use Rattle.lent.specs.Chunk.{count, opAt, operandAt, jumps}
+
+-- the tries are pairs (s, h): the handler of try j
+abbrev pub handlerAt : List ℕ → ℕ → ℕ
+handlerAt tries j = getD tries (2 * j + 1) 0
+
+-- instruction k is a jump to t
+abbrev pub jumpsTo : List ℕ → ℕ → ℕ → Bool
+jumpsTo w t k = jumps w k && eqb (operandAt w k) t
+
+-- the handler of try j stands at t
+abbrev pub handledAt : List ℕ → ℕ → ℕ → Bool
+handledAt tries t j = eqb (handlerAt tries j) t
+
+-- how many jumps and handlers land on t
+unfoldable pub landingsAt : List ℕ → List ℕ → ℕ → ℕ
+landingsAt w tries t = many (jumpsTo w t) (count w) + many (handledAt tries t) (length tries / 2)
+
+-- for each position 0 to n
+unfoldable pub landingsOf : List ℕ → List ℕ → List ℕ
+unfolding landingsAt
+landingsOf w tries = each (λ t. landingsAt w tries t ∷ []) (count w + 1)
+
+-- one landing more on t; one beyond n is not counted
+unfoldable pub bumped : List ℕ → ℕ → List ℕ
+bumped l t = cond (ltb t (length l)) (set l t (getD l t 0 + 1)) l
+
+-- a table of m counts
+pub record Counts (l : List ℕ) (m : ℕ) (f : ℕ → ℕ) : Type 0 where
+  pub long : length l ≡ m
+  pub each : (t : ℕ) → t < m → getD l t 0 ≡ f t
+
+-- no count above b
+pub record Low (l : List ℕ) (b : ℕ) : Type 0 where
+  pub each : (t : ℕ) → getD l t 0 ≤ b
+
+-- m zeros
+pub record Zeros (l : List ℕ) (m : ℕ) : Type 0 where
+  pub long : length l ≡ m
+  pub low : Low l 0
+
+-- the first k instructions counted, on top of l₀
+pub record Jumped (w l₀ l : List ℕ) (k : ℕ) : Type 0 where
+  pub counts : Counts l (length l₀) (λ t. getD l₀ t 0 + many (jumpsTo w t) k)
+
+-- the first k tries
+pub record Handled (tries l₀ l : List ℕ) (k : ℕ) : Type 0 where
+  pub counts : Counts l (length l₀) (λ t. getD l₀ t 0 + many (handledAt tries t) k)
+
+-- a jump at k into (p, i]
+unfoldable pub lands : List ℕ → ℕ → ℕ → ℕ → Bool
+lands w p i k = jumps w k && (ltb p (operandAt w k) && leb (operandAt w k) i)
+
+-- any jump of the chunk lands there
+unfoldable pub landsAny : List ℕ → ℕ → ℕ → Bool
+unfolding lands
+landsAny w p i = some (lands w p i) (count w)
+
+-- a handler in (p, i]
+unfoldable pub handles : List ℕ → ℕ → ℕ → ℕ → Bool
+handles tries p i j = ltb p (handlerAt tries j) && leb (handlerAt tries j) i
+
+-- wish 2: any handler of the chunk there
+unfoldable pub handlesAny : List ℕ → ℕ → ℕ → Bool
+unfolding handles
+handlesAny tries p i = some (handles tries p i) (length tries / 2)
+
+-- strict mode: no fold if a jump or a handler of the chunk lands there
+unfoldable pub barred : Bool → List ℕ → List ℕ → ℕ → ℕ → Bool
+unfolding landsAny handlesAny
+barred strict w tries p i = strict && (landsAny w p i || handlesAny tries p i)
+
+-- no LoadConst has the jump mark: a record rule
+abbrev pub Unmarked : List ℕ → Type 0
+Unmarked w = (k : ℕ) → opAt w k ≡ LoadConst → jumps w k ≡ false

@@ -3,11 +3,11 @@ ghost use mathlib.Core.Path.{_≡_};
 ghost use Prim.Native.Nat.{_+_, _*_, _≤_};
 ghost use lib.ListN.{length, take, replicate};
 ghost use Rattle.lent.specs.Chunk.{stride, count, isPhi};
-ghost use Rattle.lent.specs.Check.{sourceRoom, tallyOf};
+ghost use Rattle.lent.specs.Check.{sourceRoom, tallyOf, readyOf};
 ghost use Rattle.fold.specs.Plan.{chunk};
 ghost use Rattle.fold.specs.Pass.{Lent, byTable};
 ghost use Rattle.compact.specs.Tables.{movedAll};
-ghost use Rattle.optimizer.specs.Fold.{buffers, needed, outcome, constantFold, settled, foldLent, called, rejoined, foldCall, foldPass, Held, Exact, Mapped};
+ghost use Rattle.optimizer.specs.Fold.{buffers, lensOf, needed, outcome, constantFold, settled, foldLent, called, rejoined, foldCall, foldPass, Held, Exact, Mapped};
 use code::Checked;
 use code::Refusal;
 use finish::Left;
@@ -198,6 +198,36 @@ fn fold_needed(
     )
 }
 
+// The tests of the folding call over what is lent: refusals 1, 2, 4, 7 and 5.
+fn fold_ready(
+    code: &[u16],
+    kinds: &[u8],
+    words: &[u64],
+    phi_map: &[u32],
+    phi_sources: &[u16],
+    stmt_pos: &[u32],
+    call_byte_pos: &[u32],
+    dead: &[u8],
+    remap: &[u32],
+    tries: &[u32],
+    landings: &[u64],
+    counts: Counts,
+) -> Checked
+    ensures { λ r. ⌜ r ≡ readyOf (now (code .entry)) (now (tries .entry)) (now (kinds .entry)) (now (words .entry)) counts (lensOf (buffers (now (code .entry)) (now (kinds .entry)) (now (words .entry)) (now («phi_map» .entry)) (now («phi_sources» .entry)) (now («stmt_pos» .entry)) (now («call_byte_pos» .entry)) (now (dead .entry)) (now (remap .entry)))) (length (now (landings .entry))) ⌝ }
+{
+    let lens = Lens {
+        kinds: kinds.len(),
+        words: words.len(),
+        map: phi_map.len(),
+        sources: phi_sources.len(),
+        stmts: stmt_pos.len(),
+        calls: call_byte_pos.len(),
+        dead: dead.len(),
+        remap: remap.len(),
+    };
+    lent::ready(code, tries, kinds, words, counts, lens, landings.len())
+}
+
 // The folding call.
 pub fn fold(
     code: &mut [u16],
@@ -227,17 +257,21 @@ pub fn fold(
         stmts: stmt_pos_count,
         calls: call_byte_pos_count,
     };
-    let lens = Lens {
-        kinds: kinds.len(),
-        words: words.len(),
-        map: phi_map.len(),
-        sources: phi_sources.len(),
-        stmts: stmt_pos.len(),
-        calls: call_byte_pos.len(),
-        dead: dead.len(),
-        remap: remap.len(),
-    };
-    match lent::ready(code, tries, kinds, words, counts, lens, landings.len()) {
+    let v = fold_ready(
+        code,
+        kinds,
+        words,
+        phi_map,
+        phi_sources,
+        stmt_pos,
+        call_byte_pos,
+        dead,
+        remap,
+        tries,
+        landings,
+        counts,
+    );
+    match v {
         Checked::No(r) => FoldAnswer::No(r),
         Checked::Count(_) => FoldAnswer::Is(fold_needed(
             code,

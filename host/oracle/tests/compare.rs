@@ -1,6 +1,6 @@
 //! The comparison cannot pass by accident: a wrong model or port is told with its question, and so is what was left out.
 
-use oracle::{chunks, compare::{Comparison, Until}, model, original, port, question::*, questions, rng::Rng};
+use oracle::{chunks, compare::{Comparison, Until}, model, original, port, question::*};
 
 /// What a short run over these calls says.
 fn compared(port: Option<fn(&Question) -> Reply>, model: fn(&Question) -> Reply, calls: &[Call], rounds: u64) -> (bool, String) {
@@ -72,10 +72,10 @@ fn what_is_left_out_is_told() {
 /// The questions have handlers that forbid a fold by themselves in strict mode, and tries that move. In plain mode tries change no fold.
 #[test]
 fn tries_tell() {
-    let mut rng = Rng::new(9, 0);
+    let mut rng = oracle::rng::Rng::new(9, 0);
     let (mut forbade, mut moved, mut plain) = (0, 0, 0);
     for _ in 0..20_000 {
-        let with = questions::random(&mut rng, Fold);
+        let with = oracle::questions::random(&mut rng, Fold);
         let mut without = with.clone();
         without.args[with.call.params().iter().position(|p| p.name == "tries").unwrap()] = Arg::U32(vec![]);
         let (mut a, mut b) = (port::ask(&with), port::ask(&without));

@@ -24,8 +24,8 @@
 #define TURNIPLOOM_MOST_REGISTERS 1024
 #define TURNIPLOOM_MOST_CONSTANTS 65536
 
-/* Lengths that are always enough, for n instructions: seen, todo, out, offsets and remap; rows; a list, whose needed length a refusal
- * also tells; kinds and words of a fold; its phi_map and dead marks; its phi_sources, of which `words` are in use. */
+/* Lengths that are always enough, for n instructions: seen, todo, out, offsets, remap and landings; rows; a list, whose needed length a
+ * refusal also tells; kinds and words of a fold; its phi_map and dead marks; its phi_sources, of which `words` are in use. */
 #define TURNIPLOOM_ENDS_LEN(n) ((size_t)(n) + 1)
 #define TURNIPLOOM_ROW_WORDS(regs) ((size_t)(regs) <= 64 ? (size_t)1 : ((size_t)(regs) + 63) / 64)
 #define TURNIPLOOM_ROWS_LEN(n, regs) (((size_t)(n) + 1) * TURNIPLOOM_ROW_WORDS(regs))
@@ -146,13 +146,16 @@ turniploom_answer turniploom_kept(const uint16_t *code, size_t code_len, size_t 
                                   uint64_t *rows, size_t rows_len, uint32_t *offsets, size_t offsets_len, uint16_t *list, size_t list_len);
 
 /* Folds a chunk. kinds and words need max(count, min(65,535, count + folding operators)) entries, phi_map n, phi_sources two for each pair
- * or Phi, dead n, remap n + 1. The counts of pair tables are in words.
+ * or Phi, dead n, remap and landings n + 1. The counts of pair tables are in words. tries are pairs of a start and a handler, and follow
+ * the code. In strict mode nothing folds that a jump or a handler lands in. Entry t of landings is then how many of both land on position t
+ * of what is left.
  * first: instructions; second: constants; third: entries of phi_map; fourth: words of phi_sources. */
 turniploom_answer turniploom_fold(uint16_t *code, size_t code_len, uint8_t *kinds, size_t kinds_len, uint64_t *words, size_t words_len,
                                   size_t constants, uint32_t *phi_map, size_t phi_map_len, size_t phi_map_count, uint16_t *phi_sources,
                                   size_t phi_sources_len, size_t phi_sources_count, uint32_t *stmt_pos, size_t stmt_pos_len,
                                   size_t stmt_pos_count, uint32_t *call_byte_pos, size_t call_byte_pos_len, size_t call_byte_pos_count,
-                                  uint8_t *dead, size_t dead_len, uint32_t *remap, size_t remap_len, bool strict);
+                                  uint8_t *dead, size_t dead_len, uint32_t *remap, size_t remap_len, uint32_t *tries, size_t tries_len,
+                                  uint64_t *landings, size_t landings_len, bool strict);
 
 /* Drops the constants that no instruction names; the others keep their order, what names them is renumbered, and freed entries are 0.
  * scratch needs an entry for each constant, and then holds how many named ones stand before it.

@@ -58,6 +58,18 @@ pub fn sums(n: usize, new: bool) -> Question {
     lent(code, &pool)
 }
 
+/// An operator every third instruction: sums of two of a few constants, and nothing else.
+pub fn thirds(n: usize) -> Question {
+    let code = (0..n).map(|k| if k % 3 == 2 { [Add.0, 0, 0] } else { [LoadConst.0, 2, (k % 5) as u16] }).collect();
+    lent(code, &(0..16).collect::<Vec<_>>())
+}
+
+/// One sum of many, each result an operand of the next: between its operands lies all that is dead.
+pub fn chain(n: usize) -> Question {
+    let code = (0..n).map(|k| if k > 0 && k % 2 == 0 { [Add.0, 0, 0] } else { [LoadConst.0, 2, 0] }).collect();
+    lent(code, &[0])
+}
+
 /// The question that folds a chunk, with the room that it needs.
 fn lent(code: Vec<[u16; 3]>, pool: &[i64]) -> Question {
     let n = code.len();
@@ -70,6 +82,6 @@ fn lent(code: Vec<[u16; 3]>, pool: &[i64]) -> Question {
     Question::of(Fold, [
         ("code", Arg::U16(code.as_flattened().to_vec())), ("kinds", Arg::U8(kinds)), ("words", Arg::U64(words)), ("constants", Arg::N(pool.len() as u64)),
         ("phi_map", Arg::U32(vec![0; n])), ("phi_sources", Arg::U16(vec![0; 2 * n])), ("stmt_pos", Arg::U32(stmts)), ("stmt_pos_count", Arg::N(count)),
-        ("dead", Arg::U8(vec![0; n])), ("remap", Arg::U32(vec![0; n + 1])),
+        ("dead", Arg::U8(vec![0; n])), ("remap", Arg::U32(vec![0; n + 1])), ("landings", Arg::U64(vec![0; n + 1])),
     ])
 }

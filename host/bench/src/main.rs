@@ -24,7 +24,7 @@ struct Case {
 fn cases(most: usize) -> Vec<Case> {
     let sizes = [100, 10_000, 65_535];
     let kept = ["straight", "loops"].into_iter().flat_map(|shape| sizes.into_iter().flat_map(move |n| [8, 64, 65, 1_024].map(|regs| Case { call: Kept, shape, n, regs })));
-    let folds = ["few constants", "new constants"].into_iter().flat_map(|shape| sizes.map(|n| (shape, n)));
+    let folds = ["few constants", "new constants", "strict", "one sum"].into_iter().flat_map(|shape| sizes.map(|n| (shape, n)));
     kept.chain(folds.map(|(shape, n)| Case { call: Fold, shape, n, regs: 0 })).filter(|c| c.n <= most).collect()
 }
 
@@ -42,7 +42,12 @@ fn run(case: Case, measure: Measure) {
         let code = if case.shape == "loops" { inputs::loops(case.n, case.regs) } else { inputs::straight(case.n, case.regs) };
         keeping(&code, case.regs, measure);
     } else {
-        folding(&inputs::sums(case.n, case.shape == "new constants"), measure);
+        let q = match case.shape {
+            "strict" => inputs::thirds(case.n),
+            "one sum" => inputs::chain(case.n),
+            shape => inputs::sums(case.n, shape == "new constants"),
+        };
+        folding(&q, case.shape == "strict", measure);
     }
 }
 
@@ -61,17 +66,19 @@ fn keeping(code: &[Ins], regs: usize, measure: Measure) {
     });
 }
 
-fn folding(q: &Question, measure: Measure) {
+/// The fold, in strict mode or not; the Rust has no strict mode and folds the same chunk plainly.
+fn folding(q: &Question, strict: bool, measure: Measure) {
     measure(&mut || {
         let q = q.clone();
         let mut lent = q.lent();
         Box::new(move || {
             let n = |name: &str| q.n(name) as usize;
-            let [Arg::U16(code), Arg::U8(kinds), Arg::U64(words), Arg::U32(phi_map), Arg::U16(sources), Arg::U32(stmts), Arg::U32(calls), Arg::U8(dead), Arg::U32(remap)] = &mut lent.buffers[..]
+            let [Arg::U16(code), Arg::U8(kinds), Arg::U64(words), Arg::U32(phi_map), Arg::U16(sources), Arg::U32(stmts), Arg::U32(calls), Arg::U8(dead),
+                Arg::U32(remap), Arg::U32(tries), Arg::U64(landings)] = &mut lent.buffers[..]
             else { panic!("the buffers of a chunk") };
             let answer = abi::fold(
                 code, kinds, words, n("constants"), phi_map, n("phi_map_count"), sources, n("phi_sources_count"), stmts, n("stmt_pos_count"), calls,
-                n("call_byte_pos_count"), dead, remap, false,
+                n("call_byte_pos_count"), dead, remap, tries, landings, strict,
             );
             assert_eq!(black_box(answer).refusal, 0);
         })

@@ -1,6 +1,6 @@
 //! What the listing of a chunk shows: what folded into what.
 
-use crate::{count, notation::{Chunk, constant_text, instruction_text}};
+use crate::{and, count, notation::{Chunk, constant_text, instruction_text}};
 use model::facts::fact;
 use turniploom::{JUMP, NAMES, Op, Refusal, op};
 
@@ -29,6 +29,9 @@ struct Folded {
     dead: Vec<bool>,
     stmt_pos: Vec<u32>,
     call_byte_pos: Vec<u32>,
+    tries: Vec<u32>,
+    /// How many jumps and handlers land on each position that is left, and on the end.
+    landings: Vec<u64>,
     pairs: usize,
     /// The constants that the clearing call leaves of it.
     shipped: Vec<(u8, u64)>,
@@ -43,7 +46,8 @@ impl View {
         for (to, (line, _)) in live.enumerate() { line.after = Some((to, shown(folded.code[to], &folded.constants))) }
         for k in 0..n { note(chunk, &folded, k, &mut before) }
         let mode = if chunk.strict { "strict" } else { "plain" };
-        let heading = format!("a chunk of {}, {}; {mode} mode", count(n, "instruction"), count(chunk.constants.len(), "constant"));
+        let tries = if chunk.tries.is_empty() { String::new() } else { format!(", {}", count(chunk.tries.len() / 2, "try")) };
+        let heading = format!("a chunk of {}, {}{tries}; {mode} mode", count(n, "instruction"), count(chunk.constants.len(), "constant"));
         Ok(View { heading, before, remarks: remarks(chunk, &folded) })
     }
 }
@@ -68,10 +72,10 @@ fn fold(chunk: &Chunk) -> Result<Folded, Refusal> {
     sources.resize(sources.len().max(2 * n), 0);
     let (mut stmts, mut calls) = (chunk.stmt_pos.clone(), chunk.call_byte_pos.clone());
     let (stmt_count, call_count) = (stmts.len(), calls.len());
-    let (mut dead, mut remap) = (vec![0; n], vec![0; n + 1]);
+    let (mut dead, mut remap, mut tries, mut landings) = (vec![0; n], vec![0; n + 1], chunk.tries.clone(), vec![0; n + 1]);
     let a = turniploom::abi::fold(
         &mut code, &mut kinds, &mut values, constants, &mut phi_map, chunk.phi_map.len(), &mut sources, chunk.phi_sources.len(), &mut stmts,
-        stmt_count, &mut calls, call_count, &mut dead, &mut remap, chunk.strict,
+        stmt_count, &mut calls, call_count, &mut dead, &mut remap, &mut tries, &mut landings, chunk.strict,
     ).granted()?;
     let code: Vec<[u16; 3]> = code.chunks(3).take(a.first as usize).map(|w| [w[0], w[1], w[2]]).collect();
     let constants: Vec<(u8, u64)> = (0..a.second as usize).map(|k| (kinds[k], values[k])).collect();
@@ -82,6 +86,8 @@ fn fold(chunk: &Chunk) -> Result<Folded, Refusal> {
         dead: dead.iter().map(|&d| d != 0).collect(),
         stmt_pos: stmts,
         call_byte_pos: calls,
+        tries,
+        landings,
         pairs: a.fourth as usize / 2,
     })
 }
@@ -99,6 +105,7 @@ fn opcode(chunk: &Chunk, k: usize) -> Op { Op(chunk.code[k][0]) }
 fn note(chunk: &Chunk, f: &Folded, k: usize, lines: &mut [Line]) {
     let [o, marks, operand] = chunk.code[k];
     let o = Op(o);
+    for t in chunk.tries.chunks(2).filter(|t| t[1] as usize == k) { lines[k].notes.push(format!("handler of the try at {}", t[0])) }
     if f.dead[k] {
         if o == op::Phi { return lines[k].notes.push(format!("both sources are {operand}: it does nothing")) }
         let first = (0..k).rev().find(|&p| !f.dead[p]).expect("a first operand");
@@ -118,7 +125,7 @@ fn note(chunk: &Chunk, f: &Folded, k: usize, lines: &mut [Line]) {
             };
             lines[first].notes.push(format!("{expression} = {value}{place}"));
         }
-    } else if o.folds() && let Some(why) = unfolded(chunk, f, k) {
+    } else if o.folds() && let Some(why) = unfolded(chunk, f, k, lines) {
         lines[k].notes.push(why);
     } else if marks & JUMP != 0 && f.code.len() < f.dead.len() {
         let now = f.code[lines[k].after.as_ref().expect("a live position").0][2];
@@ -151,15 +158,21 @@ fn expression(chunk: &Chunk, first: usize, last: usize) -> Option<String> {
     Some(text.clone())
 }
 
-/// Why the operator at `k`, whose operands are constants, was not folded.
-fn unfolded(chunk: &Chunk, f: &Folded, k: usize) -> Option<String> {
+/// Why the operator at `k`, whose operands are constants, was not folded. In strict mode the landings say it, which the call counted: those of
+/// a group that did not fold are inside what is left of it.
+fn unfolded(chunk: &Chunk, f: &Folded, k: usize, lines: &[Line]) -> Option<String> {
     let arity = fact(chunk.code[k][0]).folding as usize;
     let operands: Vec<usize> = (0..k).rev().filter(|&p| !f.dead[p] || opcode(chunk, p) == op::Phi).take(arity).collect();
     let first = *operands.last().filter(|_| operands.len() == arity)?;
     if !operands.iter().all(|&p| opcode(chunk, p) == op::LoadConst) { return None }
-    let lands = |j: &usize| chunk.code[*j][1] & JUMP != 0 && (first + 1..=k).contains(&(chunk.code[*j][2] as usize));
-    let jump = if chunk.strict { (0..chunk.code.len()).find(lands) } else { first.checked_sub(1).filter(lands) };
-    Some(jump.map_or("not folded: it has no result that is a constant".into(), |j| format!("not folded: the jump at {j} lands on {}", chunk.code[j][2])))
+    let now = |p: usize| lines[p].after.as_ref().expect("a live position").0;
+    let inside = |at: usize| at > first && at <= k;
+    let jumps = (0..chunk.code.len()).filter(|&j| chunk.code[j][1] & JUMP != 0 && inside(chunk.code[j][2].into()));
+    let jumps = jumps.filter(|&j| chunk.strict || j + 1 == first).map(|j| format!("the jump at {j} lands on {}", chunk.code[j][2]));
+    let handlers = chunk.tries.chunks(2).filter(|t| chunk.strict && inside(t[1] as usize));
+    let landed: Vec<String> = jumps.chain(handlers.map(|t| format!("the handler of the try at {} is at {}", t[0], t[1]))).collect();
+    let barred = if chunk.strict { f.landings[now(first) + 1..=now(k)].iter().any(|&on| on != 0) } else { !landed.is_empty() };
+    Some(format!("not folded: {}", if barred { and(&landed) } else { "it has no result that is a constant".into() }))
 }
 
 fn remarks(chunk: &Chunk, f: &Folded) -> Vec<String> {
@@ -174,7 +187,13 @@ fn remarks(chunk: &Chunk, f: &Folded) -> Vec<String> {
         let moved: Vec<String> = old.chunks(2).zip(new.chunks(2)).filter(|(a, b)| a != b).map(|(a, b)| format!("{} to {}", a[0], b[0])).collect();
         if !moved.is_empty() { remarks.push(format!("{name} moved: {}.", moved.join(", "))) }
     }
+    let moved = chunk.tries.chunks(2).zip(f.tries.chunks(2)).filter(|(a, b)| a != b);
+    let tries: Vec<String> = moved.map(|(a, b)| format!("{} {} to {} {}", a[0], a[1], b[0], b[1])).collect();
+    if !tries.is_empty() { remarks.push(format!("tries moved: {}.", tries.join(", "))) }
+    let landings: Vec<String> = f.landings.iter().enumerate().filter(|l| *l.1 != 0).map(|(k, on)| format!("{on} on {k}")).collect();
+    if !landings.is_empty() { remarks.push(format!("Jumps and handlers that land in what is left: {}.", landings.join(", "))) }
     if f.pairs != chunk.phi_sources.len() / 2 { remarks.push(format!("phi_sources: {} became {}.", count(chunk.phi_sources.len() / 2, "pair"), f.pairs)) }
-    remarks.push(if chunk.strict { "Strict mode: no group folds that some jump lands in." } else { "Plain mode: a group stays only if the jump right before it lands in it." }.into());
+    let mode = ["Plain mode: a group stays only if the jump right before it lands in it.", "Strict mode: no group folds that a jump or a handler lands in."];
+    remarks.push(mode[usize::from(chunk.strict)].into());
     remarks
 }

@@ -29,6 +29,7 @@ pub struct Chunk {
     pub phi_sources: Vec<u16>,
     pub stmt_pos: Vec<u32>,
     pub call_byte_pos: Vec<u32>,
+    pub tries: Vec<u32>,
     pub strict: bool,
     pub lines: Vec<usize>,
 }
@@ -132,7 +133,7 @@ impl Reader {
     fn setting(&mut self, word: &str, rest: &[&str]) -> Read<()> {
         let of_a_chunk = ["strict", "plain", "constants", "pool", "phi_map", "phi_sources", "stmt_pos", "call_byte_pos"];
         if of_a_chunk.contains(&word) && !self.chunk { return Err(format!("`{word}` belongs to a chunk: say `chunk` on a line before it")) }
-        if ["registers", "try", "tries", "route"].contains(&word) && self.chunk { return Err(format!("a chunk has no `{word}`")) }
+        if ["registers", "route"].contains(&word) && self.chunk { return Err(format!("a chunk has no `{word}`")) }
         match (word, rest) {
             ("chunk", []) if self.entries.is_empty() => self.chunk = true,
             ("chunk", []) => return Err("`chunk` must come before the first instruction".into()),
@@ -197,7 +198,8 @@ impl Reader {
             let of = |e: &Entry| [e.op.0, e.exact.unwrap_or(usual_marks(e.op)) | e.marks, e.fields[0].unwrap_or(0)];
             return Ok(Text::Chunk(Chunk {
                 code: self.entries.iter().map(of).collect(), tail: self.tail, constants: self.constants, phi_map: self.phi_map,
-                phi_sources: self.phi_sources, stmt_pos: self.stmt_pos, call_byte_pos: self.call_byte_pos, strict: self.strict, lines,
+                phi_sources: self.phi_sources, stmt_pos: self.stmt_pos, call_byte_pos: self.call_byte_pos, tries: self.tries,
+                strict: self.strict, lines,
             }));
         }
         let Some(registers) = self.registers else { return Err("how many registers? Say `registers 4`, or `chunk` if this is a chunk".into()) };
@@ -339,6 +341,7 @@ impl fmt::Display for Chunk {
         let constants: Vec<String> = self.constants.iter().map(|&(k, w)| constant_text(k, w)).collect();
         write!(f, "{}{}{}", listed("constants", &constants), listed("phi_map", &self.phi_map), listed("phi_sources", &self.phi_sources))?;
         write!(f, "{}{}", listed("stmt_pos", &self.stmt_pos), listed("call_byte_pos", &self.call_byte_pos))?;
+        for pair in self.tries.chunks(2) { write!(f, "{}", listed("try", pair))? }
         for (k, &i) in self.code.iter().enumerate() { writeln!(f, "{k} {}", instruction_text(i))? }
         write!(f, "{}", listed("words", &self.tail))
     }
@@ -381,6 +384,7 @@ pub fn asked(q: &Question) -> String {
         phi_sources: table("phi_sources", "phi_sources_count").into_iter().map(|w| w as u16).collect(),
         stmt_pos: narrow(table("stmt_pos", "stmt_pos_count")),
         call_byte_pos: narrow(table("call_byte_pos", "call_byte_pos_count")),
+        tries: if takes("tries") { q.u32("tries").to_vec() } else { vec![] },
         strict: takes("strict") && q.n("strict") != 0,
         lines: vec![],
     }.to_string()

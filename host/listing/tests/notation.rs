@@ -46,6 +46,13 @@ fn marks_are_the_rusts_own_tests_unless_said() {
 }
 
 #[test]
+fn tries_of_a_chunk() {
+    let text = "chunk\nstrict\ntry 0 2\ntry 1 4294967295\n0 PopTop\n";
+    assert_eq!(chunk(text).tries, [0, 2, 1, u32::MAX]);
+    assert_eq!(chunk(text).to_string(), text);
+}
+
+#[test]
 fn constants_of_each_kind() {
     let c = chunk("chunk; constants -7 2.0 1e308 -inf true false other 2:0x7ff8000000000001 0:9");
     let kinds: Vec<u8> = c.constants.iter().map(|c| c.0).collect();
@@ -66,6 +73,7 @@ fn bad_text_is_named_by_line() {
         ("Move a0 b1\n# nothing more\n", 2, "how many registers? Say `registers 4`, or `chunk` if this is a chunk"),
         ("constants 1", 1, "`constants` belongs to a chunk: say `chunk` on a line before it"),
         ("chunk\nregisters 4", 2, "a chunk has no `registers`"),
+        ("chunk\ntry 1 x", 2, "a try wants a number, not `x`"),
         ("registers 4\nMove a0\nchunk", 3, "`chunk` must come before the first instruction"),
         ("chunk\nAdd b1", 2, "Add: an instruction of a chunk has one operand, not `b1`"),
         ("registers 1\n0", 2, "no instruction after position 0"),
@@ -87,5 +95,8 @@ fn refusals_in_words() {
     for bad in ["Jump 0", "Phi 0", "Add"] {
         assert_eq!(refused(&format!("chunk\n{bad} names")), "line 2: refused (2): the instruction at 0 breaks a record rule: a jump, a Phi and a folding operator name no constant");
     }
+    assert_eq!(refused("chunk\ntry 0 0\ntry 2 1"), "refused (4): try 1 breaks its rule: it starts at 2, past its handler at 1");
+    assert_eq!(refused("chunk\ntry 1 2"), "refused (4): try 0 breaks its rule: it starts at 1, past the end at 0");
+    assert_eq!(refused("chunk\ntry 0 0 0"), "refused (4): try 1 breaks its rule: it has no handler: a try is two numbers, its start and its handler");
     assert_eq!(refused("chunk\nstmt_pos 1"), "refused (7): table 4 of the chunk breaks its rule: the numbers of stmt_pos come in pairs");
 }

@@ -13,7 +13,7 @@ fn listed(name: &str) -> (String, String) {
 
 #[test]
 fn every_sample_is_listed() {
-    for name in ["K.txt", "P5.txt", "jacket.txt", "P13.txt", "ships.txt"] {
+    for name in ["K.txt", "P5.txt", "jacket.txt", "P13.txt", "ships.txt", "handler.txt"] {
         let (text, page) = listed(name);
         assert!(!text.contains("BREAK") && page.matches("<tr").count() == page.matches("</tr>").count(), "{name}");
         for tag in ["table", "td", "span", "div", "p"] { assert_eq!(page.matches(&format!("<{tag}")).count(), page.matches(&format!("</{tag}>")).count(), "{name}: {tag}") }
@@ -49,6 +49,38 @@ fn a_try_around_the_recursive_call() {
 fn p13() {
     let (text, _) = listed("P13.txt");
     assert!(text.contains("0 LoadConst 0 (2)  →  0 LoadConst 2 (5)  2 + 3 = 5, new constant 2") && text.contains("3 Jump 2           →  1 Jump 1"), "{text}");
+}
+
+#[test]
+fn a_handler_in_the_middle_of_a_group() {
+    let (text, _) = listed("handler.txt");
+    assert!(text.starts_with(
+        "  before                after
+0 LoadConst 0 (4)  →  0 LoadConst 4 (20)  4 * 5 = 20, new constant 4
+1 LoadConst 1 (5)  ┘
+2 Mul              ┘
+3 PopTop           →  1 PopTop
+4 LoadConst 2 (2)  →  2 LoadConst 2 (2)
+5 LoadConst 3 (3)  →  3 LoadConst 3 (3)   handler of the try at 0
+6 Add              →  4 Add               not folded: the handler of the try at 0 is at 5
+7 Jump 4           →  5 Jump 2            to 4, now 2
+"), "{text}");
+    assert!(text.contains("tries moved: 0 5 to 0 3.\nJumps and handlers that land in what is left: 1 on 2, 1 on 3.\n"), "{text}");
+}
+
+/// In strict mode the landings say why a group stays: a jump, a handler, both, or neither.
+#[test]
+fn why_a_group_stays() {
+    let why = |more: &str| {
+        let Ok(Text::Chunk(c)) = read(&format!("chunk; strict; constants 7 2; LoadConst 0; LoadConst 1; Div; {more}")) else { panic!("{more}") };
+        let view = chunk::View::of(&c).unwrap();
+        view.before[2].notes.last().unwrap().clone()
+    };
+    assert_eq!(why("PopTop"), "not folded: it has no result that is a constant");
+    assert_eq!(why("Jump 0; try 0 0; try 1 3"), "not folded: it has no result that is a constant");
+    assert_eq!(why("Jump 1"), "not folded: the jump at 3 lands on 1");
+    assert_eq!(why("try 1 2"), "not folded: the handler of the try at 1 is at 2");
+    assert_eq!(why("Jump 1; Jump 2; try 0 1"), "not folded: the jump at 3 lands on 1, the jump at 4 lands on 2 and the handler of the try at 0 is at 1");
 }
 
 #[test]

@@ -107,6 +107,8 @@ pub struct Chunk {
     pub phi_sources: Vec<[u16; 2]>,
     pub stmt_pos: Vec<[u32; 2]>,
     pub call_byte_pos: Vec<[u32; 2]>,
+    /// Where each try begins, and its handler.
+    pub tries: Vec<[u32; 2]>,
 }
 
 /// What became of each old position.
@@ -149,9 +151,11 @@ impl Chunk {
         if !loads { return None }
         let operands: Vec<Constant> = places.iter().map(|&p| self.operand(self.code[p].operand)).collect::<Option<_>>()?;
         let first = places[0];
-        let lands = |i: &Instruction| i.jump && i.operand as usize > first && i.operand as usize <= k;
+        let inside = |at: usize| at > first && at <= k;
+        let lands = |i: &Instruction| i.jump && inside(i.operand.into());
+        let barred = || self.code.iter().any(lands) || self.tries.iter().any(|t| inside(t[1] as usize));
         let result = folded(self.code[k].op, &operands, nan)?;
-        if first > 0 && lands(&self.code[first - 1]) || strict && self.code.iter().any(lands) { return None }
+        if first > 0 && lands(&self.code[first - 1]) || strict && barred() { return None }
         self.code[first] = match result {
             Bool(b) => Instruction { op: if b { op::LoadTrue } else { op::LoadFalse }, jump: false, names: false, operand: 0 },
             number => Instruction { op: op::LoadConst, jump: false, names: true, operand: self.place(number)? },
@@ -192,11 +196,20 @@ impl Chunk {
         pairs
     }
 
+    /// How many jumps and handlers land on each position, and on the end.
+    pub fn landings(&self) -> Vec<u64> {
+        let jumps = self.code.iter().filter(|i| i.jump).map(|i| usize::from(i.operand));
+        let mut on = vec![0; self.code.len() + 1];
+        for at in jumps.chain(self.tries.iter().map(|t| t[1] as usize)) { if let Some(count) = on.get_mut(at) { *count += 1 } }
+        on
+    }
+
     fn compact(&mut self, f: &Folded, pairs: Vec<[u16; 2]>) {
         let to = |at: u32| f.remap.get(at as usize).copied().unwrap_or(at);
         let live = (0..self.code.len()).filter(|&k| !f.dead[k]).map(|k| self.code[k]);
         self.code = live.map(|i| if i.jump { Instruction { operand: to(i.operand.into()) as u16, ..i } } else { i }).collect();
         for pair in self.stmt_pos.iter_mut().chain(&mut self.call_byte_pos) { pair[0] = to(pair[0]) }
+        for word in self.tries.as_flattened_mut() { *word = to(*word) }
         self.phi_sources = pairs;
         let mut phis = 0..;
         let indexed = self.code.iter().map(|i| if i.op == op::Phi { phis.next().unwrap() } else { 0 });

@@ -124,20 +124,22 @@ pub fn lay_lists(lists: &[Vec<u16>], lent: &mut Lent) {
 pub fn folding(q: &Question, lent: &mut Lent, nan: &mut dyn FnMut(f64) -> u64) -> Checked<[u64; 4]> {
     let code = code::chunk(q.u16("code"))?;
     let n = code.len();
+    code::tries(q.u32("tries"), n)?;
     let mut chunk = lent_chunk(q, lent, code)?;
     let phis = chunk.code.iter().filter(|i| i.op == turniploom::op::Phi).count();
     let operators = chunk.code.iter().filter(|i| facts::fact(i.op).folding != 0).count();
     let count = chunk.constants.len();
     let room = count.max((count + operators).min(65_535));
     let sources = 2 * chunk.phi_sources.len().max(phis);
-    let have = [lent.u8("kinds").len(), lent.u64("words").len(), lent.u32("phi_map").len(), lent.u16("phi_sources").len(), lent.u8("dead").len(), lent.u32("remap").len()];
-    for (b, (have, needed)) in have.into_iter().zip([room, room, n, sources, n, n + 1]).enumerate() { code::room(b as u64 + 1, have, needed)? }
+    let needed = [("kinds", room), ("words", room), ("phi_map", n), ("phi_sources", sources), ("dead", n), ("remap", n + 1), ("landings", n + 1)];
+    for (b, (name, needed)) in needed.into_iter().enumerate() { code::room(b as u64 + 1, lent.get(name).length(), needed)? }
     let folded = chunk.fold(q.n("strict") != 0, nan);
     for (mark, &dead) in lent.u8("dead").iter_mut().zip(&folded.dead) { *mark = dead.into() }
     if folded.died() {
         lay_chunk(&chunk, lent, n, sources);
         lent.u32("remap")[..=n].copy_from_slice(&folded.remap);
     }
+    lay_landings(&chunk, lent, n);
     Ok([chunk.code.len() as u64, chunk.constants.len() as u64, chunk.phi_map.len() as u64, 2 * chunk.phi_sources.len() as u64])
 }
 
@@ -183,6 +185,7 @@ fn lent_chunk(q: &Question, lent: &mut Lent, code: Vec<Instruction>) -> Checked<
         phi_sources: phi_sources[..count("phi_sources_count") as usize].chunks(2).map(|p| [p[0], p[1]]).collect(),
         stmt_pos: pairs(stmt_pos, "stmt_pos_count"),
         call_byte_pos: pairs(call_byte_pos, "call_byte_pos_count"),
+        tries: q.u32("tries").as_chunks().0.to_vec(),
     })
 }
 
@@ -198,7 +201,11 @@ pub fn lay_chunk(chunk: &Chunk, lent: &mut Lent, n: usize, sources: usize) {
     lay(lent.u16("phi_sources"), chunk.phi_sources.as_flattened(), sources);
     lay(lent.u32("stmt_pos"), chunk.stmt_pos.as_flattened(), 0);
     lay(lent.u32("call_byte_pos"), chunk.call_byte_pos.as_flattened(), 0);
+    lay(lent.u32("tries"), chunk.tries.as_flattened(), 0);
 }
+
+/// Writes the landings of a folded chunk: entries past its new end are 0.
+pub fn lay_landings(chunk: &Chunk, lent: &mut Lent, n: usize) { lay(lent.u64("landings"), &chunk.landings(), n + 1) }
 
 fn lay<T: Copy + Default>(buffer: &mut [T], words: &[T], needed: usize) {
     for (k, e) in buffer.iter_mut().enumerate().take(needed.max(words.len())) { *e = words.get(k).copied().unwrap_or_default() }

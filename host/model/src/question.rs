@@ -52,6 +52,17 @@ impl Arg {
     pub fn u32(&mut self) -> &mut Vec<u32> { if let Arg::U32(v) = self { v } else { panic!("no u32 words") } }
     pub fn u64(&mut self) -> &mut Vec<u64> { if let Arg::U64(v) = self { v } else { panic!("no u64 words") } }
 
+    /// How many words a slice has; a number has none.
+    pub fn length(&self) -> usize {
+        match self {
+            Arg::N(_) => 0,
+            Arg::U8(v) => v.len(),
+            Arg::U16(v) => v.len(),
+            Arg::U32(v) => v.len(),
+            Arg::U64(v) => v.len(),
+        }
+    }
+
     /// No number or an empty slice.
     fn none(kind: Kind) -> Arg {
         match kind.width() {

@@ -1,6 +1,6 @@
 //! Random chunks: constants, operators over them, jumps among them, Phis, and tables that follow.
 
-use crate::{model::facts::fact, question::*, questions::lend, rng::Rng};
+use crate::{model::facts::fact, question::*, questions::{self, lend}, rng::Rng};
 use turniploom::{JUMP, NAMES, Op, op::{self, *}};
 
 const BINARY: [Op; 17] = [Add, Sub, Mul, Div, Mod, FloorDiv, Eq, NotEq, Lt, Gt, LtEq, GtEq, BitAnd, BitOr, BitXor, Shl, Shr];
@@ -34,6 +34,7 @@ struct Chunk {
     phi_sources: Vec<u16>,
     stmt_pos: Vec<u32>,
     call_byte_pos: Vec<u32>,
+    tries: Vec<u32>,
 }
 
 pub fn random(rng: &mut Rng) -> Question {
@@ -108,6 +109,12 @@ fn tables(rng: &mut Rng, c: &mut Chunk) {
     if !rng.once_in(4) { c.phi_map = (0..n).map(|_| if rng.once_in(12) { rng.pick(&[4, 5, u32::MAX]) } else { rng.below(pairs + 1) as u32 }).collect() }
     for _ in 0..rng.below(4) { c.stmt_pos.extend([rng.below(n + 3) as u32, rng.word() as u32]) }
     for _ in 0..rng.below(3) { c.call_byte_pos.extend([if rng.once_in(8) { u32::MAX } else { rng.below(n + 2) as u32 }, 7]) }
+    c.tries = questions::tries(rng, n, &around(&c.code));
+}
+
+/// The places at an operator, at each of its operands, and right after it.
+fn around(code: &[[u16; 3]]) -> Vec<usize> {
+    (0..code.len()).filter(|&k| Op(code[k][0]).folds()).flat_map(|k| k.saturating_sub(2)..k + 2).collect()
 }
 
 /// A table in a buffer of the needed length, or not quite.
@@ -142,7 +149,8 @@ fn lent(rng: &mut Rng, c: Chunk) -> Question {
         ("phi_sources", Arg::U16(buffer(rng, &c.phi_sources, sources))), ("phi_sources_count", Arg::N(counts[2])),
         ("stmt_pos", Arg::U32(buffer(rng, &c.stmt_pos, 0))), ("stmt_pos_count", Arg::N(counts[3])),
         ("call_byte_pos", Arg::U32(buffer(rng, &c.call_byte_pos, 0))), ("call_byte_pos_count", Arg::N(counts[4])),
-        ("dead", Arg::U8(lend(rng, n))), ("remap", Arg::U32(lend(rng, n + 1))), ("strict", Arg::N(rng.once_in(3).into())),
+        ("dead", Arg::U8(lend(rng, n))), ("remap", Arg::U32(lend(rng, n + 1))), ("tries", Arg::U32(c.tries)), ("landings", Arg::U64(lend(rng, n + 1))),
+        ("strict", Arg::N(rng.once_in(3).into())),
     ])
 }
 
@@ -227,9 +235,32 @@ pub fn plain_pairs(a: (u8, u64), constants: &[(u8, u64)], take: &mut dyn FnMut(Q
         c.words.push(0);
         take(Question::of(Fold, [
             ("code", Arg::U16(c.code.into_flattened())), ("kinds", Arg::U8(c.kinds)), ("words", Arg::U64(c.words)), ("constants", Arg::N(count)),
-            ("phi_map", Arg::U32(vec![0; n])), ("dead", Arg::U8(vec![9; n])), ("remap", Arg::U32(vec![9; n + 1])),
+            ("phi_map", Arg::U32(vec![0; n])), ("dead", Arg::U8(vec![9; n])), ("remap", Arg::U32(vec![9; n + 1])), ("landings", Arg::U64(vec![9; n + 1])),
         ]))
     });
+}
+
+/// The sum of 2 and 3 before and after other code, and a jump, as a question with these tries, this landings buffer, and this jump's target.
+fn landed(tries: Vec<u32>, landings: usize, to: u16, strict: bool) -> Question {
+    let code = [[LoadNone.0, 0, 0], [LoadConst.0, NAMES, 0], [LoadConst.0, NAMES, 1], [Add.0, 0, 0], [PopTop.0, 0, 0], [Jump.0, JUMP, to]];
+    let n = code.len();
+    Question::of(Fold, [
+        ("code", Arg::U16(code.as_flattened().to_vec())), ("kinds", Arg::U8(vec![1, 1, 0])), ("words", Arg::U64(vec![2, 3, 0])), ("constants", Arg::N(2)),
+        ("phi_map", Arg::U32(vec![9; n])), ("dead", Arg::U8(vec![9; n])), ("remap", Arg::U32(vec![9; n + 1])), ("tries", Arg::U32(tries)),
+        ("landings", Arg::U64(vec![9; landings])), ("strict", Arg::N(strict.into())),
+    ])
+}
+
+/// Every try over a short chunk, two of them, half a try, every target of a jump, and every length of the table of landings.
+fn every_landing(take: &mut dyn FnMut(Question)) {
+    let places = || (0..9).chain([65_535, 65_536, u32::MAX]);
+    for (strict, s, h) in [false, true].into_iter().flat_map(|m| places().flat_map(move |s| places().map(move |h| (m, s, h)))) {
+        for tries in [vec![s, h], vec![0, 2, s, h], vec![s, h, h, h], vec![s, h, 1]] { take(landed(tries, 7, 6, strict)) }
+        take(landed(vec![s, h], 9, 2, strict));
+    }
+    for (strict, to) in [false, true].into_iter().flat_map(|m| (0..9).chain([65_535]).map(move |to| (m, to))) {
+        for length in 0..12 { for tries in [vec![], vec![0, 1], vec![0, 3], vec![6, 9], vec![9, 6], vec![2]] { take(landed(tries, length, to, strict)) } }
+    }
 }
 
 /// Every opcode with every mark that it may or may not have.
@@ -258,11 +289,18 @@ pub fn systematic_clear(rng: &mut Rng, take: &mut dyn FnMut(Question)) {
 /// Every operator over every pair of the listed constants, and the longest chunk.
 pub fn systematic(rng: &mut Rng, take: &mut dyn FnMut(Question)) {
     every_mark(rng, lent, take);
+    every_landing(take);
     let mut constants: Vec<(u8, u64)> = INTS.iter().map(|&i| (1, i as u64)).chain(FLOATS.iter().map(|f| (2, f.to_bits()))).collect();
     constants.extend([(3, 0), (3, 1), (0, 5), (2, 0xFFF8_0000_0000_0000), (2, 0x7FF0_0000_0000_0001)]);
     for &a in &constants { pairs(a, &constants, &mut |c| take(lent(rng, c))) }
     for n in [65_535, 65_536] {
         let code = (0..n).map(|k| match k % 8 { 0 | 1 => [LoadConst.0, NAMES, 0], 2 => [Add.0, 0, 0], 3 => [Jump.0, JUMP, (k % 65_536) as u16], _ => [PopTop.0, 0, 0] }).collect();
-        take(lent(rng, pool(&[(1, 1)], code)));
+        let mut chunk: Chunk = pool(&[(1, 1)], code);
+        if n == 65_535 { chunk.tries = (0..n as u32).step_by(5).flat_map(|s| [s, s + s % 8]).collect() }
+        let mut q = lent(rng, chunk);
+        for strict in [0, 1] {
+            *q.args.last_mut().expect("the mode") = Arg::N(strict);
+            take(q.clone());
+        }
     }
 }

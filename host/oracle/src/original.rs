@@ -133,12 +133,14 @@ fn folding(q: &Question, reply: &mut Reply) -> Option<()> {
     let mut chunk = ssa_chunk(q, &mut lent);
     let (lent_constants, pairs) = (chunk.constants.len(), chunk.phi_sources.len());
     let stmts = chunk.stmt_pos.len();
-    // Every position joins the table of statements, so that the Rust's own remap is read off it.
-    chunk.stmt_pos.extend((0..=n as u32).map(|k| (k, 0)));
+    // Every position joins the table of statements, so that the Rust's own remap is read off it, and so do the tries, which it does not have.
+    chunk.stmt_pos.extend((0..=n as u32).chain(q.u32("tries").iter().copied()).map(|at| (at, 0)));
     constant_fold(&mut chunk);
+    let tries: Vec<u32> = chunk.stmt_pos.drain(stmts + n + 1..).map(|p| p.0).collect();
     let remap: Vec<u32> = chunk.stmt_pos.drain(stmts..).map(|p| p.0).collect();
     let died = chunk.instructions.len() < n;
     let mut folded = plain(&chunk);
+    folded.tries = tries.as_chunks().0.to_vec();
     // The Rust has no marks: a survivor has its own, and what folded to a bool dropped it.
     let live = (0..n).filter(|&k| remap[k] < remap[k + 1]).map(|k| &words[3 * k..3 * k + 3]);
     for (i, old) in folded.code.iter_mut().zip(live) { i.names = i.op == op::LoadConst || Op(old[0]) == i.op && old[1] & NAMES != 0 }
@@ -153,6 +155,7 @@ fn folding(q: &Question, reply: &mut Reply) -> Option<()> {
         model::lay_chunk(&folded, &mut reply.lent, n, 2 * pairs.max(phis));
         reply.lent.u32("remap")[..=n].copy_from_slice(&remap);
     }
+    model::lay_landings(&folded, &mut reply.lent, n);
     Some(())
 }
 
@@ -191,6 +194,7 @@ fn plain(chunk: &SSAChunk) -> Chunk {
         phi_sources: chunk.phi_sources.iter().map(|&(a, b)| [a, b]).collect(),
         stmt_pos: chunk.stmt_pos.iter().map(|&(a, b)| [a, b]).collect(),
         call_byte_pos: chunk.call_byte_pos.iter().map(|&(a, b)| [a, b]).collect(),
+        tries: vec![],
     }
 }
 

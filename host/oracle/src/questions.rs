@@ -61,7 +61,7 @@ fn ask(rng: &mut Rng, call: Call, code: &[Ins], words: Vec<u16>, regs: usize) ->
         "arity" => Arg::N(arity),
         "count" => Arg::N(count),
         "regs" => Arg::N(if rng.once_in(40) { rng.pick(&[1_025, 65_536, u64::MAX]) } else { regs as u64 }),
-        "tries" => Arg::U32(tries(rng, n)),
+        "tries" => Arg::U32(tries(rng, n, &[])),
         "wide" => Arg::N(rng.once_in(3).into()),
         "seen" | "todo" | "out" | "offsets" => buffer(rng, p.kind, n + 1),
         "rows" => buffer(rng, p.kind, (n + 1) * crate::model::rows::words(regs)),
@@ -103,12 +103,17 @@ fn junk<T: Copy + TryFrom<u64>>(rng: &mut Rng, length: usize) -> Vec<T> {
     (0..length).map(|_| T::try_from(rng.word() >> (64 - bits)).ok().expect("a word of its width")).collect()
 }
 
-/// Tries, mostly good.
-fn tries(rng: &mut Rng, n: usize) -> Vec<u32> {
+/// Tries, mostly good; if there are `telling` places for a handler, it mostly stands at one of them.
+pub fn tries(rng: &mut Rng, n: usize, telling: &[usize]) -> Vec<u32> {
     let mut words = vec![];
     for _ in 0..rng.weighted(&[(3, 0), (4, 1), (3, 2), (1, 4)]) {
-        let s = rng.below(n + 1);
-        let h = s + rng.below(n - s + 3);
+        let (s, h) = if telling.is_empty() || rng.once_in(4) {
+            let s = rng.below(n + 1);
+            (s, s + rng.below(n - s + 3))
+        } else {
+            let h = rng.pick(telling);
+            (rng.below(h + 1).min(n), h)
+        };
         words.extend([s as u32, if rng.once_in(20) { u32::MAX } else { h as u32 }]);
     }
     match rng.below(40) {

@@ -53,12 +53,13 @@ fn wanted(rng: &mut Rng, call: Call, kind: Shows) -> String {
 }
 
 /// The record of a small question, if the Rust answers it as the model does, or if the model alone decides it: a refusal, and
-/// the clearing call, which the Rust does not have.
+/// what the Rust does not have, strict mode and the clearing call.
 fn record(q: &Question) -> Option<(String, Shows)> {
     if q.u16("code").len() > INSTRUCTIONS * q.call.stride() || q.args.iter().any(|a| a.numbers().len() > 64) { return None }
     let reply = model::ask(q);
     let shows = if reply.answer.refusal != 0 { Refused } else if reply.telling(q) { Telling } else { Plain };
-    if shows != Refused && q.call != Clear && original::ask(q, &reply)? != reply { return None }
+    let alone = shows == Refused || q.call == Clear || q.call == Fold && q.n("strict") != 0;
+    if !alone && original::ask(q, &reply)? != reply { return None }
     let mut line = (q.call as u64).to_string();
     let numbers = q.args.iter().flat_map(Arg::numbers).chain(reply.values()).chain(reply.lent.buffers.iter().flat_map(Arg::numbers));
     for v in numbers { write!(line, " {v}").unwrap() }

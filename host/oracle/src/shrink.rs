@@ -36,9 +36,13 @@ impl Shrink<'_> {
         taken
     }
 
-    /// Leaves out runs of instructions, long ones first.
+    /// Leaves out words past the last instruction, and runs of instructions, long ones first.
     fn instructions(&mut self) {
         let stride = self.best.call.stride();
+        let mut whole = self.best.clone();
+        let tail = whole.u16("code").len() % stride;
+        shorten(&mut whole.args[0], tail);
+        self.offer(whole);
         let mut run = (self.best.u16("code").len() / stride).max(1);
         loop {
             let mut k = 0;

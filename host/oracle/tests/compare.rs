@@ -72,6 +72,26 @@ fn what_is_left_out_is_told() {
     assert!(!well && last(&text) == "NOT ENOUGH WAS COMPARED: clear never had a telling answer.", "{text}");
 }
 
+/// The questions have handlers that forbid a fold by themselves in strict mode, and tries that move. In plain mode tries change no fold.
+#[test]
+fn tries_tell() {
+    let mut rng = oracle::rng::Rng::new(9, 0);
+    let (mut forbade, mut moved, mut plain) = (0, 0, 0);
+    for _ in 0..20_000 {
+        let with = oracle::questions::random(&mut rng, Fold);
+        let mut without = with.clone();
+        without.args[with.call.params().iter().position(|p| p.name == "tries").unwrap()] = Arg::U32(vec![]);
+        let (mut a, mut b) = (port::ask(&with), port::ask(&without));
+        if with.u32("tries").is_empty() || a.answer.refusal != 0 { continue }
+        moved += usize::from(a.lent.u32("tries")[..] != *with.u32("tries"));
+        if with.n("strict") != 0 { forbade += usize::from(a != b && a.answer.first > b.answer.first); continue }
+        plain += 1;
+        for name in ["tries", "landings"] { (*a.lent.get(name), *b.lent.get(name)) = (Arg::N(0), Arg::N(0)) }
+        assert_eq!(a, b, "{with:?}");
+    }
+    assert!(forbade > 500 && moved > 2_000 && plain > 5_000, "{forbade} {moved} {plain}");
+}
+
 /// Each question of `constants` is one that the Rust answers: no refusal, no strict mode.
 #[test]
 fn every_pair_is_answered_by_the_rust() {

@@ -75,18 +75,32 @@ fn p6() {
 
 /// What a chunk becomes: its instructions and its pool.
 fn fold(code: &[[u16; 3]], pool: &[(u8, u64)], strict: bool) -> (Vec<[u16; 3]>, Vec<(u8, u64)>) {
+    let Folded { code, pool, .. } = fold_with(&[], code, pool, strict);
+    (code, pool)
+}
+
+/// A folded chunk: its instructions and its pool, its tries, and all n + 1 landings.
+struct Folded {
+    code: Vec<[u16; 3]>,
+    pool: Vec<(u8, u64)>,
+    tries: Vec<u32>,
+    landings: Vec<u64>,
+}
+
+fn fold_with(tries: &[u32], code: &[[u16; 3]], pool: &[(u8, u64)], strict: bool) -> Folded {
     let n = code.len();
     let room = |mut v: Vec<u64>| { v.resize(pool.len() + n, 0); v };
     let kinds = room(pool.iter().map(|c| c.0.into()).collect()).iter().map(|&k| k as u8).collect();
     let mut r = agreed(&Question::of(Fold, [
         ("code", Arg::U16(code.as_flattened().to_vec())), ("kinds", Arg::U8(kinds)), ("words", Arg::U64(room(pool.iter().map(|c| c.1).collect()))),
         ("constants", Arg::N(pool.len() as u64)), ("phi_map", Arg::U32(vec![0; n])), ("phi_sources", Arg::U16(vec![0; 2 * n])),
-        ("dead", Arg::U8(vec![9; n])), ("remap", Arg::U32(vec![9; n + 1])), ("strict", Arg::N(strict.into())),
+        ("dead", Arg::U8(vec![9; n])), ("remap", Arg::U32(vec![9; n + 1])), ("tries", Arg::U32(tries.to_vec())),
+        ("landings", Arg::U64(vec![9; n + 1])), ("strict", Arg::N(strict.into())),
     ]));
     assert_eq!(r.answer.refusal, 0);
     let code = r.lent.u16("code")[..3 * r.answer.first as usize].chunks(3).map(|w| [w[0], w[1], w[2]]).collect();
     let pool = (0..r.answer.second as usize).map(|k| (r.lent.u8("kinds")[k], r.lent.u64("words")[k])).collect();
-    (code, pool)
+    Folded { code, pool, tries: r.lent.u32("tries").clone(), landings: r.lent.u64("landings").clone() }
 }
 
 fn int(i: i64) -> (u8, u64) { (1, i as u64) }
@@ -122,6 +136,69 @@ fn p13() {
     let pool = [int(2), int(3)];
     assert_eq!(fold(&code, &pool, false), (vec![[op::LoadConst.0, NAMES, 2], [op::Jump.0, 1, 1]], vec![int(2), int(3), int(5)]));
     assert_eq!(fold(&code, &pool, true), (code.to_vec(), pool.to_vec()));
+}
+
+/// Document 02, wish 2: a handler inside (first operand, operator] keeps a group from folding in strict mode. One on the first operand, after
+/// the operator or past the end does not, and neither does a try's start. In plain mode all fold, and the tries follow.
+#[test]
+fn handlers_are_landings() {
+    let code = [[op::LoadNone.0, 0, 0], [op::LoadConst.0, NAMES, 0], [op::LoadConst.0, NAMES, 1], [op::Add.0, 0, 0], [op::PopTop.0, 0, 0]];
+    let pool = [int(2), int(3)];
+    for (tries, stays, moved) in [
+        ([0, 1], false, [0, 1]),
+        ([0, 2], true, [0, 2]),
+        ([1, 3], true, [1, 2]),
+        ([1, 4], false, [1, 2]),
+        ([2, 5], false, [2, 3]),
+        ([3, 9], false, [2, 9]),
+        ([3, u32::MAX], false, [2, u32::MAX]),
+    ] {
+        let strict = fold_with(&tries, &code, &pool, true);
+        assert_eq!(strict.code.len(), if stays { 5 } else { 3 }, "{tries:?}");
+        assert_eq!(strict.tries, if stays { tries } else { moved }, "{tries:?}");
+        let plain = fold_with(&tries, &code, &pool, false);
+        assert_eq!((plain.code.len(), &plain.tries[..]), (3, &moved[..]), "{tries:?}");
+    }
+}
+
+/// Document 02, wish 10: the table of what lands where, of the chunk that is left; past its end it is 0.
+#[test]
+fn landings_are_counted() {
+    let code = [[op::Jump.0, 1, 1], [op::LoadConst.0, NAMES, 0], [op::LoadConst.0, NAMES, 1], [op::Add.0, 0, 0], [op::Jump.0, 1, 5], [op::Jump.0, 1, 6]];
+    let (pool, tries) = ([int(2), int(3)], [0, 1, 1, 6, 2, 7, 0, 1]);
+    let strict = fold_with(&tries, &code, &pool, true);
+    assert_eq!((strict.code.len(), strict.tries, strict.landings), (4, vec![0, 1, 1, 4, 2, 7, 0, 1], vec![0, 3, 0, 1, 2, 0, 0]));
+    let barred = fold_with(&[0, 1, 1, 3], &code, &pool, true);
+    assert_eq!((barred.code.len(), barred.landings), (6, vec![0, 2, 0, 1, 0, 1, 1]));
+    let p13 = [[op::LoadConst.0, NAMES, 0], [op::LoadConst.0, NAMES, 1], [op::Add.0, 0, 0], [op::Jump.0, 1, 2]];
+    assert_eq!(fold_with(&[], &p13, &pool, true).landings, [0, 0, 1, 0, 0]);
+    assert_eq!(fold_with(&[], &p13, &pool, false).landings, [0, 1, 0, 0, 0]);
+    assert_eq!(fold_with(&[0, 0, 0, 0, 0, 1], &[], &[], true).landings, [2]);
+}
+
+/// Tries are tested after the code and before the tables, the table of landings last; a refusal leaves both as they were lent.
+#[test]
+fn refusals_of_tries_and_landings() {
+    let code = [op::LoadConst.0, NAMES, 0, op::Minus.0, 0, 0];
+    let asked = |code: &[u16], tries: &[u32], kind: u8, remap: usize, landings: usize| {
+        let q = Question::of(Fold, [
+            ("code", Arg::U16(code.to_vec())), ("kinds", Arg::U8(vec![kind, 0])), ("words", Arg::U64(vec![2, 0])), ("constants", Arg::N(1)),
+            ("phi_map", Arg::U32(vec![0; 2])), ("dead", Arg::U8(vec![9; 2])), ("remap", Arg::U32(vec![9; remap])), ("tries", Arg::U32(tries.to_vec())),
+            ("landings", Arg::U64(vec![9; landings])),
+        ]);
+        let r = agreed(&q);
+        if r.answer.refusal != 0 { assert_eq!(r.lent, q.lent()) }
+        let [refusal, first, second, ..] = r.values();
+        (refusal, first, second)
+    };
+    assert_eq!(asked(&[191, 0, 0, 2, 2, 0], &[3, 2], 4, 0, 0), (2, 0, 0));
+    assert_eq!(asked(&code, &[0, 1, 2, 1, 9, 9], 4, 0, 0), (4, 1, 0));
+    assert_eq!(asked(&code, &[0, 1, 2, 9, 3], 4, 0, 0), (4, 2, 0));
+    assert_eq!(asked(&code, &[0, 1, 3, 9], 1, 3, 3), (4, 1, 0));
+    assert_eq!(asked(&code, &[0, 1], 4, 0, 0), (7, 1, 0));
+    assert_eq!(asked(&code, &[0, 1], 1, 2, 0), (5, 6, 3));
+    for landings in 0..3 { assert_eq!(asked(&code, &[0, 1], 1, 3, landings), (5, 7, 3)) }
+    assert_eq!(asked(&code, &[0, 1], 1, 3, 3), (0, 1, 2));
 }
 
 /// The sweeps end at the least solution of the row equations, on both routes.

@@ -19,7 +19,7 @@ fn written_and_read_back() {
                 let kinds: Vec<u64> = c.constants.iter().map(|c| c.0.into()).collect();
                 let words: Vec<u64> = c.constants.iter().map(|c| c.1).collect();
                 assert!(q.arg("kinds").numbers()[1..].starts_with(&kinds) && q.arg("words").numbers()[1..].starts_with(&words), "{text}");
-                if q.call == Fold { assert_eq!(u64::from(c.strict), q.n("strict"), "{text}") }
+                if q.call == Fold { assert_eq!((u64::from(c.strict), &c.tries[..]), (q.n("strict"), q.u32("tries")), "{text}") }
             }
         }
     }

@@ -67,6 +67,8 @@ pub struct Chunk {
     pub stmt_pos: Vec<(u32, u32)>,
     /// Positions of calls, each with a number of the host's own.
     pub call_byte_pos: Vec<(u32, u32)>,
+    /// The tries: where each begins, and where its handler stands.
+    pub tries: Vec<(u32, u32)>,
 }
 
 impl Chunk {
@@ -75,7 +77,9 @@ impl Chunk {
 }
 
 /// Folds the constants of a chunk, drops the Phis that do nothing, and moves all that names a position. In strict mode
-/// nothing folds that some jump lands in. A refused chunk is as it was.
+/// nothing folds that some jump or handler lands in. A refused chunk is as it was.
+///
+/// Answers how many jumps and handlers land on each position that is left, and on the end.
 ///
 /// P13 of document 01: 2 + 3 folds, and the jump follows; in strict mode the jump keeps it from folding.
 ///
@@ -94,10 +98,24 @@ impl Chunk {
 /// # Ok::<(), turniploom::Refusal>(())
 /// ```
 ///
+/// A handler in the middle of 2 + 3 keeps it from folding in strict mode; in plain mode it follows.
+///
+/// ```
+/// use turniploom::{Chunk, Constant::Int, Instruction, constant_fold, op::*};
+/// let mut chunk = Chunk::new([(LoadConst, 0), (LoadConst, 1), (Add, 0)].map(|(op, operand)| Instruction::new(op, operand)).into(), vec![Int(2), Int(3)]);
+/// chunk.tries = vec![(0, 1), (0, 3)];
+/// assert_eq!(constant_fold(&mut chunk, true)?, [0, 1, 0, 1]);
+/// assert_eq!(chunk.instructions.len(), 3);
+///
+/// assert_eq!(constant_fold(&mut chunk, false)?, [0, 2]);
+/// assert_eq!((chunk.instructions.len(), chunk.tries), (1, vec![(0, 1), (0, 1)]));
+/// # Ok::<(), turniploom::Refusal>(())
+/// ```
+///
 /// # Errors
 ///
-/// [`Refusal::Code`] or [`Refusal::Record`] for a bad instruction, [`Refusal::Table`] for a bad table.
-pub fn constant_fold(chunk: &mut Chunk, strict: bool) -> Result<(), Refusal> {
+/// [`Refusal::Code`] or [`Refusal::Record`] for a bad instruction, [`Refusal::Try`] for a bad try, [`Refusal::Table`] for a bad table.
+pub fn constant_fold(chunk: &mut Chunk, strict: bool) -> Result<Vec<u64>, Refusal> {
     let n = chunk.instructions.len();
     let count = chunk.constants.len();
     let mut code = words_of(chunk);
@@ -115,18 +133,22 @@ pub fn constant_fold(chunk: &mut Chunk, strict: bool) -> Result<(), Refusal> {
     let mut calls = flat(&chunk.call_byte_pos);
     let (stmt_count, call_count) = (stmts.len(), calls.len());
     let (mut dead, mut remap) = (vec![0; n], vec![0; n + 1]);
+    let (mut tries, mut landings) = (flat(&chunk.tries), vec![0; n + 1]);
     let folded = crate::abi::fold(
         &mut code, &mut kinds, &mut words, count, &mut phi_map, chunk.phi_map.len(), &mut sources, pairs, &mut stmts, stmt_count,
-        &mut calls, call_count, &mut dead, &mut remap, strict,
+        &mut calls, call_count, &mut dead, &mut remap, &mut tries, &mut landings, strict,
     ).granted()?;
     chunk.instructions = instructions(&code, folded.first as usize);
     let pushed = |k: usize| if kinds[k] == 1 { Constant::Int(words[k] as i64) } else { Constant::Float(f64::from_bits(words[k])) };
     chunk.constants.extend((count..folded.second as usize).map(pushed));
     chunk.phi_map = phi_map[..folded.third as usize].iter().map(|&p| p as usize).collect();
     chunk.phi_sources = sources[..folded.fourth as usize].chunks(2).map(|p| (p[0], p[1])).collect();
-    chunk.stmt_pos = stmts.chunks(2).map(|p| (p[0], p[1])).collect();
-    chunk.call_byte_pos = calls.chunks(2).map(|p| (p[0], p[1])).collect();
-    Ok(())
+    chunk.stmt_pos = pairs_of(&stmts);
+    chunk.call_byte_pos = pairs_of(&calls);
+    chunk.tries = pairs_of(&tries);
+    // Past the end of what is left nothing lands.
+    landings.truncate(chunk.instructions.len() + 1);
+    Ok(landings)
 }
 
 /// Drops the constants that no instruction names. Those that are left keep their order, and what names them is renumbered;
@@ -180,4 +202,6 @@ fn stored(constant: Constant) -> (u8, u64) {
     }
 }
 
-fn flat(pairs: &[(u32, u32)]) -> Vec<u32> { pairs.iter().flat_map(|&(at, byte)| [at, byte]).collect() }
+fn flat(pairs: &[(u32, u32)]) -> Vec<u32> { pairs.iter().flat_map(|&(a, b)| [a, b]).collect() }
+
+fn pairs_of(words: &[u32]) -> Vec<(u32, u32)> { words.chunks(2).map(|p| (p[0], p[1])).collect() }

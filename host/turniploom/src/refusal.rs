@@ -93,12 +93,17 @@ impl Refusal {
                 let Some(&[op, marks, a, b, c, x]) = words.get(at..at + 6) else { return format!("{self}") };
                 format!("{self}: {}", record(Ins { op: Op(op), marks, a, b, c, x }))
             }
-            Refusal::Try { index } => match tries.get(index as usize) {
-                Some((s, h)) if s > h => format!("{self}: it starts at {s}, past its handler at {h}"),
-                Some((s, _)) => format!("{self}: it starts at {s}, past the end at {}", words.len() / 6),
-                None => format!("{self}"),
-            },
+            Refusal::Try { index } => self.in_try(tries.get(index as usize).copied(), words.len() / 6),
             _ => format!("{self}"),
+        }
+    }
+
+    /// The refusal with the rule that a try of a code of `n` instructions breaks.
+    fn in_try(self, bad: Option<(usize, usize)>, n: usize) -> String {
+        match bad {
+            Some((s, h)) if s > h => format!("{self}: it starts at {s}, past its handler at {h}"),
+            Some((s, _)) => format!("{self}: it starts at {s}, past the end at {n}"),
+            None => format!("{self}"),
         }
     }
 
@@ -110,6 +115,7 @@ impl Refusal {
                 Some(i) => format!("{self}: {}", chunk_record(i.opcode, i.marks)),
                 None => format!("{self}"),
             },
+            Refusal::Try { index } => self.in_try(chunk.tries.get(index as usize).map(|&(s, h)| (s as usize, h as usize)), n),
             Refusal::Table { table: 1 } => format!("{self}: there are at most 65,536 constants, of the kinds 0 to 3, and a bool is 0 or 1"),
             Refusal::Table { table: 2 } => format!("{self}: phi_map has {} entries, not 0 and not {n}, one for each instruction", chunk.phi_map.len()),
             Refusal::Table { table: 3 } => format!("{self}: the numbers of phi_sources come in pairs"),

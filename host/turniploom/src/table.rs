@@ -46,11 +46,14 @@ calls! {
         first: "the length of the list", second: "full sweeps", third: "abandoned sweeps"
     };
     /// Folds a chunk. kinds and words need max(count, min(65,535, count + folding operators)) entries, phi_map n, phi_sources two for
-    /// each pair or Phi, dead n, remap n + 1. The counts of pair tables are in words.
+    /// each pair or Phi, dead n, remap and landings n + 1. The counts of pair tables are in words. tries are pairs of a start and a
+    /// handler, and follow the code. In strict mode nothing folds that a jump or a handler lands in. Entry t of landings is then how
+    /// many of both land on position t of what is left.
     fold(
         code: &mut [u16], kinds: &mut [u8], words: &mut [u64], constants: usize, phi_map: &mut [u32], phi_map_count: usize,
         phi_sources: &mut [u16], phi_sources_count: usize, stmt_pos: &mut [u32], stmt_pos_count: usize,
-        call_byte_pos: &mut [u32], call_byte_pos_count: usize, dead: &mut [u8], remap: &mut [u32], strict: bool
+        call_byte_pos: &mut [u32], call_byte_pos_count: usize, dead: &mut [u8], remap: &mut [u32], tries: &mut [u32], landings: &mut [u64],
+        strict: bool
     ) -> { first: "instructions", second: "constants", third: "entries of phi_map", fourth: "words of phi_sources" };
     /// Drops the constants that no instruction names; the others keep their order, what names them is renumbered, and freed entries are
     /// 0. scratch needs an entry for each constant, and then holds how many named ones stand before it.

@@ -35,6 +35,41 @@ fn a_result_bool_ships_none() {
 }
 
 #[test]
+fn tries_follow_and_landings_are_told() {
+    // The handler stands on the Mul: in strict mode 2 + 3 folds and the product does not.
+    let mut chunk = chain();
+    chunk.tries = vec![(1, 4), (3, 7), (7, u32::MAX)];
+    let mut plain = chunk.clone();
+    assert_eq!(constant_fold(&mut chunk, true), Ok(vec![0, 0, 1, 0, 1, 1]));
+    assert_eq!(chunk.instructions, [load(2), load(0), i(Mul, 0), i(Minus, 0), i(Jump, 4).with(JUMP)]);
+    assert_eq!(chunk.tries, [(1, 2), (1, 5), (5, u32::MAX)]);
+    assert_eq!(constant_fold(&mut plain, false), Ok(vec![0, 2, 1]));
+    assert_eq!((plain.instructions.len(), plain.tries), (2, vec![(1, 1), (1, 2), (2, u32::MAX)]));
+}
+
+#[test]
+fn a_bad_try() {
+    for bad in [(3, 2), (8, 9)] {
+        let mut chunk = chain();
+        chunk.tries = vec![(0, 1), bad];
+        let as_it_was = chunk.clone();
+        assert_eq!(constant_fold(&mut chunk, true), Err(Refusal::Try { index: 1 }));
+        assert_eq!(chunk, as_it_was);
+    }
+}
+
+/// The Rust's own signature: a chunk without tries is folded as there, one with tries has them moved.
+#[test]
+fn under_the_rusts_signature() {
+    let (mut chunk, mut with) = (chain(), chain());
+    with.tries = vec![(0, 5)];
+    turniploom::optimizer::constant_fold(&mut chunk);
+    turniploom::optimizer::constant_fold(&mut with);
+    assert_eq!((chunk.instructions.clone(), with.tries), (with.instructions, vec![(0, 1)]));
+    assert_eq!((chunk.instructions.len(), chunk.tries), (2, vec![]));
+}
+
+#[test]
 fn in_their_order_and_past_the_count() {
     // LoadName names a constant too; an operand past the constants stays.
     let name = Instruction::naming(LoadName, 3);

@@ -45,12 +45,15 @@ fn no_call_allocates() {
 #[test]
 fn folding_allocates_nothing() {
     let mut code = [LoadConst.0, 2, 0, LoadConst.0, 2, 1, Add.0, 0, 0, Jump.0, 1, 2];
-    let (mut kinds, mut words, mut dead, mut remap) = ([1, 1, 0], [2, 3, 0], [9; 4], [9; 5]);
+    let (mut kinds, mut words, mut dead, mut remap, mut tries, mut landings) = ([1, 1, 0], [2, 3, 0], [9; 4], [9; 5], [0, 3], [9; 6]);
     let before = ALLOCATED.get();
-    let a = abi::fold(&mut code, &mut kinds, &mut words, 2, &mut [0; 4], 0, &mut [], 0, &mut [], 0, &mut [], 0, &mut dead, &mut remap, false);
+    let a = abi::fold(
+        &mut code, &mut kinds, &mut words, 2, &mut [0; 4], 0, &mut [], 0, &mut [], 0, &mut [], 0, &mut dead, &mut remap, &mut tries, &mut landings, false,
+    );
     assert_eq!(ALLOCATED.get(), before);
     assert_eq!((a.refusal, a.first, a.second, code), (0, 2, 3, [LoadConst.0, 2, 2, Jump.0, 1, 1, 0, 0, 0, 0, 0, 0]));
     assert_eq!((kinds, words, dead, remap), ([1, 1, 1], [2, 3, 5], [0, 1, 1, 0], [0, 1, 1, 1, 2]));
+    assert_eq!((tries, landings), ([0, 1], [0, 2, 0, 0, 0, 9]));
 }
 
 #[test]

@@ -50,6 +50,13 @@ fn every_rule_of_a_chunk_has_its_sentence() {
     let mut mapped = Chunk::new(vec![Instruction::new(PopTop, 0)], vec![]);
     mapped.phi_map = vec![0, 0];
     assert_eq!(says(mapped), "table 2 of the chunk breaks its rule: phi_map has 2 entries, not 0 and not 1, one for each instruction");
+    let tried = |s: u32, h: u32| {
+        let mut chunk = Chunk::new(vec![Instruction::new(PopTop, 0)], vec![]);
+        chunk.tries = vec![(0, 1), (s, h)];
+        says(chunk)
+    };
+    assert_eq!(tried(1, 0), "try 1 breaks its rule: it starts at 1, past its handler at 0");
+    assert_eq!(tried(2, 3), "try 1 breaks its rule: it starts at 2, past the end at 1");
     let many = Chunk::new(vec![], vec![Int(0); 65_537]);
     assert_eq!(says(many), "table 1 of the chunk breaks its rule: there are at most 65,536 constants, of the kinds 0 to 3, and a bool is 0 or 1");
 }

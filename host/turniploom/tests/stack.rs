@@ -89,8 +89,10 @@ impl Stacks {
         let (mut code, mut kinds, mut words) = (code.to_vec(), [kinds, &vec![0; n]].concat(), [words, &vec![0; n]].concat());
         let (mut map, mut pairs) = ((0..n as u32).map(|k| k % 5).collect::<Vec<_>>(), [sources, &vec![0; 2 * n]].concat());
         let (mut stmts, mut calls, mut dead, mut remap) = ([0, 7, 3, 9], [1, 2], vec![9; n], vec![9; n + 1]);
+        let (mut tries, mut landings) = ([0, 9, n as u32 / 2, n as u32], vec![9; n + 1]);
         let a = self.make("fold", || abi::fold(
-            &mut code, &mut kinds, &mut words, count, &mut map, n, &mut pairs, sources.len(), &mut stmts, 4, &mut calls, 2, &mut dead, &mut remap, strict,
+            &mut code, &mut kinds, &mut words, count, &mut map, n, &mut pairs, sources.len(), &mut stmts, 4, &mut calls, 2, &mut dead, &mut remap,
+            &mut tries, &mut landings, strict,
         ));
         assert_eq!(a.refusal, 0);
         let mut scratch = vec![9; a.second as usize];

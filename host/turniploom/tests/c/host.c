@@ -59,12 +59,16 @@ static void room(void) {
     uint16_t code[] = {TURNIPLOOM_LoadConst, 0, 0, TURNIPLOOM_Minus, 0, 0, TURNIPLOOM_Phi, 0, 0, TURNIPLOOM_Phi, 0, 0};
     uint8_t kinds[TURNIPLOOM_CONSTANTS_LEN(4, 1)] = {TURNIPLOOM_INT}, dead[TURNIPLOOM_MARKS_LEN(4)];
     uint64_t words[TURNIPLOOM_CONSTANTS_LEN(4, 1)] = {7};
+    uint64_t landings[TURNIPLOOM_ENDS_LEN(4)];
     uint32_t phi_map[TURNIPLOOM_MARKS_LEN(4)] = {0}, remap[TURNIPLOOM_ENDS_LEN(4)], none[1] = {0};
     uint16_t sources[TURNIPLOOM_PHI_SOURCES_LEN(4, 2)] = {1, 2};
     turniploom_answer a;
     turniploom_set_chunk_marks(code, 12);
     a = turniploom_fold(code, 12, kinds, 5, words, 5, 1, phi_map, 4, 4, sources, TURNIPLOOM_PHI_SOURCES_LEN(4, 2), 2, none, 0, 0, none, 0, 0, dead, 4,
-                        remap, TURNIPLOOM_ENDS_LEN(4), false);
+                        remap, TURNIPLOOM_ENDS_LEN(4), none, 0, landings, TURNIPLOOM_ENDS_LEN(4) - 1, false);
+    SHOW(a.refusal == TURNIPLOOM_BUFFER && a.first == 7 && a.second == TURNIPLOOM_ENDS_LEN(4));
+    a = turniploom_fold(code, 12, kinds, 5, words, 5, 1, phi_map, 4, 4, sources, TURNIPLOOM_PHI_SOURCES_LEN(4, 2), 2, none, 0, 0, none, 0, 0, dead, 4,
+                        remap, TURNIPLOOM_ENDS_LEN(4), none, 0, landings, TURNIPLOOM_ENDS_LEN(4), false);
     SHOW(a.refusal == 0 && a.first == 3 && a.second == 2 && words[1] == (uint64_t)-7);
 }
 
@@ -112,12 +116,19 @@ int main(void) {
     static const uint16_t p13[] = {TURNIPLOOM_LoadConst, TURNIPLOOM_NAMES_CONSTANT, 2, TURNIPLOOM_Jump, TURNIPLOOM_IS_JUMP, 1, 0, 0, 0, 0, 0, 0};
     uint8_t kinds[3] = {TURNIPLOOM_INT, TURNIPLOOM_INT, 0}, dead[4];
     uint64_t words[3] = {2, 3, 0};
-    uint32_t phi_map[4] = {0}, remap[5], none[1];
+    uint32_t phi_map[4] = {0}, remap[5], none[1], tries[4] = {0, 1, 2, 1};
+    uint64_t landings[5];
     uint16_t phi_sources[1];
     turniploom_answer folded = turniploom_fold(chunk, 12, kinds, 3, words, 3, 2, phi_map, 4, 0, phi_sources, 0, 0, none, 0, 0, none, 0, 0,
-                                               dead, 4, remap, 5, true);
+                                               dead, 4, remap, 5, tries, 4, landings, 5, true);
+    SHOW(folded.refusal == TURNIPLOOM_TRY && folded.first == 1);
+    folded = turniploom_fold(chunk, 12, kinds, 3, words, 3, 2, phi_map, 4, 0, phi_sources, 0, 0, none, 0, 0, none, 0, 0, dead, 4, remap, 5, tries, 2,
+                             landings, 5, true);
     SHOW(folded.refusal == 0 && folded.first == 4 && folded.second == 2);
-    folded = turniploom_fold(chunk, 12, kinds, 3, words, 3, 2, phi_map, 4, 0, phi_sources, 0, 0, none, 0, 0, none, 0, 0, dead, 4, remap, 5, false);
+    SHOW(tries[1] == 1 && landings[0] == 0 && landings[1] == 1 && landings[2] == 1 && landings[3] == 0 && landings[4] == 0);
+    folded = turniploom_fold(chunk, 12, kinds, 3, words, 3, 2, phi_map, 4, 0, phi_sources, 0, 0, none, 0, 0, none, 0, 0, dead, 4, remap, 5, tries, 2,
+                             landings, 5, false);
+    SHOW(tries[0] == 0 && tries[1] == 1 && landings[0] == 0 && landings[1] == 2 && landings[2] == 0 && landings[4] == 0);
     SHOW(folded.refusal == 0 && folded.first == 2 && folded.second == 3 && memcmp(chunk, p13, sizeof p13) == 0);
     SHOW(kinds[2] == TURNIPLOOM_INT && words[2] == 5 && dead[0] == 0 && dead[1] == 1 && dead[2] == 1 && dead[3] == 0 && remap[4] == 2);
     /* The fold left one load, so one constant is shipped. */

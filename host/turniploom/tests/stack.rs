@@ -114,13 +114,13 @@ impl Dice {
     fn code(&mut self, n: usize) -> Vec<Ins> {
         let mut code = vec![];
         while code.len() < n {
-            let op = self.of(&ALL).0;
+            let op = self.of(&ALL);
             let x = if op == UnpackR { 1 } else { self.below(4) as u8 };
             let mut field = || if self.below(9) == 0 { self.of(&[63, 64, 65, 1_000, 1_023, 1_024]) } else { self.below(9) as u16 };
-            let i = Ins::new(op, field(), field(), field(), x);
-            let wide = [CallGlobalR, CallR, CallMethodR, CallSpreadR].contains(&op) && self.below(2) == 0;
-            if op != ArgsR || !code.is_empty() { code.push(if wide { i.marked(WIDE) } else { i }) }
-            if wide { code.push(Ins::new(ArgsR, 0, 1, 2, 3)) }
+            let i = Ins::unmarked(op, field(), field(), field(), x);
+            let wide = op.is_call() && self.below(2) == 0;
+            if op != ArgsR || !code.is_empty() { code.push(if wide { i.with(WIDE) } else { i }) }
+            if wide { code.push(Ins::unmarked(ArgsR, 0, 1, 2, 3)) }
         }
         code
     }
@@ -129,10 +129,10 @@ impl Dice {
     fn chunk(&mut self, n: usize) -> Vec<u16> {
         let operators = [Add, Sub, Mul, Div, Mod, FloorDiv, Eq, NotEq, Lt, Gt, LtEq, GtEq, BitAnd, BitOr, BitXor, Shl, Shr, Not, Minus];
         (0..n).flat_map(|_| match self.below(9) {
-            0..4 => [LoadConst, 2, self.below(12) as u16],
-            4..7 => [self.of(&operators), 0, 0],
-            7 => [Phi, 0, self.below(4) as u16],
-            _ => [Jump, 1, self.below(n + 2) as u16],
+            0..4 => [LoadConst.0, 2, self.below(12) as u16],
+            4..7 => [self.of(&operators).0, 0, 0],
+            7 => [Phi.0, 0, self.below(4) as u16],
+            _ => [Jump.0, 1, self.below(n + 2) as u16],
         }).collect()
     }
 }

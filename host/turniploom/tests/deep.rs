@@ -28,14 +28,14 @@ fn every_restart_on_a_small_thread() {
 #[test]
 fn restarts_that_are_far_apart() {
     for gap in [0, 8_000, 8_188, 8_189, 8_190, 8_191, 8_192, 8_193, 30_000] {
-        let mut code = vec![Ins::new(LoadGlobalR, 0, 7, 0, 0)];
+        let mut code = vec![Ins::unmarked(LoadGlobalR, 0, 7, 0, 0)];
         for _ in 0..2 {
             code.extend(restarts(1)[1..5].iter().copied());
-            code.extend(vec![Ins::new(Move, 2, 3, 0, 0); gap]);
+            code.extend(vec![Ins::unmarked(Move, 2, 3, 0, 0); gap]);
         }
-        code.push(Ins::new(CallR, 0, 0, 0, 0));
+        code.push(Ins::unmarked(CallR, 0, 0, 0, 0));
         assert_eq!(traced(code.clone(), 1 << 16), (1, 7), "{gap} apart");
-        code[0] = Ins::new(LoadGlobalR, 1, 7, 0, 0);
+        code[0] = Ins::unmarked(LoadGlobalR, 1, 7, 0, 0);
         assert_eq!(traced(code, 1 << 16), (0, 0), "{gap} apart");
     }
 }

@@ -71,14 +71,17 @@ impl Stacks {
         self.make("targets", || abi::targets(code, tries, &mut bytes));
     }
 
-    /// The kept registers, on both routes.
+    /// The kept registers, on both routes and at both widths.
     fn kept(&mut self, code: &[u16], tries: &[u32], regs: usize) {
         let n = code.len() / 6;
         let (mut rows, mut offsets) = (vec![9; (n + 1) * abi::row_words(regs)], vec![9; n + 1]);
+        let mut rows32 = vec![9; (n + 1) * abi::row_words32(regs)];
         for wide in [false, true] {
             let short = self.make("kept", || abi::kept(code, regs, tries, wide, &mut rows, &mut offsets, &mut []));
             let mut list = vec![9; if short.refusal == 0 { 0 } else { short.second as usize }];
             let a = self.make("kept", || abi::kept(code, regs, tries, wide, &mut rows, &mut offsets, &mut list));
+            assert_eq!((a.refusal, a.first), (0, list.len() as u64));
+            let a = self.make("kept32", || abi::kept32(code, regs, tries, wide, &mut rows32, &mut offsets, &mut list));
             assert_eq!((a.refusal, a.first), (0, list.len() as u64));
         }
     }
@@ -114,13 +117,13 @@ impl Dice {
     fn code(&mut self, n: usize) -> Vec<Ins> {
         let mut code = vec![];
         while code.len() < n {
-            let op = self.of(&ALL).0;
+            let op = self.of(&ALL);
             let x = if op == UnpackR { 1 } else { self.below(4) as u8 };
             let mut field = || if self.below(9) == 0 { self.of(&[63, 64, 65, 1_000, 1_023, 1_024]) } else { self.below(9) as u16 };
-            let i = Ins::new(op, field(), field(), field(), x);
-            let wide = [CallGlobalR, CallR, CallMethodR, CallSpreadR].contains(&op) && self.below(2) == 0;
-            if op != ArgsR || !code.is_empty() { code.push(if wide { i.marked(WIDE) } else { i }) }
-            if wide { code.push(Ins::new(ArgsR, 0, 1, 2, 3)) }
+            let i = Ins::unmarked(op, field(), field(), field(), x);
+            let wide = op.is_call() && self.below(2) == 0;
+            if op != ArgsR || !code.is_empty() { code.push(if wide { i.with(WIDE) } else { i }) }
+            if wide { code.push(Ins::unmarked(ArgsR, 0, 1, 2, 3)) }
         }
         code
     }
@@ -129,10 +132,10 @@ impl Dice {
     fn chunk(&mut self, n: usize) -> Vec<u16> {
         let operators = [Add, Sub, Mul, Div, Mod, FloorDiv, Eq, NotEq, Lt, Gt, LtEq, GtEq, BitAnd, BitOr, BitXor, Shl, Shr, Not, Minus];
         (0..n).flat_map(|_| match self.below(9) {
-            0..4 => [LoadConst, 2, self.below(12) as u16],
-            4..7 => [self.of(&operators), 0, 0],
-            7 => [Phi, 0, self.below(4) as u16],
-            _ => [Jump, 1, self.below(n + 2) as u16],
+            0..4 => [LoadConst.0, 2, self.below(12) as u16],
+            4..7 => [self.of(&operators).0, 0, 0],
+            7 => [Phi.0, 0, self.below(4) as u16],
+            _ => [Jump.0, 1, self.below(n + 2) as u16],
         }).collect()
     }
 }
@@ -160,7 +163,7 @@ fn no_call_needs_more_than_is_stated() {
         let tries = [0, 9, n as u32 / 2, n as u32];
         for at in 0..=n { stacks.at(code, at) }
         stacks.whole(code, &tries);
-        for regs in [0, 1, 64, 65, 1_024] { stacks.kept(code, &tries, regs) }
+        for regs in [0, 1, 32, 33, 64, 65, 1_024] { stacks.kept(code, &tries, regs) }
     }
     let (kinds, ints) = ([1, 1, 1, 2, 2, 2, 3, 3, 0], [7, 2, 1, 2.5f64.to_bits(), (-0.0f64).to_bits(), f64::NAN.to_bits(), 1, 0, 5]);
     for n in (0..60).chain([4_000]) {

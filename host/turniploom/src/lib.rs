@@ -20,12 +20,16 @@ pub mod block;
 mod calls;
 mod chunk;
 mod ins;
+mod level;
 pub mod op;
 pub mod optimizer;
 mod refusal;
+mod saver;
 
 pub use calls::*;
 pub use chunk::*;
 pub use ins::{Code, DUNDER, Ins, Lowered, REGISTER, WIDE, marked};
+pub use level::{Level, level};
 pub use op::Op;
 pub use refusal::Refusal;
+pub use saver::Saver;

@@ -5,10 +5,12 @@ use mathlib.Core.List.{List, [], _∷_}
 use Prim.Native.Nat.{ℕ, zero, suc, _*_, _/_, _%_, _≤_, _<_, min, zero-le}
 use native.Mathlib.Decide.{ℕ-discrete}
 use native.Mathlib.Omega.{arith}
+use types.Run.{OneOf}
 use borrow.Author.Tests.{eqb-true, eqb-false, ne-eqb, ltb-true, not-true}
 use lib.Dec.{eqb}
 use Rattle.laws.specs.Page.{Row, _↝_, look}
 use Rattle.laws.proofs.Branch.{and-true}
+use Rattle.laws.proofs.Keys.{sorted, row, apart, named, unnamed, Rest}
 use Rattle.code.specs.Op.{Jump, ForIter, JumpIfFalse, JumpIfFalseOrPop, JumpIfTrueOrPop, JumpIfFalseR, JumpUnlessLt, JumpUnlessLtEq, JumpUnlessGt, JumpUnlessGtEq, JumpUnlessEq, JumpUnlessNotEq, ReturnR, StoreGlobalR, StoreGlobalAtR, LoadGlobalR, LoadGlobalAtR, UnbindR, WrapCellR, Move, MinusR, NotR, LenR, GetAttrR, LoadCellR, AddR, InPlaceAddR, SubR, InPlaceSubR, MulR, DivR, ModR, FloorDivR, BitAndR, BitOrR, BitXorR, ShlR, ShrR, LtR, LtEqR, GtR, GtEqR, EqR, NotEqR, IsR, IsNotR, PowR, InR, NotInR, GetItemR, SuperR, StoreCellR, SetAttrR, CallSpreadR, ListPushR, StoreItemR, ArgsR, AppendR, OwnResetR, ListAppendR, SetAddR, MapAddR, PopTop, PushRegs, StoreTopR, UnpackR, CallGlobalR, CallR, CallMethodR, Raise, ForIterR, Del, WithEnter, WithExit, WithJudge}
 use Rattle.code.specs.Ins.{insAt, count}
 use Rattle.code.specs.declared.Ins.{Ins}
@@ -64,6 +66,17 @@ each f (suc n) t o l =
 pub calm-is : (o : ℕ) → o ≤ 190 → look 0 o calms ≡ calmOf o
 unfolding calms calmOf ruleOf page caseOf cases
 calm-is o l = eqb-true _ _ (each (λ k. eqb (look 0 k calms) (calmOf k)) 191 refl o (omega arith))
+
+calms-apart : apart 0 calms ≡ true
+unfolding calms
+calms-apart = refl
+
+-- an arm, and all the others
+pub calm-arm : (j o : ℕ) → o ≤ 190 → OneOf (sorted (row 0 calms j .ops)) o → row 0 calms j .rule ≡ calmOf o
+calm-arm j o l e = named 0 calms calms-apart j o e ∙ calm-is o l
+
+pub calm-rest : (o : ℕ) → o ≤ 190 → Rest 0 o (Unit {0}) calms → 0 ≡ calmOf o
+calm-rest o l e = unnamed 0 calms o e ∙ calm-is o l
 
 -- ---- what the bits say
 

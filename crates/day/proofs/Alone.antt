@@ -29,7 +29,8 @@ module _ (w : List ℕ) (regs : ℕ) (tries t old : List ℕ) where
   answer (stage.Count n) (found.Move s) = Move s
   answer (stage.Count n) found.Fine = Is (stepsOf t) (levelsIn w t (stepsOf t))
 
-  settled : {new : List ℕ} {r : DayAnswer} → Day w regs tries t old new r → (new ≡ left (stagesOf w regs tries (length old)) (verdictOf w tries t)) × (r ≡ answer (stagesOf w regs tries (length old)) (verdictOf w tries t))
+  settled : {new : List ℕ} {r : DayAnswer} → Day w regs tries t old new r
+      → (new ≡ left (stagesOf w regs tries (length old)) (verdictOf w tries t)) × (r ≡ answer (stagesOf w regs tries (length old)) (verdictOf w tries t))
   unfolding left answer
   settled (refused {r = r} e) = (sym (ap (λ (c : Checked). left c (verdictOf w tries t)) e), sym (ap (λ (c : Checked). answer c (verdictOf w tries t)) e))
   settled (check e f) = (sym (ap₂ left e f), sym (ap₂ answer e f))

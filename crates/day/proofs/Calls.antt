@@ -24,7 +24,8 @@ use Rattle.steps.specs.Step.{StepAt, afterOf}
 use Rattle.steps.specs.declared.Step.{Step}
 use Rattle.day.specs.declared.Verdict.{Verdict}
 use Rattle.day.specs.declared.Verdict.the-variants.{Fine, Check, Filler, Move}
-use Rattle.day.specs.Trace.{wordAt, slotAt, fillerAt, weighed, badCheck, follows, badFill, mayGo, badStep, firstStep, blocksOf, wrongIn, verdictFrom, verdictOf}
+use Rattle.day.specs.Trace.{wordAt, slotAt, fillerAt, weighed, badCheck, follows, badFill}
+use Rattle.day.specs.Trace.{mayGo, badStep, firstStep, blocksOf, wrongIn, verdictFrom, verdictOf}
 
 -- ---- slots
 
@@ -70,7 +71,8 @@ module _ (t : List ℕ) (at : ℕ) where
 
 pub ruleset weighings = (weighing-start, weighing-more, weighing-end)
 
-pub check-is : (t : List ℕ) (b sum want : ℕ) → b < length t / 512 → sum ≡ weighed t (512 * b) 508 → want ≡ wordAt t (512 * b + 508) → not (eqb sum want) ≡ badCheck t b
+pub check-is : (t : List ℕ) (b sum want : ℕ) → b < length t / 512 → sum ≡ weighed t (512 * b) 508 → want ≡ wordAt t (512 * b + 508)
+    → not (eqb sum want) ≡ badCheck t b
 unfolding badCheck
 check-is t b sum want h p q = rw (le-ltb (length t - 512 * b) 512 (omega arith), p, q)
 
@@ -91,7 +93,9 @@ module _ (tries : List ℕ) (n p q : ℕ) where
   module _ (i : ℕ) (h : Handling tries n p q i) where
     module _ (l : i + 1 < length tries) (a b to : ℕ) (x : a ≡ getD tries i 0) (y : b ≡ getD tries (i + 1) 0) (z : to ≡ min b n) where
       two : drop i tries ≡ a ∷ (b ∷ drop (i + 2) tries)
-      two = drop-cons tries i 0 (omega arith) ∙ ap₂ (λ (v : ℕ) (r : List ℕ). v ∷ r) (sym x) (ap (λ (k : ℕ). drop k tries) (sym (add-one i)) ∙ drop-cons tries (i + 1) 0 l ∙ ap₂ (λ (v k : ℕ). v ∷ drop k tries) (sym y) next)
+      two = drop-cons tries i 0 (omega arith)
+          ∙ ap₂ (λ (v : ℕ) (r : List ℕ). v ∷ r) (sym x)
+          (ap (λ (k : ℕ). drop k tries) (sym (add-one i)) ∙ drop-cons tries (i + 1) 0 l ∙ ap₂ (λ (v k : ℕ). v ∷ drop k tries) (sym y) next)
         where
           next : suc (i + 1) ≡ i + 2
           next = omega arith
@@ -123,7 +127,8 @@ among-two true false q x y = refl
 among-two false true q x y = or-false (eqb q y)
 among-two false false q x y = refl
 
-pub go-is : (w tries : List ℕ) (p q : ℕ) (s : Step) → StepAt w p s → (i : Ins) → i ≡ insAt w p → (level : Bool) → level ≡ isLevel i → (store : ℕ) → store ≡ storeOf w p
+pub go-is : (w tries : List ℕ) (p q : ℕ) (s : Step) → StepAt w p s → (i : Ins) → i ≡ insAt w p → (level : Bool) → level ≡ isLevel i → (store : ℕ)
+    → store ≡ storeOf w p
     → (caught : Bool) → caught ≡ among q (handlersOf (count w) p tries)
     → ((((s .on && eqb q (p + 1)) || (s .to && eqb q (s .target))) || (level && caught)) || (eqb (i .marks % 2) 1 && eqb q store)) ≡ mayGo w tries p q
 unfolding mayGo

@@ -66,7 +66,15 @@ byte-le true = omega arith
 byte-le false = omega arith
 
 pub low-second : (regs : ℕ) (l l′ : List ℕ) (t : Bool) (r : ℕ) → Lower regs l → Once regs l l′ t r → Low regs l′
-low-second regs l l′ t r h b = record { room = omega (arith, h .room, b .held .same); each = λ p k. omega (arith, h .each p k, b .each p k, byte-le (t && eqb p r)) }
+low-second regs l l′ t r h b = record {
+  room = omega (arith, h .room, b .held .same);
+  each = λ p k. omega (
+    arith,
+    h .each p k,
+    b .each p k,
+    byte-le (t && eqb p r),
+  );
+}
 
 pub low-third : (regs : ℕ) (l l′ l″ : List ℕ) (t : Bool) (r : ℕ) (u : Bool) (q : ℕ) → Lower regs l → Once regs l l′ t r → Once regs l′ l″ u q → Low regs l″
 low-third regs l l′ l″ t r u q h b d = record {
@@ -128,8 +136,10 @@ pub three-counts : (regs : ℕ) (x y z : Bool) (u v r : ℕ) (l l₁ l₂ l₃ :
     → Thrice regs l l₃ x u y v z r
 three-counts regs x y z u v r l l₁ l₂ l₃ b₁ b₂ b₃ = record {
   held = held-trans regs l l₂ l₃ (held-trans regs l l₁ l₂ (b₁ .held) (b₂ .held)) (b₃ .held);
-  each = λ p h. b₃ .each p h ∙ ap₂ (λ (m : ℕ) (t : Bool). m + boolByte t) (b₂ .each p h ∙ ap₂ (λ (m : ℕ) (t : Bool). m + boolByte t) (b₁ .each p h) (second p)) (third p)
-      ∙ sum (getD l p 0) (boolByte (X p)) (boolByte (Y p && not (X p))) (boolByte ((Z p && not (X p)) && not (Y p))) ∙ ap (λ (m : ℕ). getD l p 0 + m) (three (X p) (Y p) (Z p));
+  each = λ p h. b₃ .each p h
+      ∙ ap₂ (λ (m : ℕ) (t : Bool). m + boolByte t) (b₂ .each p h ∙ ap₂ (λ (m : ℕ) (t : Bool). m + boolByte t) (b₁ .each p h) (second p)) (third p)
+      ∙ sum (getD l p 0) (boolByte (X p)) (boolByte (Y p && not (X p))) (boolByte ((Z p && not (X p)) && not (Y p)))
+      ∙ ap (λ (m : ℕ). getD l p 0 + m) (three (X p) (Y p) (Z p));
 }
   where
     X : ℕ → Bool
@@ -195,7 +205,8 @@ module _ (w t : List ℕ) (regs : ℕ) (old : List ℕ) (m : ℕ) where
     unfolding levelsIn
     counting-fits level x e = record { fits = omega (arith, c .met, many-le (λ s. isLevel (insAt w (slotAt t s))) s, c .le, c .walk .few, byte-le level) }
 
-    pub counting-more : s < m → (k : ℕ) → k ≡ slotAt t s → (next : List ℕ) → Stepped regs new next w k → (i : Ins) → i ≡ insAt w k → (level : Bool) → level ≡ isLevel i → (x : ℕ) → x ≡ boolByte level
+    pub counting-more : s < m → (k : ℕ) → k ≡ slotAt t s → (next : List ℕ) → Stepped regs new next w k → (i : Ins) → i ≡ insAt w k → (level : Bool)
+        → level ≡ isLevel i → (x : ℕ) → x ≡ boolByte level
         → Counting w t regs old next (levels + x) m (s + 1)
     unfolding readsIn levelsIn many
     counting-more h k e next b i ie level le x xe = record {
@@ -217,7 +228,15 @@ pub ruleset countings = (counting-start, counting-more, counting-end)
 
 -- reads set to 0 first
 pub zeros-of : (regs : ℕ) (old new : List ℕ) → regs ≤ length old → new ≡ replicate regs 0 ++ drop regs old → Zeros regs new
-zeros-of regs old new h e = record { room = omega (arith, ap length e, cleared-length regs old h); each = λ p k. ap (λ (x : List ℕ). getD x p 0) e ∙ cleared-at regs old p k }
+zeros-of regs old new h e = record {
+  room = omega (
+    arith,
+    ap length e,
+    cleared-length regs old h,
+  );
+  each = λ p k. ap (λ (x : List ℕ). getD x p 0) e ∙ cleared-at regs old p k;
+}
 
-pub counted-over : (w t : List ℕ) (regs : ℕ) (old mid : List ℕ) (m : ℕ) (new : List ℕ) (levels : ℕ) → mid ≡ replicate regs 0 ++ drop regs old → Counted w t regs mid m new levels → Counted w t regs old m new levels
+pub counted-over : (w t : List ℕ) (regs : ℕ) (old mid : List ℕ) (m : ℕ) (new : List ℕ) (levels : ℕ) → mid ≡ replicate regs 0 ++ drop regs old
+    → Counted w t regs mid m new levels → Counted w t regs old m new levels
 counted-over w t regs old mid m new levels e c = record { reads = c .reads ∙ ap (λ (x : List ℕ). table (readsIn w t m) regs ++ x) (ap (drop regs) e ∙ cleared-tail regs old); met = c .met }

@@ -73,7 +73,8 @@ module _ (w : List ℕ) (regs : ℕ) (tries : List ℕ) (a n : ℕ) (h : stagesO
 pub day-whole : (w : List ℕ) (regs : ℕ) (tries : List ℕ) (a n : ℕ) → stagesOf w regs tries a ≡ stage.Count n → Whole w
 day-whole w regs tries a n h = day-valid w regs tries a n h .whole
 
-module _ (w : List ℕ) (regs : ℕ) (tries t old : List ℕ) (c v u s : Checked) (e : c ≡ checkOf w) (f : v ≡ registersOf c regs) (g : u ≡ triedOf v tries) (k : s ≡ roomOf u 1 (length old) regs) where
+module _ (w : List ℕ) (regs : ℕ) (tries t old : List ℕ) (c v u s : Checked) (e : c ≡ checkOf w) (f : v ≡ registersOf c regs) (g : u ≡ triedOf v tries)
+    (k : s ≡ roomOf u 1 (length old) regs) where
   chain : s ≡ stagesOf w regs tries (length old)
   unfolding stagesOf
   chain = k ∙ ap (λ (x : Checked). roomOf x 1 (length old) regs) (g ∙ ap (λ (x : Checked). triedOf x tries) (f ∙ ap (λ (x : Checked). registersOf x regs) e))
@@ -81,15 +82,18 @@ module _ (w : List ℕ) (regs : ℕ) (tries t old : List ℕ) (c v u s : Checked
   pub day-no : (r : Refusal) → s ≡ stage.No r → Day w regs tries t old old (No r)
   day-no r h = refused (sym chain ∙ h)
 
-pub day-on : (w : List ℕ) (regs : ℕ) (tries : List ℕ) (a : ℕ) (c v u s : Checked) → c ≡ checkOf w → v ≡ registersOf c regs → u ≡ triedOf v tries → s ≡ roomOf u 1 a regs → (n : ℕ) → s ≡ stage.Count n
+pub day-on : (w : List ℕ) (regs : ℕ) (tries : List ℕ) (a : ℕ) (c v u s : Checked) → c ≡ checkOf w → v ≡ registersOf c regs → u ≡ triedOf v tries
+    → s ≡ roomOf u 1 a regs → (n : ℕ) → s ≡ stage.Count n
     → stagesOf w regs tries a ≡ stage.Count (count w)
 unfolding stagesOf
 day-on w regs tries a c v u s e f g k n h =
-    day-count w regs tries a n (sym (k ∙ ap (λ (x : Checked). roomOf x 1 a regs) (g ∙ ap (λ (x : Checked). triedOf x tries) (f ∙ ap (λ (x : Checked). registersOf x regs) e))) ∙ h)
+    day-count w regs tries a n
+    (sym (k ∙ ap (λ (x : Checked). roomOf x 1 a regs) (g ∙ ap (λ (x : Checked). triedOf x tries) (f ∙ ap (λ (x : Checked). registersOf x regs) e))) ∙ h)
 
 -- ---- the trace
 
-module _ (w : List ℕ) (regs : ℕ) (tries t old : List ℕ) (ok : stagesOf w regs tries (length old) ≡ stage.Count (count w)) (v : Verdict) (e : v ≡ verdictOf w tries t) where
+module _ (w : List ℕ) (regs : ℕ) (tries t old : List ℕ) (ok : stagesOf w regs tries (length old) ≡ stage.Count (count w)) (v : Verdict)
+    (e : v ≡ verdictOf w tries t) where
   pub day-check : (b : ℕ) → v ≡ found.Check b → Day w regs tries t old old (Check b)
   day-check b h = check ok (sym e ∙ h)
 
@@ -99,7 +103,8 @@ module _ (w : List ℕ) (regs : ℕ) (tries t old : List ℕ) (ok : stagesOf w r
   pub day-move : (s : ℕ) → v ≡ found.Move s → Day w regs tries t old old (Move s)
   day-move s h = move ok (sym e ∙ h)
 
-  pub day-told : v ≡ found.Fine → (m : ℕ) → m ≡ stepsOf t → (new : List ℕ) (levels : ℕ) → Counted w t regs old m new levels → Day w regs tries t old new (Is m levels)
+  pub day-told : v ≡ found.Fine → (m : ℕ) → m ≡ stepsOf t → (new : List ℕ) (levels : ℕ) → Counted w t regs old m new levels
+      → Day w regs tries t old new (Is m levels)
   day-told h m p new levels d = rw (d .reads, d .met, p) (told ok (sym e ∙ h))
 
 -- every step of a recorded run is a position of the code
@@ -108,7 +113,8 @@ unfolding stepsOf
 steps-below w tries t r s l = r .below s (omega (arith, first-le (fillerAt t) (127 * (length t / 512)) 0))
     (before-first (fillerAt t) (127 * (length t / 512)) 0 s zero-le (omega arith))
 
-pub day-walk : (w : List ℕ) (regs : ℕ) (tries t : List ℕ) (a : ℕ) → stagesOf w regs tries a ≡ stage.Count (count w) → (v : Verdict) → v ≡ verdictOf w tries t → v ≡ found.Fine → (m : ℕ) → m ≡ stepsOf t
+pub day-walk : (w : List ℕ) (regs : ℕ) (tries t : List ℕ) (a : ℕ) → stagesOf w regs tries a ≡ stage.Count (count w) → (v : Verdict) → v ≡ verdictOf w tries t
+    → v ≡ found.Fine → (m : ℕ) → m ≡ stepsOf t
     → length t < 18446744073709551616 → Walkable w t m
 unfolding stepsOf
 day-walk w regs tries t a ok v e h m p short = record {

@@ -16,7 +16,8 @@ use Rattle.laws.proofs.Walk.{none-passed}
 use Rattle.code.specs.Ins.{count}
 use Rattle.day.specs.declared.Verdict.{Verdict}
 use Rattle.day.specs.declared.Verdict.the-variants.{Fine, Check, Filler, Move}
-use Rattle.day.specs.Trace.{wordAt, slotAt, fillerAt, weighed, badCheck, follows, badFill, mayGo, badStep, firstStep, blocksOf, wrongIn, verdictFrom, verdictOf, Recorded}
+use Rattle.day.specs.Trace.{wordAt, slotAt, fillerAt, weighed, badCheck, follows, badFill}
+use Rattle.day.specs.Trace.{mayGo, badStep, firstStep, blocksOf, wrongIn, verdictFrom, verdictOf, Recorded}
 
 module _ (w tries t : List ℕ) where
   -- a block with nothing wrong
@@ -60,7 +61,8 @@ module _ (w tries t : List ℕ) where
 
     whole : (b : ℕ) → b < blocksOf t → 512 ≤ length t - 512 * b
     unfolding badCheck
-    whole b h = ltb-false (length t - 512 * b) 512 (or-left (ltb (length t - 512 * b) 512) (not (eqb (weighed t (512 * b) 508) (wordAt t (512 * b + 508)))) (at b h .check))
+    whole b h = ltb-false (length t - 512 * b) 512
+        (or-left (ltb (length t - 512 * b) 512) (not (eqb (weighed t (512 * b) 508) (wordAt t (512 * b + 508)))) (at b h .check))
 
     even : length t % 512 ≡ 0
     even = go (decLt (length t / 512) (blocksOf t))
@@ -115,7 +117,8 @@ module _ (w tries t : List ℕ) where
           go true e = e
           go false e = refl
 
-      near : cond (eqb s 0) (not (eqb (slotAt t s) 0)) (cond (leb (count w) (slotAt t (s - 1))) true (not (mayGo w tries (slotAt t (s - 1)) (slotAt t s)))) ≡ false
+      near : cond (eqb s 0) (not (eqb (slotAt t s) 0))
+          (cond (leb (count w) (slotAt t (s - 1))) true (not (mayGo w tries (slotAt t (s - 1)) (slotAt t s)))) ≡ false
       near = let e = open-step in rw (lt-leb (count w) (slotAt t s) inside) at e
 
     pub fine-recorded : Recorded w tries t
@@ -189,7 +192,13 @@ module _ (w tries t : List ℕ) (r : Recorded w tries t) where
       tail : (s : ℕ) → s < 127 * (length t / 512) → fillerAt t s ≡ false
           → cond (leb (count w) (slotAt t s)) true (cond (eqb s 0) (not (eqb (slotAt t s) 0)) (cond (leb (count w) (slotAt t (s - 1))) true (not (mayGo w tries (slotAt t (s - 1)) (slotAt t s))))) ≡ false
       tail zero h n = rw (lt-leb (count w) (slotAt t 0) (r .below 0 h n), r .starts h n)
-      tail (suc s) h n = rw (lt-leb (count w) (slotAt t (suc s)) (r .below (suc s) h n), ne-eqb (suc s) 0 (λ z. omega arith), less, lt-leb (count w) (slotAt t s) (r .below s (omega arith) (plain s h n)), r .moves s h n)
+      tail (suc s) h n = rw (
+        lt-leb (count w) (slotAt t (suc s)) (r .below (suc s) h n),
+        ne-eqb (suc s) 0 (λ z. omega arith),
+        less,
+        lt-leb (count w) (slotAt t s) (r .below s (omega arith) (plain s h n)),
+        r .moves s h n,
+      )
         where
           less : suc s - 1 ≡ s
           less = omega arith

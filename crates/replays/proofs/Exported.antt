@@ -53,7 +53,8 @@ module _ (w : List ℕ) (regs : ℕ) (tries t old : List ℕ) where
   lent-of (move p q) h = refl
   lent-of (told p q) h = absurd (h refl)
 
-  zero-of : {new : List ℕ} {v : DayAnswer} → Day w regs tries t old new v → stagesOf w regs tries (length old) ≡ stage.Count (count w) → verdictOf w tries t ≡ found.Fine
+  zero-of : {new : List ℕ} {v : DayAnswer} → Day w regs tries t old new v → stagesOf w regs tries (length old) ≡ stage.Count (count w)
+      → verdictOf w tries t ≡ found.Fine
       → dayTold v .refusal ≡ 0
   zero-of (refused p) s f = let z : _≡_ {A = ℕ} 0 1 = cc in absurd (omega arith)
   zero-of (check p q) s f = let z : _≡_ {A = ℕ} 0 1 = cc in absurd (omega arith)

@@ -11,7 +11,8 @@ once-more-requires-2 : tie.Need-once-more-requires-2
 once-more-requires-2 c κs = search (needs, low-second)
 
 once-more-requires-3 : tie.Need-once-more-requires-3
-once-more-requires-3 c κs = low-third _ _ _ _ _ _ _ _ (c .before .before .before .before .before .before .before .before .before .before .pre) (c .before .before .before .before .before .before .before .once-more .ensures) (c .before .before .before .once-more2 .ensures)
+once-more-requires-3 c κs = low-third _ _ _ _ _ _ _ _ (c .before .before .before .before .before .before .before .before .before .before .pre)
+    (c .before .before .before .before .before .before .before .once-more .ensures) (c .before .before .before .once-more2 .ensures)
 
 same-length : tie.Need-same-length
 same-length c = search needs

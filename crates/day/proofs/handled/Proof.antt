@@ -52,7 +52,13 @@ loop-less : tie.Need-loop-less Inv-loop μ-loop
 loop-less c = search needs
 
 loop-again : tie.Need-loop-again Inv-loop μ-loop
-loop-again c = handling-more (c .before .before .before .before .before .before .before .before .before .args .tries .now) (c .before .before .before .before .before .before .before .before .before .args .n) (c .before .before .before .before .before .before .before .before .before .args .p) (c .before .before .before .before .before .before .before .before .before .args .q) (c .before .before .before .before .before .before .before .loop .i) (c .before .before .before .before .before .before .before .loop .inv) (c .before .before .before .before .before .before .loop-test .taken) (c .before .before .before .before .long .result) (c .before .before .long2 .result) (c .before .least .result) (c .before .before .before .before .long .ensures) (c .before .before .long2 .ensures) (c .before .least .ensures) (c .if1 .left)
+loop-again c = handling-more (c .before .before .before .before .before .before .before .before .before .args .tries .now)
+    (c .before .before .before .before .before .before .before .before .before .args .n)
+    (c .before .before .before .before .before .before .before .before .before .args .p)
+    (c .before .before .before .before .before .before .before .before .before .args .q) (c .before .before .before .before .before .before .before .loop .i)
+    (c .before .before .before .before .before .before .before .loop .inv) (c .before .before .before .before .before .before .loop-test .taken)
+    (c .before .before .before .before .long .result) (c .before .before .long2 .result) (c .before .least .result)
+    (c .before .before .before .before .long .ensures) (c .before .before .long2 .ensures) (c .before .least .ensures) (c .if1 .left)
 
 returns-2 : tie.Need-returns-2 Inv-loop μ-loop
 returns-2 c = search (needs, handlings)

@@ -28,10 +28,18 @@ add-m : tie.Need-add-m Inv-loop μ-loop
 add-m c = search needs
 
 mul-sum : tie.Need-mul-sum Inv-loop μ-loop
-mul-sum c = omega (arith, weighing-product (c .before .before .before .before .before .args .t .now) (c .before .before .before .before .before .args .at) _ (c .before .before .before .loop .m) (c .before .before .before .loop .inv) (c .byte .result) (c .byte .ensures .1) (c .before .before .loop-test .taken))
+mul-sum c = omega (
+  arith,
+  weighing-product (c .before .before .before .before .before .args .t .now) (c .before .before .before .before .before .args .at) _
+      (c .before .before .before .loop .m) (c .before .before .before .loop .inv) (c .byte .result) (c .byte .ensures .1) (c .before .before .loop-test .taken),
+)
 
 add-sum : tie.Need-add-sum Inv-loop μ-loop
-add-sum c = omega (arith, weighing-product (c .before .before .before .before .before .args .t .now) (c .before .before .before .before .before .args .at) _ (c .before .before .before .loop .m) (c .before .before .before .loop .inv) (c .byte .result) (c .byte .ensures .1) (c .before .before .loop-test .taken))
+add-sum c = omega (
+  arith,
+  weighing-product (c .before .before .before .before .before .args .t .now) (c .before .before .before .before .before .args .at) _
+      (c .before .before .before .loop .m) (c .before .before .before .loop .inv) (c .byte .result) (c .byte .ensures .1) (c .before .before .loop-test .taken),
+)
 
 loop-less : tie.Need-loop-less Inv-loop μ-loop
 loop-less c = search needs

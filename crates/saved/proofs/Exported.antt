@@ -104,9 +104,10 @@ made regs head head′ area file r h a f x zero = go (decLt 64 regs)
     go : Dec (64 < regs) → Open (saver head′ area file) 0 × (regsOf (saver head′ area file) ≡ regs)
     go (yes n) = let e = told in let z : _≡_ {A = ℕ} 3 0 = rw (lt-ltb 64 regs n) at e in absurd (omega arith)
     go (no n) =
-        let e : head′ ≡ madeHead head regs = x .allowed .words in
-        (subst (λ (y : List ℕ). Open (saver y area file) 0) (sym e) (made-open head area file regs h a f (omega arith)),
-          ap (λ (y : List ℕ). getD y 0 0) e ∙ rw (le-ltb 64 regs (omega arith)) zeroth)
+        let e : head′ ≡ madeHead head regs = x .allowed .words in (
+          subst (λ (y : List ℕ). Open (saver y area file) 0) (sym e) (made-open head area file regs h a f (omega arith)),
+          ap (λ (y : List ℕ). getD y 0 0) e ∙ rw (le-ltb 64 regs (omega arith)) zeroth,
+        )
       where
         zeroth : getD (set (set head 0 regs) 1 0) 0 0 ≡ regs
         zeroth = getD-set-other (set head 0 regs) 1 0 0 0 (λ z. omega arith) ∙ getD-set-same head 0 regs 0 (omega arith)

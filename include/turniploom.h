@@ -56,7 +56,10 @@ enum turniploom_refusal {
     TURNIPLOOM_TRY = 4,       /* a try breaks its rule: first index */
     TURNIPLOOM_BUFFER = 5,    /* a lent buffer is too short: buffer, length needed */
     TURNIPLOOM_POSITION = 6,  /* a position at the end or beyond, or not one of the four calls: position */
-    TURNIPLOOM_TABLE = 7      /* a table of the chunk breaks its rule: table number */
+    TURNIPLOOM_TABLE = 7,     /* a table of the chunk breaks its rule: table number */
+    TURNIPLOOM_CHECK = 10,    /* a block of a trace is cut short, or its check is wrong: first block */
+    TURNIPLOOM_FILLER = 11,   /* a trace has a filler before a position: the position's block */
+    TURNIPLOOM_MOVE = 12      /* a trace does not begin at 0, or takes a step that the code does not allow: first step */
 };
 
 /* Marks of an instruction: six words, opcode, marks, a, b, c, x. They stand for the Rust's `lower::wide`, `lower::dunder_op` and
@@ -174,6 +177,13 @@ turniploom_answer turniploom_kept32(const uint16_t *code, size_t code_len, size_
                                     uint32_t *rows, size_t rows_len, uint32_t *offsets, size_t offsets_len, uint16_t *list,
                                     size_t list_len);
 
+/* Replays a recorded day. The trace is blocks of 512 bytes: 127 visited positions of 32 bits, little-endian, 0xFFFFFFFF as filler at the
+ * end alone, and the sum of the 508 bytes, each times its place from 1. reads needs an entry for each register, and then holds how many
+ * steps used it. A trace that is no run of the code is refused, and nothing is written.
+ * first: steps; second: levels met. */
+turniploom_answer turniploom_replay(const uint16_t *code, size_t code_len, size_t regs, const uint32_t *tries, size_t tries_len,
+                                    const uint8_t *trace, size_t trace_len, uint64_t *reads, size_t reads_len);
+
 /* Opcode numbers, as docs/OPCODES.md lists them. 0 is any other. */
 enum turniploom_opcode {
     TURNIPLOOM_LoadConst = 2, TURNIPLOOM_LoadName = 4, TURNIPLOOM_StoreName = 6, TURNIPLOOM_Call = 8, TURNIPLOOM_PopTop = 10,
@@ -234,6 +244,9 @@ static inline const char *turniploom_refusal_text(uint8_t refusal) {
     case TURNIPLOOM_BUFFER: return "a lent buffer is too short";
     case TURNIPLOOM_POSITION: return "the position is not one to ask about";
     case TURNIPLOOM_TABLE: return "a table of the chunk breaks its rule";
+    case TURNIPLOOM_CHECK: return "a block of the trace is cut short, or its check is wrong";
+    case TURNIPLOOM_FILLER: return "the trace has a filler before a position";
+    case TURNIPLOOM_MOVE: return "the trace does not begin at 0, or takes a step that the code does not allow";
     default: return "a refusal that this header does not know";
     }
 }

@@ -2,6 +2,7 @@
 //! say: the refusals, the lent buffers, strict mode, sweep counts, and the listed differences.
 
 pub mod code;
+pub mod day;
 pub mod facts;
 pub mod fold;
 pub mod question;
@@ -78,6 +79,7 @@ fn over_code(q: &Question, lent: &mut Lent) -> Checked<[u64; 4]> {
         PushedBack => walks::pushed_back(&code, at()?, q.n("r") as u16).map_or([0; 4], |p| [1, p as u64, 0, 0]),
         StackCallee => walks::stack_callee(&code, at()?, q.n("count") as u16).map_or([0; 4], |(p, r)| [1, p as u64, r.into(), 0]),
         Kept | Kept32 => keeping(q, &code, lent)?,
+        Replay => day::replay(q, &code, lent)?,
         Fold | Clear => unreachable!("it takes a chunk"),
     })
 }

@@ -17,7 +17,7 @@ macro_rules! calls {
 
 calls! {
     Kinds, Role, Field, Writes, Pure, Flat, Guarded, Returns, ParamsWritten, Passed, GenPure, DeadPhi, LoopsAround, Targets, GlobalOf, PushedBack,
-    StackCallee, Kept, Fold, Clear, Kept32
+    StackCallee, Kept, Fold, Clear, Kept32, Replay
 }
 
 pub use Call::*;
@@ -36,6 +36,8 @@ impl Call {
     /// Whether it tells the kept registers, and how many bits a word of its rows then has.
     pub fn keeps(self) -> bool { matches!(self, Kept | Kept32) }
     pub fn row_bits(self) -> usize { if self == Kept32 { 32 } else { 64 } }
+    /// Whether the Rust has it not: the model alone decides what is right.
+    pub fn is_new(self) -> bool { matches!(self, Clear | Replay) }
 }
 
 /// A number or a slice.
@@ -112,6 +114,7 @@ impl Question {
     pub fn arg(&self, name: &str) -> &Arg { &self.args[self.place(name)] }
 
     pub fn n(&self, name: &str) -> u64 { self.arg(name).n() }
+    pub fn u8(&self, name: &str) -> &[u8] { if let Arg::U8(v) = self.arg(name) { v } else { panic!("{name}") } }
     pub fn u16(&self, name: &str) -> &[u16] { if let Arg::U16(v) = self.arg(name) { v } else { panic!("{name}") } }
     pub fn u32(&self, name: &str) -> &[u32] { if let Arg::U32(v) = self.arg(name) { v } else { panic!("{name}") } }
 

@@ -200,7 +200,7 @@ impl Comparison {
                 Row { calls: 0, .. } => "was never asked",
                 Row { refused: 0, .. } => "was never refused",
                 Row { telling: 0, .. } => "never had a telling answer",
-                Row { rust: 0, .. } if call != Clear => "was never answered by the Rust",
+                Row { rust: 0, .. } if !call.is_new() => "was never answered by the Rust",
                 _ => return None,
             };
             Some(format!("{} {lacks}", call.name()))

@@ -11,6 +11,7 @@ pub mod questions;
 pub mod record;
 pub mod rng;
 pub mod shrink;
+pub mod traces;
 pub mod widths;
 
 pub use model::{self, question};

@@ -1,6 +1,6 @@
 //! Recorded answers: a sample of the Rust's own, and of the model's where it alone decides, as numbers, one record a line.
 
-use crate::{model, original, question::*, questions, rng::Rng};
+use crate::{model::{self, day::BLOCK}, original, question::*, questions, rng::Rng};
 use std::{fmt::Write as _, fs, io};
 
 /// The records of a call, and the instructions that a code may have.
@@ -55,13 +55,13 @@ fn wanted(rng: &mut Rng, call: Call, kind: Shows) -> String {
 /// The record of a small question, if the Rust answers it as the model does, or if the model alone decides it: a refusal, and
 /// what the Rust does not have, strict mode and the clearing call.
 fn record(q: &Question) -> Option<(String, Shows)> {
-    if q.u16("code").len() > INSTRUCTIONS * q.call.stride() || q.args.iter().any(|a| a.numbers().len() > 64) { return None }
+    if q.u16("code").len() > INSTRUCTIONS * q.call.stride() || q.args.iter().any(|a| a.numbers().len() > if matches!(a, Arg::U8(_)) { 64 + BLOCK } else { 64 }) { return None }
     let reply = model::ask(q);
     let shows = if reply.answer.refusal != 0 { Refused } else if reply.telling(q) { Telling } else { Plain };
-    let alone = shows == Refused || q.call == Clear || q.call == Fold && q.n("strict") != 0;
+    let alone = shows == Refused || q.call.is_new() || q.call == Fold && q.n("strict") != 0;
     if !alone && original::ask(q, &reply)? != reply { return None }
     let mut line = (q.call as u64).to_string();
     let numbers = q.args.iter().flat_map(Arg::numbers).chain(reply.values()).chain(reply.lent.buffers.iter().flat_map(Arg::numbers));
     for v in numbers { write!(line, " {v}").unwrap() }
-    (line.split(' ').count() <= NUMBERS).then_some((line + "\n", shows))
+    (line.split(' ').count() <= NUMBERS + if q.call == Replay { BLOCK } else { 0 }).then_some((line + "\n", shows))
 }

@@ -14,18 +14,26 @@
 #![deny(missing_docs, clippy::missing_errors_doc, clippy::missing_panics_doc)]
 
 extern crate alloc;
+#[cfg(feature = "std")]
+extern crate std;
 
 pub mod abi;
 pub mod block;
 mod calls;
 mod chunk;
+mod day;
 mod ins;
 pub mod op;
 pub mod optimizer;
 mod refusal;
+#[cfg(feature = "std")]
+mod trace;
 
 pub use calls::*;
 pub use chunk::*;
+pub use day::{Block, Day, replay};
 pub use ins::{Code, DUNDER, Ins, Lowered, REGISTER, WIDE, marked};
 pub use op::Op;
 pub use refusal::Refusal;
+#[cfg(feature = "std")]
+pub use trace::{Recorder, Unread, replay_from};

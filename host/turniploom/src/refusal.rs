@@ -48,6 +48,21 @@ pub enum Refusal {
         /// The first such table: 1 constants, 2 phi_map, 3 phi_sources, 4 stmt_pos, 5 call_byte_pos.
         table: u64,
     },
+    /// 10: a block of a trace is cut short, or its check is wrong.
+    Check {
+        /// The first such block.
+        block: u64,
+    },
+    /// 11: a trace has a filler before a position.
+    Filler {
+        /// The block of that position.
+        block: u64,
+    },
+    /// 12: a trace does not begin at 0, has a position not below n, or a move that no rule allows.
+    Move {
+        /// The first such step.
+        step: u64,
+    },
 }
 
 impl Refusal {
@@ -61,6 +76,9 @@ impl Refusal {
             Refusal::Buffer { .. } => 5,
             Refusal::Position { .. } => 6,
             Refusal::Table { .. } => 7,
+            Refusal::Check { .. } => 10,
+            Refusal::Filler { .. } => 11,
+            Refusal::Move { .. } => 12,
         }
     }
 
@@ -74,6 +92,9 @@ impl Refusal {
             Refusal::Buffer { .. } => "a lent buffer is too short",
             Refusal::Position { .. } => "the position is not one to ask about",
             Refusal::Table { .. } => "a table of the chunk breaks its rule",
+            Refusal::Check { .. } => "a block of the trace is cut short, or its check is wrong",
+            Refusal::Filler { .. } => "the trace has a filler before a position",
+            Refusal::Move { .. } => "the trace does not begin at 0, or takes a step that the code does not allow",
         }
     }
 
@@ -174,6 +195,9 @@ impl Answer {
             5 => Refusal::Buffer { buffer: first, needed: second },
             6 => Refusal::Position { position: first },
             7 => Refusal::Table { table: first },
+            10 => Refusal::Check { block: first },
+            11 => Refusal::Filler { block: first },
+            12 => Refusal::Move { step: first },
             other => panic!("no refusal has the number {other}: the archive is of another version"),
         })
     }
@@ -189,6 +213,9 @@ impl fmt::Display for Refusal {
             Refusal::Buffer { buffer, needed } => write!(f, "buffer {buffer} is too short: it needs {needed} entries"),
             Refusal::Position { position } => write!(f, "position {position} is not one to ask about"),
             Refusal::Table { table } => write!(f, "table {table} of the chunk breaks its rule"),
+            Refusal::Check { block } => write!(f, "block {block} of the trace is cut short, or its check is wrong"),
+            Refusal::Filler { block } => write!(f, "block {block} of the trace has a position after a filler"),
+            Refusal::Move { step } => write!(f, "step {step} of the trace is none that the code allows"),
         }
     }
 }

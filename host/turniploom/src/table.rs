@@ -63,4 +63,8 @@ calls! {
     kept32(code: &[u16], regs: usize, tries: &[u32], wide: bool, rows: &mut [u32], offsets: &mut [u32], list: &mut [u16]) -> {
         first: "the length of the list", second: "full sweeps", third: "abandoned sweeps"
     };
+    /// Replays a recorded day. The trace is blocks of 512 bytes: 127 visited positions of 32 bits, little-endian, 0xFFFFFFFF as filler at
+    /// the end alone, and the sum of the 508 bytes, each times its place from 1. reads needs an entry for each register, and then holds how
+    /// many steps used it. A trace that is no run of the code is refused, and nothing is written.
+    replay(code: &[u16], regs: usize, tries: &[u32], trace: &[u8], reads: &mut [u64]) -> { first: "steps", second: "levels met" };
 }

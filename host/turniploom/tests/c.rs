@@ -34,7 +34,7 @@ fn marks() -> String {
 /// The text of each refusal, as the program prints it.
 fn texts() -> String {
     let refusal = |number: u8| Answer { refusal: number, ..Answer::default() }.granted().unwrap_err();
-    let known = (1..=7).map(|n| { assert_eq!(refusal(n).number(), n); format!("{}\n", refusal(n).rule()) });
+    let known = (1..=7).chain(10..=12).map(|n| { assert_eq!(refusal(n).number(), n); format!("{}\n", refusal(n).rule()) });
     known.chain(["no refusal\n".into(), "a refusal that this header does not know\n".into()]).collect()
 }
 

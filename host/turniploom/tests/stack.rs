@@ -5,7 +5,7 @@
 mod restarts;
 
 use std::{arch::asm, collections::{BTreeMap, BTreeSet}, fs, path::Path};
-use turniploom::{Ins, WIDE, abi::{self, Answer}, op::*};
+use turniploom::{Block, Ins, WIDE, abi::{self, Answer}, op::*};
 
 const PAINT: u64 = 0x5afe_5afe_5afe_5afe;
 
@@ -84,6 +84,12 @@ impl Stacks {
             let a = self.make("kept32", || abi::kept32(code, regs, tries, wide, &mut rows32, &mut offsets, &mut list));
             assert_eq!((a.refusal, a.first), (0, list.len() as u64));
         }
+    }
+
+    /// A trace of one block, of whatever steps.
+    fn replay(&mut self, code: &[u16], tries: &[u32], positions: &[u32]) {
+        let (trace, mut reads) = (Block::of(positions).bytes(), vec![9; 1_024]);
+        for regs in [0, 1_024] { self.make("replay", || abi::replay(code, regs, tries, &trace, &mut reads)); }
     }
 
     /// A chunk folded and cleared.
@@ -165,6 +171,7 @@ fn no_call_needs_more_than_is_stated() {
         let tries = [0, 9, n as u32 / 2, n as u32];
         for at in 0..=n { stacks.at(code, at) }
         stacks.whole(code, &tries);
+        for steps in [0, 1, 3, 127] { stacks.replay(code, &tries, &(0..steps).collect::<Vec<_>>()) }
         for regs in [0, 1, 32, 33, 64, 65, 1_024] { stacks.kept(code, &tries, regs) }
     }
     let (kinds, ints) = ([1, 1, 1, 2, 2, 2, 3, 3, 0], [7, 2, 1, 2.5f64.to_bits(), (-0.0f64).to_bits(), f64::NAN.to_bits(), 1, 0, 5]);

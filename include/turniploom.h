@@ -67,6 +67,9 @@ enum turniploom_refusal {
     TURNIPLOOM_TABLE = 7,     /* a table of the chunk breaks its rule: table number */
     TURNIPLOOM_ROOM = 8,      /* the save area has no room for an entry: its free words */
     TURNIPLOOM_NOTHING = 9,   /* a call is left, and none is entered */
+    TURNIPLOOM_CHECK = 10,    /* a block of a trace is cut short, or its check is wrong: first block */
+    TURNIPLOOM_FILLER = 11,   /* a trace has a filler before a position: the position's block */
+    TURNIPLOOM_MOVE = 12,     /* a trace does not begin at 0, or takes a step that the code does not allow: first step */
     TURNIPLOOM_LISTED = 14    /* a listed register is not in the file, or is listed twice: its place in the list */
 };
 
@@ -206,6 +209,13 @@ turniploom_answer turniploom_saver_return(uint64_t *head, const uint64_t *area, 
  * first: words in use. */
 turniploom_answer turniploom_saver_exception(uint64_t *head, const uint64_t *area, uint64_t *file);
 
+/* Replays a recorded day. The trace is blocks of 512 bytes: 127 visited positions of 32 bits, little-endian, 0xFFFFFFFF as filler at the
+ * end alone, and the sum of the 508 bytes, each times its place from 1. reads needs an entry for each register, and then holds how many
+ * steps used it. A trace that is no run of the code is refused, and nothing is written.
+ * first: steps; second: levels met. */
+turniploom_answer turniploom_replay(const uint16_t *code, size_t code_len, size_t regs, const uint32_t *tries, size_t tries_len,
+                                    const uint8_t *trace, size_t trace_len, uint64_t *reads, size_t reads_len);
+
 /* Opcode numbers, as docs/OPCODES.md lists them. 0 is any other. */
 enum turniploom_opcode {
     TURNIPLOOM_LoadConst = 2, TURNIPLOOM_LoadName = 4, TURNIPLOOM_StoreName = 6, TURNIPLOOM_Call = 8, TURNIPLOOM_PopTop = 10,
@@ -268,6 +278,9 @@ static inline const char *turniploom_refusal_text(uint8_t refusal) {
     case TURNIPLOOM_TABLE: return "a table of the chunk breaks its rule";
     case TURNIPLOOM_ROOM: return "the save area has no room for the entry";
     case TURNIPLOOM_NOTHING: return "nothing is saved: no call is entered that could be left";
+    case TURNIPLOOM_CHECK: return "a block of the trace is cut short, or its check is wrong";
+    case TURNIPLOOM_FILLER: return "the trace has a filler before a position";
+    case TURNIPLOOM_MOVE: return "the trace does not begin at 0, or takes a step that the code does not allow";
     case TURNIPLOOM_LISTED: return "a listed register is not in the file, or is listed twice";
     default: return "a refusal that this header does not know";
     }

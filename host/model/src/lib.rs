@@ -2,6 +2,7 @@
 //! say: the refusals, the lent buffers, strict mode, sweep counts, and the listed differences.
 
 pub mod code;
+pub mod day;
 pub mod facts;
 pub mod fold;
 pub mod question;
@@ -85,6 +86,7 @@ fn over_code(q: &Question, lent: &mut Lent) -> Checked<[u64; 4]> {
             let (resume, result) = rows::resume(&code, k);
             if rows::level(&code[k]) { [1, resume as u64, result.map_or(65_536, u64::from), 0] } else { [0; 4] }
         }
+        Replay => day::replay(q, &code, lent)?,
         Fold | Clear | SaverMake | SaverEnter | SaverReturn | SaverException => unreachable!("it takes no code of block.rs"),
     })
 }

@@ -17,7 +17,7 @@ macro_rules! calls {
 
 calls! {
     Kinds, Role, Field, Writes, Pure, Flat, Guarded, Returns, ParamsWritten, Passed, GenPure, DeadPhi, LoopsAround, Targets, GlobalOf, PushedBack,
-    StackCallee, Kept, Fold, Clear, Kept32, Level, SaverMake, SaverEnter, SaverReturn, SaverException
+    StackCallee, Kept, Fold, Clear, Kept32, Level, SaverMake, SaverEnter, SaverReturn, SaverException, Replay
 }
 
 pub use Call::*;
@@ -39,7 +39,7 @@ impl Call {
     /// Whether it is one of the frame saver's.
     pub fn saves(self) -> bool { matches!(self, SaverMake | SaverEnter | SaverReturn | SaverException) }
     /// Whether the Rust has it not: the model alone decides what is right.
-    pub fn is_new(self) -> bool { self == Clear || self.saves() }
+    pub fn is_new(self) -> bool { matches!(self, Clear | Replay) || self.saves() }
 }
 
 /// A number or a slice.
@@ -117,6 +117,7 @@ impl Question {
     pub fn arg(&self, name: &str) -> &Arg { &self.args[self.place(name)] }
 
     pub fn n(&self, name: &str) -> u64 { self.arg(name).n() }
+    pub fn u8(&self, name: &str) -> &[u8] { if let Arg::U8(v) = self.arg(name) { v } else { panic!("{name}") } }
     pub fn u16(&self, name: &str) -> &[u16] { if let Arg::U16(v) = self.arg(name) { v } else { panic!("{name}") } }
     pub fn u32(&self, name: &str) -> &[u32] { if let Arg::U32(v) = self.arg(name) { v } else { panic!("{name}") } }
     pub fn u64(&self, name: &str) -> &[u64] { if let Arg::U64(v) = self.arg(name) { v } else { panic!("{name}") } }

@@ -12,6 +12,7 @@ pub mod record;
 pub mod rng;
 pub mod saver;
 pub mod shrink;
+pub mod traces;
 pub mod widths;
 
 pub use model::{self, question};

@@ -1,6 +1,6 @@
 //! Recorded answers: a sample of the Rust's own, and of the model's where it alone decides, as numbers, one record a line.
 
-use crate::{model, original, question::*, questions, rng::Rng};
+use crate::{model::{self, day::BLOCK}, original, question::*, questions, rng::Rng};
 use std::{fmt::Write as _, fs, io};
 use turniploom::abi::Param;
 
@@ -57,7 +57,8 @@ fn wanted(rng: &mut Rng, call: Call, kind: Shows) -> String {
 /// what the Rust does not have, strict mode and calls of the port alone.
 fn record(q: &Question) -> Option<(String, Shows)> {
     let params = q.call.params();
-    let long = |(p, a): (&Param, &Arg)| p.kind.fixed().is_none() && a.numbers().len() > 64;
+    let most = |a: &Arg| if matches!(a, Arg::U8(_)) { 64 + BLOCK } else { 64 };
+    let long = |(p, a): (&Param, &Arg)| p.kind.fixed().is_none() && a.numbers().len() > most(a);
     if q.code().len() > INSTRUCTIONS * q.call.stride() || params.iter().zip(&q.args).any(long) { return None }
     let reply = model::ask(q);
     let shows = if reply.answer.refusal != 0 { Refused } else if reply.telling(q) { Telling } else { Plain };
@@ -67,7 +68,7 @@ fn record(q: &Question) -> Option<(String, Shows)> {
     let lent = params.iter().filter(|p| p.kind.is_lent()).zip(&reply.lent.buffers).flat_map(recorded);
     let numbers = params.iter().zip(&q.args).flat_map(recorded).chain(reply.values()).chain(lent);
     for v in numbers { write!(line, " {v}").unwrap() }
-    (line.split(' ').count() <= NUMBERS).then_some((line + "\n", shows))
+    (line.split(' ').count() <= NUMBERS + if q.call == Replay { BLOCK } else { 0 }).then_some((line + "\n", shows))
 }
 
 /// An argument as a record has it; an array whose length is fixed goes up to the last word that is not 0.

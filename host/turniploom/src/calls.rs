@@ -16,7 +16,7 @@ fn bits(answer: Answer) -> Result<u64, Refusal> { Ok(answer.granted()?.first) }
 fn length(ins: &(impl Code + ?Sized)) -> usize { ins.words().len() / 6 + 1 }
 
 /// Tries as they are lent. A number past 32 bits lies past every code, as the largest of 32 bits does.
-fn lent(tries: &[(usize, usize)]) -> Vec<u32> {
+pub fn lent(tries: &[(usize, usize)]) -> Vec<u32> {
     tries.iter().flat_map(|&(s, h)| [s, h]).map(|v| u32::try_from(v).unwrap_or(u32::MAX)).collect()
 }
 

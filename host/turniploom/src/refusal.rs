@@ -60,6 +60,21 @@ pub enum Refusal {
         /// Its place in the list, the first such.
         place: u64,
     },
+    /// 10: a block of a trace is cut short, or its check is wrong.
+    Check {
+        /// The first such block.
+        block: u64,
+    },
+    /// 11: a trace has a filler before a position.
+    Filler {
+        /// The block of that position.
+        block: u64,
+    },
+    /// 12: a trace does not begin at 0, has a position not below n, or a move that no rule allows.
+    Move {
+        /// The first such step.
+        step: u64,
+    },
 }
 
 impl Refusal {
@@ -76,6 +91,9 @@ impl Refusal {
             Refusal::Room { .. } => 8,
             Refusal::Nothing => 9,
             Refusal::Listed { .. } => 14,
+            Refusal::Check { .. } => 10,
+            Refusal::Filler { .. } => 11,
+            Refusal::Move { .. } => 12,
         }
     }
 
@@ -92,6 +110,9 @@ impl Refusal {
             Refusal::Room { .. } => "the save area has no room for the entry",
             Refusal::Nothing => "nothing is saved: no call is entered that could be left",
             Refusal::Listed { .. } => "a listed register is not in the file, or is listed twice",
+            Refusal::Check { .. } => "a block of the trace is cut short, or its check is wrong",
+            Refusal::Filler { .. } => "the trace has a filler before a position",
+            Refusal::Move { .. } => "the trace does not begin at 0, or takes a step that the code does not allow",
         }
     }
 
@@ -195,6 +216,9 @@ impl Answer {
             8 => Refusal::Room { free: first },
             9 => Refusal::Nothing,
             14 => Refusal::Listed { place: first },
+            10 => Refusal::Check { block: first },
+            11 => Refusal::Filler { block: first },
+            12 => Refusal::Move { step: first },
             other => panic!("no refusal has the number {other}: the archive is of another version"),
         })
     }
@@ -214,6 +238,9 @@ impl fmt::Display for Refusal {
             Refusal::Room { free } => write!(f, "the save area has {free} free words, fewer than twice the list plus two"),
             Refusal::Nothing => f.write_str(self.rule()),
             Refusal::Listed { place } => write!(f, "the register at place {place} of the list is not in the file, or stands before it too"),
+            Refusal::Check { block } => write!(f, "block {block} of the trace is cut short, or its check is wrong"),
+            Refusal::Filler { block } => write!(f, "block {block} of the trace has a position after a filler"),
+            Refusal::Move { step } => write!(f, "step {step} of the trace is none that the code allows"),
         }
     }
 }

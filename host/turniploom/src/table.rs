@@ -74,4 +74,8 @@ calls! {
     saver_return(head: &mut [u64; 2], area: &[u64; 4096], file: &mut [u64; 64], value: u64) -> { first: "words in use" };
     /// Puts them back as the newest call is left by an exception.
     saver_exception(head: &mut [u64; 2], area: &[u64; 4096], file: &mut [u64; 64]) -> { first: "words in use" };
+    /// Replays a recorded day. The trace is blocks of 512 bytes: 127 visited positions of 32 bits, little-endian, 0xFFFFFFFF as filler at
+    /// the end alone, and the sum of the 508 bytes, each times its place from 1. reads needs an entry for each register, and then holds how
+    /// many steps used it. A trace that is no run of the code is refused, and nothing is written.
+    replay(code: &[u16], regs: usize, tries: &[u32], trace: &[u8], reads: &mut [u64]) -> { first: "steps", second: "levels met" };
 }

@@ -5,7 +5,7 @@
 mod restarts;
 
 use std::{arch::asm, collections::{BTreeMap, BTreeSet}, fs, path::Path};
-use turniploom::{Ins, WIDE, abi::{self, Answer}, op::*};
+use turniploom::{Block, Ins, WIDE, abi::{self, Answer}, op::*};
 
 const PAINT: u64 = 0x5afe_5afe_5afe_5afe;
 
@@ -97,6 +97,12 @@ impl Stacks {
             && self.make("saver_exception", || abi::saver_exception(&mut head, &area, &mut file)).refusal == 0 {}
     }
 
+    /// A trace of one block, of whatever steps.
+    fn replay(&mut self, code: &[u16], tries: &[u32], positions: &[u32]) {
+        let (trace, mut reads) = (Block::of(positions).bytes(), vec![9; 1_024]);
+        for regs in [0, 1_024] { self.make("replay", || abi::replay(code, regs, tries, &trace, &mut reads)); }
+    }
+
     /// A chunk folded and cleared.
     fn chunk(&mut self, code: &[u16], kinds: &[u8], words: &[u64], sources: &[u16], strict: bool) {
         let (n, count) = (code.len() / 3, kinds.len());
@@ -176,6 +182,7 @@ fn no_call_needs_more_than_is_stated() {
         let tries = [0, 9, n as u32 / 2, n as u32];
         for at in 0..=n { stacks.at(code, at) }
         stacks.whole(code, &tries);
+        for steps in [0, 1, 3, 127] { stacks.replay(code, &tries, &(0..steps).collect::<Vec<_>>()) }
         for regs in [0, 1, 32, 33, 64, 65, 1_024] { stacks.kept(code, &tries, regs) }
     }
     for length in [0, 1, 9, 64] { stacks.saver(&(0..length).collect::<Vec<_>>()) }

@@ -78,10 +78,32 @@ static void room(void) {
     SHOW(a.refusal == 0 && a.first == 3 && a.second == 2 && words[1] == (uint64_t)-7);
 }
 
+/* Code K replayed from a block that is made here, and from the same with a byte flipped. */
+static void replayed(void) {
+    static const uint32_t no_tries[1] = {0};
+    uint8_t trace[512];
+    uint64_t reads[4] = {9, 9, 9, 9};
+    uint32_t check = 0, k;
+    turniploom_answer a;
+    memset(trace, 0xFF, sizeof trace);
+    for (k = 0; k < 6; k++) { memset(trace + 4 * k, 0, 4); trace[4 * k] = (uint8_t)k; }
+    for (k = 0; k < 508; k++) check += trace[k] * (k + 1);
+    for (k = 0; k < 4; k++) trace[508 + k] = (uint8_t)(check >> (8 * k));
+    trace[99] ^= 1;
+    a = turniploom_replay(K, WORDS, 4, no_tries, 0, trace, 512, reads, 4);
+    SHOW(a.refusal == TURNIPLOOM_CHECK && a.first == 0 && reads[0] == 9);
+    trace[99] ^= 1;
+    a = turniploom_replay(K, WORDS, 4, no_tries, 0, trace, 512, reads, 4);
+    SHOW(a.refusal == 0 && a.first == 6 && a.second == 1 && reads[0] == 1 && reads[1] == 1 && reads[2] == 1 && reads[3] == 1);
+    a = turniploom_replay(K, WORDS, 5, no_tries, 0, trace, 512, reads, 4);
+    SHOW(a.refusal == TURNIPLOOM_BUFFER && a.first == 1 && a.second == 5);
+}
+
 /* The text of each refusal. */
 static void texts(void) {
     static const uint8_t refusals[] = {TURNIPLOOM_CODE, TURNIPLOOM_RECORD, TURNIPLOOM_REGISTERS, TURNIPLOOM_TRY, TURNIPLOOM_BUFFER,
-                                       TURNIPLOOM_POSITION, TURNIPLOOM_TABLE, TURNIPLOOM_ROOM, TURNIPLOOM_NOTHING, TURNIPLOOM_LISTED};
+                                       TURNIPLOOM_POSITION, TURNIPLOOM_TABLE, TURNIPLOOM_ROOM, TURNIPLOOM_NOTHING, TURNIPLOOM_CHECK, TURNIPLOOM_FILLER,
+                                       TURNIPLOOM_MOVE, TURNIPLOOM_LISTED};
     size_t k;
     for (k = 0; k < sizeof refusals; k++) puts(turniploom_refusal_text(refusals[k]));
     puts(turniploom_refusal_text(0));
@@ -112,6 +134,7 @@ static void saver(void) {
 
 int main(void) {
     marks();
+    replayed();
     texts();
     lengths();
     room();

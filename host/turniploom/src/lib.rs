@@ -19,6 +19,7 @@ pub mod abi;
 pub mod block;
 mod calls;
 mod chunk;
+mod figures;
 mod ins;
 mod level;
 pub mod op;
@@ -28,6 +29,7 @@ mod saver;
 
 pub use calls::*;
 pub use chunk::*;
+pub use figures::{Figures, Longest};
 pub use ins::{Code, DUNDER, Ins, Lowered, REGISTER, WIDE, marked};
 pub use level::{Level, level};
 pub use op::Op;

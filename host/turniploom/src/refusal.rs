@@ -55,6 +55,11 @@ pub enum Refusal {
     },
     /// 9: a call is left, and none is entered.
     Nothing,
+    /// 13: a total would pass 64 bits.
+    Total {
+        /// The first such: 1 bodies, 2 levels, 3 kept registers, 4 the number of the body with the longest list, moved up.
+        total: u64,
+    },
     /// 14: a list has a register that is not in the file, or that stands in it before.
     Listed {
         /// Its place in the list, the first such.
@@ -75,6 +80,11 @@ pub enum Refusal {
         /// The first such step.
         step: u64,
     },
+    /// 15: the offsets do not begin at 0, fall, give a list to a place that is no level, or do not end at the list's length.
+    Offsets {
+        /// The first such place, up to the end of the code.
+        place: u64,
+    },
 }
 
 impl Refusal {
@@ -90,10 +100,12 @@ impl Refusal {
             Refusal::Table { .. } => 7,
             Refusal::Room { .. } => 8,
             Refusal::Nothing => 9,
+            Refusal::Total { .. } => 13,
             Refusal::Listed { .. } => 14,
             Refusal::Check { .. } => 10,
             Refusal::Filler { .. } => 11,
             Refusal::Move { .. } => 12,
+            Refusal::Offsets { .. } => 15,
         }
     }
 
@@ -109,10 +121,12 @@ impl Refusal {
             Refusal::Table { .. } => "a table of the chunk breaks its rule",
             Refusal::Room { .. } => "the save area has no room for the entry",
             Refusal::Nothing => "nothing is saved: no call is entered that could be left",
+            Refusal::Total { .. } => "a total would pass 64 bits",
             Refusal::Listed { .. } => "a listed register is not in the file, or is listed twice",
             Refusal::Check { .. } => "a block of the trace is cut short, or its check is wrong",
             Refusal::Filler { .. } => "the trace has a filler before a position",
             Refusal::Move { .. } => "the trace does not begin at 0, or takes a step that the code does not allow",
+            Refusal::Offsets { .. } => "the offsets are not those of this code and its list",
         }
     }
 
@@ -215,10 +229,12 @@ impl Answer {
             7 => Refusal::Table { table: first },
             8 => Refusal::Room { free: first },
             9 => Refusal::Nothing,
+            13 => Refusal::Total { total: first },
             14 => Refusal::Listed { place: first },
             10 => Refusal::Check { block: first },
             11 => Refusal::Filler { block: first },
             12 => Refusal::Move { step: first },
+            15 => Refusal::Offsets { place: first },
             other => panic!("no refusal has the number {other}: the archive is of another version"),
         })
     }
@@ -237,6 +253,16 @@ impl fmt::Display for Refusal {
             Refusal::Table { table } => write!(f, "table {table} of the chunk breaks its rule"),
             Refusal::Room { free } => write!(f, "the save area has {free} free words, fewer than twice the list plus two"),
             Refusal::Nothing => f.write_str(self.rule()),
+            Refusal::Total { total } => {
+                let what = match total {
+                    1 => "bodies",
+                    2 => "levels",
+                    3 => "kept registers",
+                    _ => "bodies before the longest list",
+                };
+                write!(f, "the number of {what} would pass 64 bits")
+            }
+            Refusal::Offsets { place } => write!(f, "at {place} the offsets fall, do not run from 0 to the list's length, or give a list to what is no level"),
             Refusal::Listed { place } => write!(f, "the register at place {place} of the list is not in the file, or stands before it too"),
             Refusal::Check { block } => write!(f, "block {block} of the trace is cut short, or its check is wrong"),
             Refusal::Filler { block } => write!(f, "block {block} of the trace has a position after a filler"),

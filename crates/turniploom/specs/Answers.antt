@@ -1,5 +1,5 @@
 -- What the exported calls answer for each case of a call's own answer. Assumes nothing.
-use Prim.Native.Nat.{ℕ}
+use Prim.Native.Nat.{ℕ, _/_}
 use mathlib.Core.Path.{_≡_}
 use mathlib.Core.Bool.{Bool}
 use mathlib.Core.List.{List}
@@ -14,6 +14,10 @@ use Rattle.roles.specs.declared.RoleAnswer.{RoleAnswer}
 use Rattle.roles.specs.declared.RoleAnswer.the-variants as role
 use Rattle.roles.specs.declared.FieldAnswer.{FieldAnswer}
 use Rattle.roles.specs.declared.FieldAnswer.the-variants as field
+use Rattle.roles.specs.declared.TouchAnswer.{TouchAnswer}
+use Rattle.roles.specs.declared.TouchAnswer.the-variants as touch
+use Rattle.steps.specs.declared.LevelAnswer.{LevelAnswer}
+use Rattle.steps.specs.declared.LevelAnswer.the-variants as level
 use Rattle.surveys.specs.declared.Bits.{Bits}
 use Rattle.surveys.specs.declared.Bits.the-variants as bits
 use Rattle.surveys.specs.declared.Filled.{Filled}
@@ -58,6 +62,17 @@ roleTold (role.No r) = refusedOf r
 abbrev pub fieldTold : FieldAnswer → Answer
 fieldTold (field.Is x) = answerOf x 0 0 0
 fieldTold (field.No r) = refusedOf r
+
+-- the fields used, given up and written (bit 0 a, 1 b, 2 c), and how many registers from b on are given up and written besides
+abbrev pub touchTold : TouchAnswer → Answer
+touchTold (touch.Is t) = answerOf (t .used / 2) (t .given / 2) (t .written / 2) (t .run)
+touchTold (touch.No r) = refusedOf r
+
+-- 1, where the level resumes, its result register or 65,536; or 0
+abbrev pub levelTold : LevelAnswer → Answer
+levelTold (level.Is o) = answerOf 1 (o .at) (o .result) 0
+levelTold level.Nothing = answerOf 0 0 0 0
+levelTold (level.No r) = refusedOf r
 
 -- the bits
 abbrev pub bitsTold : Bits → Answer

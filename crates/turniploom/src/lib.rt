@@ -1,10 +1,11 @@
 // The exported calls: for Rust and C, each answers one `Answer` by value, 0 and its values or a refusal's number and what it also returns.
 ghost use mathlib.Core.Path.{_≡_};
-ghost use Rattle.roles.specs.Answers.{kindsAnswer, roleAnswer, fieldAnswer, writesAnswer};
+ghost use Rattle.roles.specs.Answers.{kindsAnswer, roleAnswer, fieldAnswer, writesAnswer, touchAnswer};
+ghost use Rattle.steps.specs.Resume.{levelAnswer};
 ghost use Rattle.walks.specs.Answers.{pureAnswer, flatAnswer, guardedAnswer, returnsAnswer};
 ghost use Rattle.surveys.specs.Answers.{writtenAnswer, passedAnswer};
 ghost use Rattle.callee.specs.Answers.{globalAnswer, pushAnswer, stackAnswer};
-ghost use Rattle.turniploom.specs.Answers.{truthTold, kindsTold, roleTold, fieldTold, bitsTold, filledTold, TargetsTold, LoopsTold, DeadTold, GenTold, globalTold, pushTold, stackTold, keptTold as keptAnswered, KeptTold, foldTold, FoldTold, clearTold, ClearTold};
+ghost use Rattle.turniploom.specs.Answers.{truthTold, kindsTold, roleTold, fieldTold, touchTold, levelTold, bitsTold, filledTold, TargetsTold, LoopsTold, DeadTold, GenTold, globalTold, pushTold, stackTold, keptTold as keptAnswered, KeptTold, foldTold, FoldTold, clearTold, ClearTold};
 ghost use Rattle.optimizer.specs.Fold.{buffers};
 ghost use Rattle.clear.specs.Clear.{buffers as clearable};
 use callee::GlobalAnswer;
@@ -18,6 +19,8 @@ use optimizer::FoldAnswer;
 use roles::FieldAnswer;
 use roles::KindsAnswer;
 use roles::RoleAnswer;
+use roles::TouchAnswer;
+use steps::LevelAnswer;
 use surveys::Bits;
 use surveys::Filled;
 
@@ -127,6 +130,32 @@ pub extern "C" fn turniploom_writes(code: &[u16], at: usize, r: u16) -> Answer
     ensures { λ a. ⌜ a ≡ truthTold (writesAnswer (now (code .entry)) at r) ⌝ }
 {
     truth(roles::writes(code, at, r))
+}
+
+#[no_mangle]
+pub extern "C" fn turniploom_touched(code: &[u16], at: usize) -> Answer
+    ensures { λ r. ⌜ r ≡ touchTold (touchAnswer (now (code .entry)) at) ⌝ }
+{
+    match roles::touched(code, at) {
+        TouchAnswer::Is(t) => code::tell(
+            (t.used / 2) as u64,
+            (t.given / 2) as u64,
+            (t.written / 2) as u64,
+            t.run as u64,
+        ),
+        TouchAnswer::No(r) => code::refused(r),
+    }
+}
+
+#[no_mangle]
+pub extern "C" fn turniploom_level(code: &[u16], at: usize) -> Answer
+    ensures { λ r. ⌜ r ≡ levelTold (levelAnswer (now (code .entry)) at) ⌝ }
+{
+    match steps::level(code, at) {
+        LevelAnswer::Is(o) => code::tell(1, o.at as u64, o.result as u64, 0),
+        LevelAnswer::Nothing => code::tell(0, 0, 0, 0),
+        LevelAnswer::No(r) => code::refused(r),
+    }
 }
 
 #[no_mangle]

@@ -12,10 +12,10 @@ use Rattle.code.specs.Ins.{insAt, count, isCall}
 use Rattle.code.specs.declared.Ins.{Ins}
 use Rattle.roles.specs.Kinds.{kindsOf, isJump, page, ruleOf}
 use Rattle.roles.specs.Sets.{only}
+use Rattle.roles.specs.declared.Touch.{Touch}
 use Rattle.flow.specs.Sweep.{below}
 use Rattle.steps.specs.Code.{storeOf, overPending, pastStore, restores, idle, afterAt}
-use Rattle.steps.specs.Step.{EffectsAt, StepAt, goesBefore}
-use Rattle.steps.specs.declared.Effect.{Effect}
+use Rattle.steps.specs.Step.{TouchesAt, StepAt, goesBefore}
 use Rattle.steps.specs.declared.Step.{Step}
 
 return-stays : (i : Ins) → i .op ≡ ReturnR → isJump i ≡ false
@@ -34,7 +34,7 @@ module _ (i : Ins) (next t : ℕ) where
   after-by false false true ep eq ej = refl
   after-by false false false ep eq ej = refl
 
-pub step-is : (w : List ℕ) (n k m t : ℕ) (i : Ins) (e : Effect) → n ≡ count w → i ≡ insAt w k → m ≡ kindsOf i → EffectsAt w k e → t ≡ min (i .a) n
+pub step-is : (w : List ℕ) (n k m t : ℕ) (i : Ins) (e : Touch) → n ≡ count w → i ≡ insAt w k → m ≡ kindsOf i → TouchesAt w k e → t ≡ min (i .a) n
     → StepAt w k (record {
       a = i .a;
       b = i .b;

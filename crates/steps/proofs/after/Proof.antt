@@ -1,8 +1,8 @@
--- `kept::after` meets its contract. Assumes nothing.
+-- `steps::after` meets its contract. Assumes nothing.
 use borrow.Author.Needs.{needs}
-use Rattle.kept.proofs.Resume.{goes}
-use Rattle.kept.proofs.after.Statement.{statement}
-use Rattle.kept.proofs.after.Tie as tie
+use Rattle.steps.proofs.Resume.{goes}
+use Rattle.steps.proofs.after.Statement.{statement}
+use Rattle.steps.proofs.after.Tie as tie
 
 ins-at-requires : tie.Need-ins-at-requires
 ins-at-requires c κs = search needs

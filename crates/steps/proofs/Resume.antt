@@ -14,8 +14,8 @@ use Rattle.code.specs.Ins.{insAt, count, isCall, wide}
 use Rattle.code.specs.Check.{Valid}
 use Rattle.code.specs.declared.Ins.{Ins}
 use Rattle.code.proofs.Rules.{args-follow}
 use Rattle.steps.specs.Code.{storeOf}
-use Rattle.kept.specs.Level.{resumeOf, resultAt, none, Goes}
+use Rattle.steps.specs.Resume.{resumeOf, resultAt, none, Goes}
 
 module _ (w : List ℕ) (k : ℕ) where
   resume-by : (o : ℕ) → insAt w k .op ≡ o → resumeOf w k ≡ cond (eqb o JumpIfFalseR) k (cond (isCall o) (storeOf w k) (k + 1))

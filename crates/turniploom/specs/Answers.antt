@@ -24,6 +24,7 @@ use Rattle.surveys.specs.declared.Filled.{Filled}
 use Rattle.surveys.specs.declared.Filled.the-variants as filled
 use Rattle.surveys.specs.Answers.{Targets, LoopsAround}
 use Rattle.phis.specs.Answers as phis
+use Rattle.needed.specs.Answers as needed
 use Rattle.callee.specs.declared.GlobalAnswer.{GlobalAnswer}
 use Rattle.callee.specs.declared.GlobalAnswer.the-variants as global
 use Rattle.callee.specs.declared.PushAnswer.{PushAnswer}
@@ -101,6 +102,9 @@ DeadTold w k q seen todo r seen′ todo′ = By truthTold (λ v. phis.DeadPhi w 
 
 abbrev pub GenTold : List ℕ → List ℕ → List ℕ → Answer → List ℕ → List ℕ → Type 0
 GenTold w seen todo r seen′ todo′ = By truthTold (λ v. phis.GenTold w seen todo v seen′ todo′) r
+
+abbrev pub NeededTold : List ℕ → ℕ → ℕ → ℕ → List ℕ → List ℕ → Answer → List ℕ → List ℕ → Type 0
+NeededTold w regs k q seen todo r seen′ todo′ = By truthTold (λ v. needed.NeededTold w regs k q seen todo v seen′ todo′) r
 
 -- 1, binding; or 0
 abbrev pub globalTold : GlobalAnswer → Answer

@@ -5,7 +5,7 @@ ghost use Rattle.steps.specs.Resume.{levelAnswer};
 ghost use Rattle.walks.specs.Answers.{pureAnswer, flatAnswer, guardedAnswer, returnsAnswer};
 ghost use Rattle.surveys.specs.Answers.{writtenAnswer, passedAnswer};
 ghost use Rattle.callee.specs.Answers.{globalAnswer, pushAnswer, stackAnswer};
-ghost use Rattle.turniploom.specs.Answers.{truthTold, kindsTold, roleTold, fieldTold, touchTold, levelTold, bitsTold, filledTold, TargetsTold, LoopsTold, DeadTold, GenTold, globalTold, pushTold, stackTold, keptTold as keptAnswered, KeptTold, foldTold, FoldTold, clearTold, ClearTold};
+ghost use Rattle.turniploom.specs.Answers.{truthTold, kindsTold, roleTold, fieldTold, touchTold, levelTold, bitsTold, filledTold, TargetsTold, LoopsTold, DeadTold, GenTold, NeededTold, globalTold, pushTold, stackTold, keptTold as keptAnswered, KeptTold, foldTold, FoldTold, clearTold, ClearTold};
 ghost use Rattle.optimizer.specs.Fold.{buffers};
 ghost use Rattle.clear.specs.Clear.{buffers as clearable};
 use callee::GlobalAnswer;
@@ -265,6 +265,20 @@ pub extern "C" fn turniploom_stack_callee(code: &[u16], at: usize, count: u16) -
         StackAnswer::Nothing => code::tell(0, 0, 0, 0),
         StackAnswer::No(r) => code::refused(r),
     }
+}
+
+#[no_mangle]
+pub extern "C" fn turniploom_needed(
+    code: &[u16],
+    regs: usize,
+    at: usize,
+    r: u16,
+    seen: &mut [u8],
+    todo: &mut [u32],
+) -> Answer
+    ensures { λ a. ⌜ NeededTold (now (code .entry)) regs at r (now (seen .entry)) (now (todo .entry)) a (now (seen .exit)) (now (todo .exit)) ⌝ }
+{
+    truth(needed::needed(code, regs, at, r, seen, todo))
 }
 
 #[no_mangle]

@@ -34,6 +34,10 @@
 #define TURNIPLOOM_MARKS_LEN(n) ((size_t)(n))
 #define TURNIPLOOM_PHI_SOURCES_LEN(n, words) (2 * (size_t)(n) > (size_t)(words) ? 2 * (size_t)(n) : (size_t)(words))
 
+/* The same for rows of 32 bits. */
+#define TURNIPLOOM_ROW32_WORDS(regs) ((size_t)(regs) <= 32 ? (size_t)1 : ((size_t)(regs) + 31) / 32)
+#define TURNIPLOOM_ROWS32_LEN(n, regs) (((size_t)(n) + 1) * TURNIPLOOM_ROW32_WORDS(regs))
+
 #ifdef __cplusplus
 extern "C" {
 #endif
@@ -162,6 +166,13 @@ turniploom_answer turniploom_fold(uint16_t *code, size_t code_len, uint8_t *kind
  * first: constants left. */
 turniploom_answer turniploom_clear(uint16_t *code, size_t code_len, uint8_t *kinds, size_t kinds_len, uint64_t *words, size_t words_len,
                                    size_t constants, uint32_t *scratch, size_t scratch_len);
+
+/* kept with rows of 32 bits: rows is (n + 1) times max(1, registers / 32 rounded up) long, offsets and list are the same. With more than 32
+ * registers the counts of sweeps and the rows before the first level may be others.
+ * first: the length of the list; second: full sweeps; third: abandoned sweeps. */
+turniploom_answer turniploom_kept32(const uint16_t *code, size_t code_len, size_t regs, const uint32_t *tries, size_t tries_len, bool wide,
+                                    uint32_t *rows, size_t rows_len, uint32_t *offsets, size_t offsets_len, uint16_t *list,
+                                    size_t list_len);
 
 /* Opcode numbers, as docs/OPCODES.md lists them. 0 is any other. */
 enum turniploom_opcode {

@@ -42,34 +42,55 @@ pub struct Part {
 
 impl View {
     pub fn of(body: &Body) -> Result<View, Refusal> {
-        let kept = found(body)?;
+        let found = Found::of(body)?;
         let code = &body.code;
         let n = code.len();
         let tries: Vec<(usize, usize)> = body.tries.chunks(2).map(|t| (t[0] as usize, t[1] as usize)).collect();
-        let row = |k: usize| members(&kept, k.min(n));
         let mut lines: Vec<Line> = (0..n).map(|k| {
             let (used, given_up) = sets(code, k, body.registers);
-            let level = rows::level(&code[k]).then(|| level(code, k, &kept, &tries));
-            Line { text: ins_text(code, k), used, given_up, row: row(k), level, notes: notes(code, k, &tries) }
+            let level = rows::level(&code[k]).then(|| level(code, k, &found, &tries));
+            Line { text: ins_text(code, k), used, given_up, row: found.row(k), level, notes: notes(code, k, &tries) }
         }).collect();
-        lines.push(Line { text: "end".into(), used: vec![], given_up: vec![], row: row(n), level: None, notes: notes(code, n, &tries) });
+        lines.push(Line { text: "end".into(), used: vec![], given_up: vec![], row: found.row(n), level: None, notes: notes(code, n, &tries) });
         let columns = columns(&lines, body.registers);
-        let heading = format!("{}, {}, {}", count(n, "instruction"), count(body.registers, "register"), count(tries.len(), "try"));
-        let remarks = remarks(body, &lines, &kept);
+        let width = if body.rows32 { ", rows of 32 bits" } else { "" };
+        let heading = format!("{}, {}, {}{width}", count(n, "instruction"), count(body.registers, "register"), count(tries.len(), "try"));
+        let remarks = remarks(body, &lines, &found);
         Ok(View { heading, columns, lines, tries, remarks })
     }
 }
 
-/// The kept-register call.
-fn found(body: &Body) -> Result<Kept, Refusal> {
-    // An odd last word is a try without a handler, which is refused before any buffer is looked at.
-    if !body.tries.len().is_multiple_of(2) { abi::kept(&body.words(), body.registers, &body.tries, body.wide, &mut [], &mut [], &mut []).granted()?; }
-    let tries: Vec<(usize, usize)> = body.tries.chunks_exact(2).map(|t| (t[0] as usize, t[1] as usize)).collect();
-    turniploom::kept(&body.words(), body.registers, &tries, body.wide)
+/// What the kept-register call found, with rows of either width.
+struct Found {
+    /// The rows, the end's too, and what is kept at each position.
+    rows: Vec<Vec<u16>>,
+    kept: Vec<Vec<u16>>,
+    full: u64,
+    abandoned: u64,
+    /// The most full sweeps, known before the call.
+    most: u64,
 }
 
-fn members(kept: &Kept, k: usize) -> Vec<u16> {
-    (0..64 * kept.words).filter(|r| kept.rows[k * kept.words + r / 64] >> (r % 64) & 1 != 0).map(|r| r as u16).collect()
+impl Found {
+    fn of(body: &Body) -> Result<Found, Refusal> {
+        let (words, registers, wide) = (body.words(), body.registers, body.wide);
+        // An odd last word is a try without a handler, which is refused before any buffer is looked at.
+        if !body.tries.len().is_multiple_of(2) { abi::kept(&words, registers, &body.tries, wide, &mut [], &mut [], &mut []).granted()?; }
+        let tries: Vec<(usize, usize)> = body.tries.chunks_exact(2).map(|t| (t[0] as usize, t[1] as usize)).collect();
+        let most = turniploom::most_sweeps(&words);
+        if body.rows32 { Ok(Found::read(turniploom::kept32(&words, registers, &tries, wide)?, most?)) }
+        else { Ok(Found::read(turniploom::kept(&words, registers, &tries, wide)?, most?)) }
+    }
+
+    fn read<W: Copy + Into<u64>>(kept: Kept<W>, most: u64) -> Found {
+        let n = kept.offsets.len() - 1;
+        let registers = 0..(kept.words * 8 * size_of::<W>()) as u16;
+        let row = |k: usize| registers.clone().filter(|&r| kept.needed(k, r)).collect();
+        Found { rows: (0..=n).map(row).collect(), kept: (0..n).map(|k| kept.at(k).to_vec()).collect(), full: kept.full, abandoned: kept.abandoned, most }
+    }
+
+    /// The row of a position, and of any past the end.
+    fn row(&self, k: usize) -> Vec<u16> { self.rows[k.min(self.kept.len())].clone() }
 }
 
 /// The registers used and given up, as the row equations have them.
@@ -85,24 +106,23 @@ fn sets(code: &[Ins], k: usize, registers: usize) -> (Vec<u16>, Vec<u16>) {
     (inside(used), inside(given_up))
 }
 
-fn level(code: &[Ins], k: usize, kept: &Kept, tries: &[(usize, usize)]) -> Level {
+fn level(code: &[Ins], k: usize, found: &Found, tries: &[(usize, usize)]) -> Level {
     let (resume, result) = rows::resume(code, k);
-    Level { resume, result, callee: callee(code, k), kept: parts(code, kept, k, resume, result, tries) }
+    Level { resume, result, callee: callee(code, k), kept: parts(found, k, resume, result, tries) }
 }
 
 /// The kept list of the archive, taken apart by what each register is kept for.
-fn parts(code: &[Ins], kept: &Kept, k: usize, resume: usize, result: Option<u16>, tries: &[(usize, usize)]) -> Vec<Part> {
-    let n = code.len();
-    let mut left = kept.at(k).iter().copied().peekable();
+fn parts(found: &Found, k: usize, resume: usize, result: Option<u16>, tries: &[(usize, usize)]) -> Vec<Part> {
+    let mut left = found.kept[k].iter().copied().peekable();
     let mut take = |handler: Option<usize>, row: Vec<u16>| {
         let mut registers = vec![];
         for r in row { if left.next_if_eq(&r).is_some() { registers.push(r) } }
         Part { handler, registers }
     };
-    let mut parts = vec![take(None, members(kept, resume.min(n)).into_iter().filter(|&r| Some(r) != result).collect())];
+    let mut parts = vec![take(None, found.row(resume).into_iter().filter(|&r| Some(r) != result).collect())];
     for &(_, h) in tries.iter().filter(|&&(s, h)| s < k && k < h) {
         let seen: Vec<u16> = parts.iter().flat_map(|p| p.registers.clone()).collect();
-        parts.push(take(Some(h), members(kept, h.min(n)).into_iter().filter(|r| !seen.contains(r)).collect()));
+        parts.push(take(Some(h), found.row(h).into_iter().filter(|r| !seen.contains(r)).collect()));
     }
     parts
 }
@@ -147,16 +167,17 @@ fn columns(lines: &[Line], registers: usize) -> Vec<u16> {
     all
 }
 
-fn remarks(body: &Body, lines: &[Line], kept: &Kept) -> Vec<String> {
+fn remarks(body: &Body, lines: &[Line], found: &Found) -> Vec<String> {
     let n = body.code.len();
     let first = body.code.iter().position(rows::level).unwrap_or(n);
-    let start = if body.registers > 64 || body.wide || kept.abandoned > 0 { 0 } else { first };
+    let wide = body.wide || body.registers > if body.rows32 { 32 } else { 64 };
+    let start = if wide || found.abandoned > 0 { 0 } else { first };
     let from = match start {
         0 => String::new(),
         _ if first == n => " No level: no row is looked for.".into(),
         _ => format!(" Rows are looked for from {start} on, the first level; before it they are empty."),
     };
-    let mut remarks = vec![format!("Sweeps: {} full, {} abandoned.{from}", kept.full, kept.abandoned)];
+    let mut remarks = vec![format!("{} of at most {}, {} abandoned.{from}", count(found.full as usize, "full sweep"), found.most, found.abandoned)];
     let untrue = untrue(body, lines, start);
     if !untrue.is_empty() { remarks.push(format!("ROWS THAT BREAK THEIR EQUATION: {}", and(&untrue))) }
     let outside = outside(body);

@@ -3,20 +3,26 @@
 use listing::{body, chunk, notation::{self, Text}, page, refused, text};
 use std::{env, fs, process::ExitCode};
 
-const USE: &str = "listing FILE [--html PAGE] [--strict] [--wide]
+const USE: &str = "listing FILE [--html PAGE] [--strict] [--wide] [--rows 32]
 FILE has a body or a chunk in the notation of document 01's examples (host/README.md); - is the standard input.
 --html PAGE   writes one self-contained page as well
 --strict      folds a chunk in strict mode
---wide        takes the wide route, which looks for rows from 0 on";
+--wide        takes the wide route, which looks for rows from 0 on
+--rows 32     has rows of 32 bits, where more than 32 registers take the wide route";
 
 fn run() -> Result<(), String> {
-    let (mut files, mut html, mut strict, mut wide) = (vec![], None, false, false);
+    let (mut files, mut html, mut strict, mut wide, mut rows32) = (vec![], None, false, false, None);
     let mut args = env::args().skip(1);
     while let Some(word) = args.next() {
         match word.as_str() {
             "--html" => html = Some(args.next().ok_or("--html wants the name of the page")?),
             "--strict" => strict = true,
             "--wide" => wide = true,
+            "--rows" => rows32 = Some(match args.next().as_deref() {
+                Some("32") => true,
+                Some("64") => false,
+                _ => return Err("--rows wants 32 or 64".into()),
+            }),
             _ if word.starts_with("--") => return Err(format!("no option {word}\n{USE}")),
             _ => files.push(word),
         }
@@ -27,6 +33,7 @@ fn run() -> Result<(), String> {
     let (heading, text, table) = match notation::read(&source).map_err(|e| format!("{file}: {e}"))? {
         Text::Body(mut b) => {
             b.wide |= wide;
+            b.rows32 = rows32.unwrap_or(b.rows32);
             let view = body::View::of(&b).map_err(|r| format!("{file}: {}", refused::body(r, &b)))?;
             (view.heading.clone(), text::body(&view), page::body(&view))
         }

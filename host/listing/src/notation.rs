@@ -1,6 +1,6 @@
 //! The notation of document 01's examples: read with errors by line, and written.
 
-use model::{code::is_call, question::{Kept, Question}, roles};
+use model::{code::is_call, question::{Kept32, Question}, roles};
 use std::fmt;
 use turniploom::{DUNDER, Ins, Instruction, JUMP, NAMES, Op, REGISTER, WIDE, abi, op};
 
@@ -12,8 +12,9 @@ pub struct Body {
     pub tail: Vec<u16>,
     pub registers: usize,
     pub tries: Vec<u32>,
-    /// Whether the wide route is forced.
+    /// Whether the wide route is forced, and whether the rows have words of 32 bits.
     pub wide: bool,
+    pub rows32: bool,
     /// The line of each instruction, if it was read.
     pub lines: Vec<usize>,
 }
@@ -94,6 +95,7 @@ struct Reader {
     entries: Vec<Entry>,
     registers: Option<usize>,
     wide: bool,
+    rows32: bool,
     strict: bool,
     tail: Vec<u16>,
     tries: Vec<u32>,
@@ -141,6 +143,9 @@ impl Reader {
             ("registers", [_]) => return Err("the registers are given twice".into()),
             ("route", ["wide"]) => self.wide = true,
             ("route", ["word"]) => self.wide = false,
+            ("rows", _) if self.chunk => return Err("a chunk has no `rows`".into()),
+            ("rows", ["32"]) => self.rows32 = true,
+            ("rows", ["64"]) => self.rows32 = false,
             ("strict", []) => self.strict = true,
             ("plain", []) => self.strict = false,
             ("try" | "tries", _) => self.tries.extend(numbers::<u32>(rest, "a try")?),
@@ -150,7 +155,7 @@ impl Reader {
             ("phi_sources", _) => self.phi_sources.extend(numbers::<u16>(rest, "phi_sources")?),
             ("stmt_pos", _) => self.stmt_pos.extend(numbers::<u32>(rest, "stmt_pos")?),
             ("call_byte_pos", _) => self.call_byte_pos.extend(numbers::<u32>(rest, "call_byte_pos")?),
-            ("chunk" | "registers" | "route" | "strict" | "plain", _) => return Err(format!("`{word}` is followed by `{}`", rest.join(" "))),
+            ("chunk" | "registers" | "route" | "rows" | "strict" | "plain", _) => return Err(format!("`{word}` is followed by `{}`", rest.join(" "))),
             _ => return Err(unknown(word)),
         }
         Ok(())
@@ -208,7 +213,7 @@ impl Reader {
             Ins { op: e.op, marks: 0, a, b, c, x }
         }).collect();
         for (k, e) in self.entries.iter().enumerate() { code[k].marks = e.exact.unwrap_or(usual(&code, k)) | e.marks }
-        Ok(Text::Body(Body { code, tail: self.tail, registers, tries: self.tries, wide: self.wide, lines }))
+        Ok(Text::Body(Body { code, tail: self.tail, registers, tries: self.tries, wide: self.wide, rows32: self.rows32, lines }))
     }
 }
 
@@ -235,7 +240,7 @@ fn opcode(name: &str) -> Read<Op> {
 }
 
 fn unknown(word: &str) -> String {
-    let settings = ["registers", "try", "route", "chunk", "strict", "constants", "phi_map", "phi_sources", "stmt_pos", "call_byte_pos", "words"];
+    let settings = ["registers", "try", "route", "rows", "chunk", "strict", "constants", "phi_map", "phi_sources", "stmt_pos", "call_byte_pos", "words"];
     let names = op::ALL.iter().filter_map(|o| o.name()).chain(settings);
     let near = names.map(|n| (distance(&word.to_lowercase(), &n.to_lowercase()), n)).min().filter(|&(d, _)| d <= 2);
     format!("no opcode and no setting is called `{word}`{}", near.map_or(String::new(), |(_, n)| format!("; is `{n}` meant?")))
@@ -329,6 +334,7 @@ impl fmt::Display for Body {
         writeln!(f, "registers {}", self.registers)?;
         for pair in self.tries.chunks(2) { write!(f, "{}", listed("try", pair))? }
         if self.wide { writeln!(f, "route wide")? }
+        if self.rows32 { writeln!(f, "rows 32")? }
         for k in 0..self.code.len() { writeln!(f, "{k} {}", ins_text(&self.code, k))? }
         write!(f, "{}", listed("words", &self.tail))
     }
@@ -357,9 +363,10 @@ pub fn asked(q: &Question) -> String {
         let body = Body {
             code,
             tail: words[whole..].to_vec(),
-            registers: if q.call == Kept { q.n("regs") as usize } else { 1_024 },
+            registers: if takes("regs") { q.n("regs") as usize } else { 1_024 },
             tries: if takes("tries") { q.u32("tries").to_vec() } else { vec![] },
             wide: takes("wide") && q.n("wide") != 0,
+            rows32: q.call == Kept32,
             lines: vec![],
         };
         return body.to_string();

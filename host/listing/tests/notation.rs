@@ -77,6 +77,8 @@ fn bad_text_is_named_by_line() {
         ("registers 4\nMove a0\nchunk", 3, "`chunk` must come before the first instruction"),
         ("chunk\nAdd b1", 2, "Add: an instruction of a chunk has one operand, not `b1`"),
         ("registers 1\n0", 2, "no instruction after position 0"),
+        ("registers 1\nrows 16", 2, "`rows` is followed by `16`"),
+        ("chunk\nrows 32", 2, "a chunk has no `rows`"),
     ] { assert_eq!(wrong(text), (line, says.to_string()), "{text}") }
     assert!(wrong("chunk\nconstants 1 nan").1.starts_with("`nan` is no constant"));
 }

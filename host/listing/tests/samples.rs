@@ -3,9 +3,12 @@
 use listing::{body, chunk, notation::{Text, read}, page, text};
 use std::{fs, path::Path};
 
-fn listed(name: &str) -> (String, String) {
-    let source = fs::read_to_string(Path::new(env!("CARGO_MANIFEST_DIR")).join("../../samples").join(name)).unwrap();
-    match read(&source).unwrap() {
+fn source(name: &str) -> String { fs::read_to_string(Path::new(env!("CARGO_MANIFEST_DIR")).join("../../samples").join(name)).unwrap() }
+
+fn listed(name: &str) -> (String, String) { shown(&source(name)) }
+
+fn shown(source: &str) -> (String, String) {
+    match read(source).unwrap() {
         Text::Body(b) => { let v = body::View::of(&b).unwrap(); (text::body(&v), page::body(&v)) }
         Text::Chunk(c) => { let v = chunk::View::of(&c).unwrap(); (text::chunk(&v), page::chunk(&v)) }
     }
@@ -35,14 +38,27 @@ fn code_k() {
 6 end                                 ····
 
 ● needed before the instruction, ▲ kept for the resume point.
-Sweeps: 1 full, 0 abandoned. Rows are looked for from 2 on, the first level; before it they are empty.
+1 full sweep of at most 2, 0 abandoned. Rows are looked for from 2 on, the first level; before it they are empty.
 "), "{text}");
 }
 
 #[test]
 fn a_try_around_the_recursive_call() {
     assert!(listed("jacket.txt").0.contains("r1 r3; r5 for the handler at 13"));
-    assert!(listed("P5.txt").0.contains("Sweeps: 3 full, 1 abandoned."));
+    assert!(listed("jacket.txt").0.contains("\n3 full sweeps of at most 4, 0 abandoned.\n"));
+    assert!(listed("P5.txt").0.contains("\n3 full sweeps of at most 3, 1 abandoned.\n"));
+}
+
+/// The rows of 32 bits show the same, but where the sweeps begin and how many there are.
+#[test]
+fn both_widths() {
+    for name in ["K.txt", "P5.txt", "jacket.txt"] { assert_eq!(shown(&(source(name) + "\nrows 32")), listed(name)) }
+    let (wide, narrow) = (listed("apart.txt").0, shown(&(source("apart.txt") + "\nrows 32")).0);
+    assert!(wide.contains("\n1 full sweep of at most 3, 0 abandoned. Rows are looked for from 1 on, the first level"), "{wide}");
+    assert!(narrow.contains("\n2 full sweeps of at most 3, 0 abandoned.\n"), "{narrow}");
+    assert!(!wide.contains("BREAK") && !narrow.contains("BREAK"), "{wide}{narrow}");
+    let Text::Body(b) = read("registers 33; rows 32").unwrap() else { panic!("a chunk") };
+    assert_eq!(body::View::of(&b).unwrap().heading, "no instruction, 33 registers, no try, rows of 32 bits");
 }
 
 #[test]

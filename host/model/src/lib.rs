@@ -77,7 +77,7 @@ fn over_code(q: &Question, lent: &mut Lent) -> Checked<[u64; 4]> {
         }
         PushedBack => walks::pushed_back(&code, at()?, q.n("r") as u16).map_or([0; 4], |p| [1, p as u64, 0, 0]),
         StackCallee => walks::stack_callee(&code, at()?, q.n("count") as u16).map_or([0; 4], |(p, r)| [1, p as u64, r.into(), 0]),
-        Kept => keeping(q, &code, lent)?,
+        Kept | Kept32 => keeping(q, &code, lent)?,
         Fold | Clear => unreachable!("it takes a chunk"),
     })
 }
@@ -95,16 +95,24 @@ fn keeping(q: &Question, code: &[turniploom::Ins], lent: &mut Lent) -> Checked<[
     let n = code.len();
     let regs = code::registers(q.n("regs"))?;
     let tries = code::tries(q.u32("tries"), n)?;
-    let needed = (n + 1) * rows::words(regs);
-    code::room(1, lent.u64("rows").len(), needed)?;
+    let bits = q.call.row_bits();
+    code::room(1, lent.get("rows").numbers()[0] as usize, (n + 1) * rows::words(regs, bits))?;
     code::room(2, lent.u32("offsets").len(), n + 1)?;
-    let found = rows::rows(code, regs, q.n("wide") != 0);
+    let found = rows::rows(code, regs, bits, q.n("wide") != 0);
     let lists = rows::kept(code, &found, &tries, false);
-    lent.u64("rows")[..needed].copy_from_slice(&found.rows);
+    lay_rows(&found.rows, lent);
     let total: usize = lists.iter().map(Vec::len).sum();
     code::room(3, lent.u16("list").len(), total)?;
     lay_lists(&lists, lent);
     Ok([total as u64, found.full, found.abandoned, 0])
+}
+
+/// Writes the rows, in words of their width.
+pub fn lay_rows(rows: &[u64], lent: &mut Lent) {
+    match lent.get("rows") {
+        Arg::U32(words) => for (e, &w) in words.iter_mut().zip(rows) { *e = w.try_into().expect("a word of 32 bits") },
+        words => words.u64()[..rows.len()].copy_from_slice(rows),
+    }
 }
 
 /// Writes the lists and their offsets, as far as there is room.

@@ -17,7 +17,7 @@ macro_rules! calls {
 
 calls! {
     Kinds, Role, Field, Writes, Pure, Flat, Guarded, Returns, ParamsWritten, Passed, GenPure, DeadPhi, LoopsAround, Targets, GlobalOf, PushedBack,
-    StackCallee, Kept, Fold, Clear
+    StackCallee, Kept, Fold, Clear, Kept32
 }
 
 pub use Call::*;
@@ -33,6 +33,9 @@ impl Call {
     /// Whether it takes a chunk, and how many words an instruction then has.
     pub fn of_a_chunk(self) -> bool { matches!(self, Fold | Clear) }
     pub fn stride(self) -> usize { if self.of_a_chunk() { 3 } else { 6 } }
+    /// Whether it tells the kept registers, and how many bits a word of its rows then has.
+    pub fn keeps(self) -> bool { matches!(self, Kept | Kept32) }
+    pub fn row_bits(self) -> usize { if self == Kept32 { 32 } else { 64 } }
 }
 
 /// A number or a slice.

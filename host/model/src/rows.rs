@@ -56,9 +56,10 @@ fn equation(code: &[Ins], k: usize, regs: usize) -> Equation {
     Equation { used, given_up, after, jump: jumps(i).then_some(i.a as usize) }
 }
 
-/// The rows of a code, `words` words each, and the sweeps that found them.
+/// The rows of a code, `words` words of `bits` bits each, and the sweeps that found them.
 #[derive(Clone, Debug, PartialEq, Eq)]
 pub struct Rows {
+    pub bits: usize,
     pub words: usize,
     pub rows: Vec<u64>,
     pub full: u64,
@@ -67,6 +68,7 @@ pub struct Rows {
 
 impl Rows {
     pub fn row(&self, k: usize) -> &[u64] { &self.rows[k * self.words..][..self.words] }
+    pub fn has(&self, k: usize, r: u16) -> bool { self.row(k)[r as usize / self.bits] >> (r as usize % self.bits) & 1 != 0 }
 }
 
 /// How a sweep ends.
@@ -76,8 +78,10 @@ enum Swept {
     Full(bool, bool),
 }
 
-fn sweep(equations: &[Equation], from: usize, words: usize, rows: &mut [u64]) -> Swept {
+fn sweep(equations: &[Equation], from: usize, found: &mut Rows) -> Swept {
     let (mut changed, mut back) = (false, false);
+    let Rows { bits, words, rows, .. } = found;
+    let (bits, words) = (*bits, *words);
     let mut row = vec![0; words];
     for k in (from..equations.len()).rev() {
         let e = &equations[k];
@@ -85,8 +89,8 @@ fn sweep(equations: &[Equation], from: usize, words: usize, rows: &mut [u64]) ->
         back |= e.jump.is_some_and(|to| to <= k);
         row.fill(0);
         for &at in &e.after { for w in 0..words { row[w] |= rows[at * words + w] } }
-        for &r in &e.given_up { row[r as usize / 64] &= !(1 << (r % 64)) }
-        for &r in &e.used { row[r as usize / 64] |= 1 << (r % 64) }
+        for &r in &e.given_up { row[r as usize / bits] &= !(1 << (r as usize % bits)) }
+        for &r in &e.used { row[r as usize / bits] |= 1 << (r as usize % bits) }
         let old = &mut rows[k * words..][..words];
         changed |= *old != *row;
         old.copy_from_slice(&row);
@@ -94,18 +98,25 @@ fn sweep(equations: &[Equation], from: usize, words: usize, rows: &mut [u64]) ->
     Swept::Full(changed, back)
 }
 
-pub fn words(regs: usize) -> usize { regs.div_ceil(64).max(1) }
+/// The words of a row, of so many bits each.
+pub fn words(regs: usize, bits: usize) -> usize { regs.div_ceil(bits).max(1) }
 
 pub fn level(i: &Ins) -> bool { fact(i.op).level || i.marks & DUNDER != 0 }
 
-/// The rows by the word route, or by the wide one.
-pub fn rows(code: &[Ins], regs: usize, force_wide: bool) -> Rows {
+/// Rows with nothing in them yet.
+fn empty(n: usize, regs: usize, bits: usize) -> Rows {
+    let words = words(regs, bits);
+    Rows { bits, words, rows: vec![0; (n + 1) * words], full: 0, abandoned: 0 }
+}
+
+/// The rows in words of so many bits, by the word route, up to as many registers, or by the wide one.
+pub fn rows(code: &[Ins], regs: usize, bits: usize, force_wide: bool) -> Rows {
     let n = code.len();
     let equations: Vec<Equation> = (0..n).map(|k| equation(code, k, regs)).collect();
-    let mut from = if regs > 64 || force_wide { 0 } else { code.iter().position(level).unwrap_or(n) };
-    let mut found = Rows { words: words(regs), rows: vec![0; (n + 1) * words(regs)], full: 0, abandoned: 0 };
+    let mut from = if regs > bits || force_wide { 0 } else { code.iter().position(level).unwrap_or(n) };
+    let mut found = empty(n, regs, bits);
     loop {
-        match sweep(&equations, from, found.words, &mut found.rows) {
+        match sweep(&equations, from, &mut found) {
             Swept::Abandoned => {
                 found.abandoned += 1;
                 found.rows.fill(0);
@@ -120,11 +131,11 @@ pub fn rows(code: &[Ins], regs: usize, force_wide: bool) -> Rows {
 }
 
 /// The least solution, by asking every equation until none changes: what the rows must be from the final start on.
-pub fn least(code: &[Ins], regs: usize) -> Vec<u64> {
+pub fn least(code: &[Ins], regs: usize, bits: usize) -> Vec<u64> {
     let equations: Vec<Equation> = (0..code.len()).map(|k| equation(code, k, regs)).collect();
-    let mut rows = vec![0; (code.len() + 1) * words(regs)];
-    while matches!(sweep(&equations, 0, words(regs), &mut rows), Swept::Full(true, _)) {}
-    rows
+    let mut found = empty(code.len(), regs, bits);
+    while matches!(sweep(&equations, 0, &mut found), Swept::Full(true, _)) {}
+    found.rows
 }
 
 /// Where the level at `k` resumes, and its result register.
@@ -142,8 +153,8 @@ pub fn resume(code: &[Ins], k: usize) -> (usize, Option<u16>) {
 /// the Rust does at 65 registers or more where no jump goes to itself or back.
 pub fn kept(code: &[Ins], found: &Rows, tries: &[(usize, usize)], early: bool) -> Vec<Vec<u16>> {
     let n = code.len();
-    let has = |k: usize, r: u16| found.row(k.min(n))[r as usize / 64] >> (r % 64) & 1 != 0;
-    let registers = 0..(found.words * 64) as u16;
+    let has = |k: usize, r: u16| found.has(k.min(n), r);
+    let registers = 0..(found.words * found.bits) as u16;
     (0..n).map(|k| {
         if !level(&code[k]) { return vec![] }
         let (s, result) = resume(code, k);
@@ -157,5 +168,5 @@ pub fn kept(code: &[Ins], found: &Rows, tries: &[(usize, usize)], early: bool) -
     }).collect()
 }
 
-/// Whether some jump goes to its own position or back.
-pub fn goes_back(code: &[Ins]) -> bool { code.iter().enumerate().any(|(k, i)| jumps(i) && i.a as usize <= k) }
+/// The jumps to their own position or back. There are at most two full sweeps more.
+pub fn jumps_back(code: &[Ins]) -> usize { code.iter().enumerate().filter(|(k, i)| jumps(i) && i.a as usize <= *k).count() }

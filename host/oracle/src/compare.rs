@@ -1,6 +1,6 @@
 //! The comparison: each question to the port, the Rust and the model, and a row of counts per call.
 
-use crate::{chunks, original, question::*, questions, rng::Rng, shrink::shrink};
+use crate::{chunks, original, question::*, questions, rng::Rng, shrink::shrink, widths};
 use listing::notation;
 use std::{
     cell::Cell, collections::BTreeMap, panic::{AssertUnwindSafe, catch_unwind, set_hook, take_hook}, sync::{Mutex, atomic::{AtomicUsize, Ordering}}, thread,
@@ -174,6 +174,10 @@ impl Comparison {
             Ok(Some((false, r))) => wrong.push(("the Rust", shown(&r))),
             Err(says) => wrong.push(("the Rust", says)),
         }
+        if wrong.is_empty() {
+            let broken = caught(|| widths::broken(q, &model, self.port.unwrap_or(self.model)));
+            wrong.extend(broken.unwrap_or_else(|says| Some(("the other width", says))));
+        }
         Judged { model: Some(model), rust, listed, wrong }
     }
 
@@ -286,7 +290,8 @@ fn slice(arg: &Arg) -> String {
     format!("{words:?}{}", if more { format!(" of {}", numbers[0]) } else { String::new() })
 }
 
-fn shown(r: &Reply) -> String {
+/// A reply as a line.
+pub fn shown(r: &Reply) -> String {
     let buffers: Vec<String> = r.lent.buffers.iter().map(slice).collect();
     format!("{:?} {}", r.values(), buffers.join(" "))
 }

@@ -11,5 +11,6 @@ pub mod questions;
 pub mod record;
 pub mod rng;
 pub mod shrink;
+pub mod widths;
 
 pub use model::{self, question};

@@ -32,7 +32,7 @@ pub fn number(o: OpCode) -> Op { Op((1..NAMED.len()).find(|&k| NAMED[k] == o).un
 /// The Rust's reply laid over the model's, or none where it can't say: to what it is never asked, in strict mode, and where
 /// marks differ from its own tests.
 pub fn ask(q: &Question, model: &Reply) -> Option<Reply> {
-    let list_short = q.call == Kept && model.answer.refusal == 5 && model.answer.first == 3;
+    let list_short = q.call.keeps() && model.answer.refusal == 5 && model.answer.first == 3;
     if model.answer.refusal != 0 && !list_short { return None }
     let mut reply = model.clone();
     match q.call {
@@ -85,7 +85,7 @@ fn over_code(q: &Question, reply: &mut Reply) -> Option<()> {
         GlobalOf => rust::global_of(&code, at(), code[at()]).map_or([0; 4], |b| [1, b.into(), 0, 0]),
         PushedBack => rust::pushed_back(&code, at(), r()).map_or([0; 4], |p| [1, p as u64, 0, 0]),
         StackCallee => rust::stack_callee(&code, at(), q.n("count") as usize).map_or([0; 4], |(p, r)| [1, p as u64, r.into(), 0]),
-        Kept => return keeping(q, &code, &tries(), reply),
+        Kept | Kept32 => return keeping(q, &code, &tries(), reply),
         Fold | Clear => unreachable!("it takes a chunk"),
     };
     let a = &mut reply.answer;
@@ -93,14 +93,16 @@ fn over_code(q: &Question, reply: &mut Reply) -> Option<()> {
     Some(())
 }
 
-/// The lists, and for up to 64 registers the rows. The Rust counts no sweeps.
+/// The lists, and for up to 64 registers the rows, in words of the call's width. The Rust counts no sweeps.
 fn keeping(q: &Question, code: &[lower::Ins], tries: &[(usize, usize)], reply: &mut Reply) -> Option<()> {
     lower::set_dunder_ops(dunder_ops(q.u16("code"))?);
     let regs = q.n("regs") as usize;
     if regs <= 64 {
-        let from = if q.n("wide") != 0 { 0 } else { rust::first_read(code, tries) };
-        let rows = rust::live_rows(code, regs, from);
-        reply.lent.u64("rows")[..rows.len()].copy_from_slice(&rows);
+        let bits = q.call.row_bits();
+        let from = if q.n("wide") != 0 || regs > bits { 0 } else { rust::first_read(code, tries) };
+        let parts = |row: u64| (0..rows::words(regs, bits)).map(move |w| row >> (w * bits) & u64::MAX >> (64 - bits));
+        let rows: Vec<u64> = rust::live_rows(code, regs, from).into_iter().flat_map(parts).collect();
+        model::lay_rows(&rows, &mut reply.lent);
     }
     let lists = rust::live_across(code, regs, tries);
     let total = lists.iter().map(Vec::len).sum::<usize>() as u64;
@@ -210,7 +212,7 @@ pub enum Listed {
 /// The listed difference that explains, word for word, why the Rust's reply is not the model's.
 pub fn listed(q: &Question, model: &Reply, rust: &Reply) -> Option<Listed> {
     match q.call {
-        Kept => early_row(q, model, rust),
+        Kept | Kept32 => early_row(q, model, rust),
         Fold => nan_sign(q, rust),
         _ => None,
     }
@@ -219,9 +221,9 @@ pub fn listed(q: &Question, model: &Reply, rust: &Reply) -> Option<Listed> {
 fn early_row(q: &Question, model: &Reply, rust: &Reply) -> Option<Listed> {
     let code: Vec<Ins> = model::code::code(q.u16("code")).ok()?;
     let regs = q.n("regs") as usize;
-    if regs <= 64 || rows::goes_back(&code) { return None }
+    if regs <= 64 || rows::jumps_back(&code) > 0 { return None }
     let tries = model::code::tries(q.u32("tries"), code.len()).ok()?;
-    let lists = rows::kept(&code, &rows::rows(&code, regs, true), &tries, true);
+    let lists = rows::kept(&code, &rows::rows(&code, regs, q.call.row_bits(), true), &tries, true);
     let total = lists.iter().map(Vec::len).sum::<usize>() as u64;
     let mut expected = model.clone();
     if model.answer.refusal == 5 {

@@ -20,6 +20,9 @@ pub fn random(rng: &mut Rng, call: Call) -> Question {
 fn registers(rng: &mut Rng, call: Call) -> usize {
     match call {
         Kept => rng.weighted(&[(1, 0), (1, 1), (4, 4), (8, 8), (3, 31), (2, 63), (3, 64), (3, 65), (2, 66), (2, 127), (1, 128), (1, 129), (1, 500), (1, 1_023), (1, 1_024)]),
+        Kept32 => rng.weighted(&[
+            (1, 0), (1, 1), (4, 4), (8, 8), (2, 31), (3, 32), (3, 33), (2, 34), (2, 63), (3, 64), (2, 65), (1, 96), (1, 97), (1, 500), (1, 1_024),
+        ]),
         GlobalOf | PushedBack | DeadPhi => 3,
         _ => rng.pick(&[3, 6, 6, 12, 70]),
     }
@@ -64,7 +67,7 @@ fn ask(rng: &mut Rng, call: Call, code: &[Ins], words: Vec<u16>, regs: usize) ->
         "tries" => Arg::U32(tries(rng, n, &[])),
         "wide" => Arg::N(rng.once_in(3).into()),
         "seen" | "todo" | "out" | "offsets" => buffer(rng, p.kind, n + 1),
-        "rows" => buffer(rng, p.kind, (n + 1) * crate::model::rows::words(regs)),
+        "rows" => buffer(rng, p.kind, (n + 1) * crate::model::rows::words(regs, call.row_bits())),
         "list" => { let room = if rng.once_in(12) { rng.below(8) } else { n * regs.min(1_024) }; Arg::U16(junk(rng, room)) }
         other => panic!("no {other}"),
     }).collect();
@@ -185,7 +188,7 @@ fn short_codes(rng: &mut Rng, call: Call, take: &mut dyn FnMut(Question)) {
         let words = abi::words(&code).to_vec();
         let positions = if call.takes("at") { code.len() + 1 } else { 1 };
         for at in 0..positions {
-            let regs = rng.pick(&[3, 3, 64, 65]);
+            let regs = rng.pick(&[3, 3, call.row_bits(), call.row_bits() + 1]);
             let mut q = ask(rng, call, &code, words.clone(), regs);
             if positions > 1 { q.args[1] = Arg::N(at as u64) }
             take(q);

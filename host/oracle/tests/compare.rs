@@ -61,6 +61,30 @@ fn a_wrong_port_is_caught() {
     assert!(!well && text.contains("# the port: "), "{text}");
 }
 
+/// More sweeps than are told before the call, or at one width another list.
+fn sweeps(q: &Question) -> Reply {
+    let mut reply = model::ask(q);
+    if reply.answer.refusal == 0 && reply.answer.second > 1 { reply.answer.second += 70_000 }
+    reply
+}
+
+fn apart(q: &Question) -> Reply {
+    let mut reply = model::ask(q);
+    if q.call == Kept32 && reply.answer.refusal == 0 && reply.answer.first > 1 { reply.lent.u16("list").swap(0, 1) }
+    reply
+}
+
+/// The Rust counts no sweeps, and where marks are not its own it tells no list: what holds of the replies by themselves is looked at too.
+#[test]
+fn a_port_and_a_model_that_are_wrong_alike_are_caught() {
+    let (well, text) = compared(Some(sweeps), sweeps, &[Kept, Kept32], 1);
+    assert!(!well && text.contains("# the bound: at most ") && text.contains(" full sweeps and 1 abandoned, not 7000"), "{text}");
+    let (well, text) = compared(Some(apart), apart, &[Kept], 1);
+    assert!(!well && text.contains("# the other width: [0, "), "{text}");
+    let (well, text) = compared(None, apart, &[Kept], 1);
+    assert!(!well && text.contains("# the other width: [0, "), "{text}");
+}
+
 #[test]
 fn what_is_left_out_is_told() {
     let comparison = Comparison::of(Some(port::ask), model::ask, &[Kept, Fold]);

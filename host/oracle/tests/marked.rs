@@ -1,6 +1,7 @@
-//! The marked examples of document 01: the model has them, and so has the Rust but for the listed difference of P4.
+//! The marked examples of document 01: the model has them, and so has the Rust but for the listed difference of P4. P1 to P6 keep the same
+//! with rows of 32 bits.
 
-use oracle::{model::{self, rows}, original, port, question::*};
+use oracle::{model::{self, rows}, original, port, question::*, widths};
 use turniploom::{Ins, NAMES, Op, abi, op};
 
 fn i(op: Op, a: u16, b: u16, c: u16, x: u16) -> Ins { Ins { op, marks: 0, a, b, c, x } }
@@ -13,6 +14,7 @@ fn agreed(q: &Question) -> Reply {
     model
 }
 
+#[derive(Debug, PartialEq)]
 struct Told {
     refusal: u8,
     rows: Vec<u64>,
@@ -21,16 +23,27 @@ struct Told {
     abandoned: u64,
 }
 
-fn kept(code: &[Ins], regs: usize, tries: &[u32], wide: bool) -> Told {
+/// What the call of either width tells.
+fn told(call: Call, code: &[Ins], regs: usize, tries: &[u32], wide: bool) -> Told {
     let n = code.len();
-    let args = vec![
-        Arg::U16(abi::words(code).to_vec()), Arg::N(regs as u64), Arg::U32(tries.to_vec()), Arg::N(wide.into()),
-        Arg::U64(vec![9; (n + 1) * rows::words(regs)]), Arg::U32(vec![9; n + 1]), Arg::U16(vec![9; n * regs]),
-    ];
-    let mut r = agreed(&Question { call: Kept, args });
-    let (rows, offsets, list) = (r.lent.u64("rows").clone(), r.lent.u32("offsets").clone(), r.lent.u16("list").clone());
+    let length = (n + 1) * rows::words(regs, call.row_bits());
+    let rows = if call == Kept32 { Arg::U32(vec![9; length]) } else { Arg::U64(vec![9; length]) };
+    let q = Question::of(call, [
+        ("code", Arg::U16(abi::words(code).to_vec())), ("regs", Arg::N(regs as u64)), ("tries", Arg::U32(tries.to_vec())), ("wide", Arg::N(wide.into())),
+        ("rows", rows), ("offsets", Arg::U32(vec![9; n + 1])), ("list", Arg::U16(vec![9; n * regs])),
+    ]);
+    let mut r = agreed(&q);
+    assert_eq!(widths::broken(&q, &r, port::ask), None);
+    let (rows, offsets, list) = (r.lent.get("rows").numbers()[1..].to_vec(), r.lent.u32("offsets").clone(), r.lent.u16("list").clone());
     let lists = if r.answer.refusal == 0 { offsets.windows(2).map(|o| list[o[0] as usize..o[1] as usize].to_vec()).collect() } else { vec![] };
     Told { refusal: r.answer.refusal, rows, lists, full: r.answer.second, abandoned: r.answer.third }
+}
+
+/// What the call of 64 bits tells; with up to 32 registers the other tells it too.
+fn kept(code: &[Ins], regs: usize, tries: &[u32], wide: bool) -> Told {
+    let told = |call: Call| told(call, code, regs, tries, wide);
+    if regs <= 32 { assert_eq!(told(Kept), told(Kept32)) } else { assert_eq!(told(Kept).lists, told(Kept32).lists) }
+    told(Kept)
 }
 
 fn code_k() -> Vec<Ins> {
@@ -71,6 +84,17 @@ fn p5() {
 fn p6() {
     let code = [i(op::PushRegs, 5, 0, 0, 1), i(op::CallGlobalR, 3, 0, 0, 0), i(op::StoreTopR, 1, 0, 0, 0), i(op::StoreTopR, 5, 0, 0, 0), i(op::ReturnR, 0, 5, 0, 0)];
     assert_eq!(kept(&code, 6, &[], false).lists[1], [5]);
+}
+
+/// A jump to itself before the only level, with 33 registers: words of 64 bits take the word route, which begins at the level, and words of
+/// 32 the wide one, which begins at 0.
+#[test]
+fn the_widths_count_apart() {
+    let code = [i(op::Jump, 0, 0, 0, 0), i(op::GetAttrR, 0, 0, 0, 0)];
+    let (by_64, by_32) = (told(Kept, &code, 33, &[], false), told(Kept32, &code, 33, &[], false));
+    assert_eq!((by_64.full, by_64.rows, by_32.full, by_32.rows), (1, vec![0, 1, 0], 2, vec![0, 0, 1, 0, 0, 0]));
+    assert_eq!(by_64.lists, by_32.lists);
+    assert_eq!((told(Kept, &code, 33, &[], true).full, told(Kept32, &code, 32, &[], false).full), (2, 1));
 }
 
 /// What a chunk becomes: its instructions and its pool.
@@ -205,14 +229,14 @@ fn refusals_of_tries_and_landings() {
 #[test]
 fn sweeps_end_at_the_least_solution() {
     let mut rng = oracle::rng::Rng::new(7, 0);
-    for _ in 0..20_000 {
-        let regs = rng.pick(&[3, 8, 64, 65, 130]);
+    for k in 0..20_000 {
+        let (regs, bits) = (rng.pick(&[3, 8, 32, 33, 64, 65, 130]), if k % 2 == 0 { 64 } else { 32 });
         let code = oracle::bodies::body(&mut rng, Kept, regs);
-        let least = rows::least(&code, regs);
-        assert_eq!(rows::rows(&code, regs, true).rows, least);
-        let word = rows::rows(&code, regs, false);
-        let start = if word.abandoned > 0 || regs > 64 { 0 } else { code.iter().position(rows::level).unwrap_or(code.len()) };
+        let least = rows::least(&code, regs, bits);
+        assert_eq!(rows::rows(&code, regs, bits, true).rows, least);
+        let word = rows::rows(&code, regs, bits, false);
+        let start = if word.abandoned > 0 || regs > bits { 0 } else { code.iter().position(rows::level).unwrap_or(code.len()) };
         assert!(word.rows[..start].iter().all(|&w| w == 0));
-        if regs <= 64 { assert_eq!(word.rows[start..], least[start..]) }
+        if regs <= bits { assert_eq!(word.rows[start..], least[start..]) }
     }
 }

@@ -7,12 +7,13 @@ use oracle::{question::*, questions, rng::Rng};
 fn written_and_read_back() {
     let mut rng = Rng::new(11, 0);
     for k in 0..20_000 {
-        let q = questions::random(&mut rng, [Kept, Kinds, Targets, Fold, Clear][k % 5]);
+        let q = questions::random(&mut rng, [Kept, Kept32, Kinds, Targets, Fold, Clear][k % 6]);
         let text = asked(&q);
         match read(&text).unwrap_or_else(|e| panic!("{e}\n{text}")) {
             Text::Body(b) => {
                 assert_eq!(b.words(), q.u16("code"), "{text}");
-                if q.call == Kept { assert_eq!((b.registers as u64, &b.tries[..], u64::from(b.wide)), (q.n("regs"), q.u32("tries"), q.n("wide")), "{text}") }
+                assert_eq!(b.rows32, q.call == Kept32, "{text}");
+                if q.call.keeps() { assert_eq!((b.registers as u64, &b.tries[..], u64::from(b.wide)), (q.n("regs"), q.u32("tries"), q.n("wide")), "{text}") }
             }
             Text::Chunk(c) => {
                 assert_eq!(c.words(), q.u16("code"), "{text}");

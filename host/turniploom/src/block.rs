@@ -16,7 +16,7 @@ use alloc::vec::Vec;
 fn granted<T>(answer: Result<T, Refusal>) -> T { answer.unwrap_or_else(|refusal| panic!("turniploom: {refusal}")) }
 
 /// A code that holds an instruction at 1: something before an ArgsR, and an ArgsR after a wide call.
-fn around(i: &Ins) -> [Ins; 3] { [Ins::default(), *i, Ins { op: op::ArgsR, ..Ins::default() }] }
+pub(crate) fn around(i: &Ins) -> [Ins; 3] { [Ins::default(), *i, Ins { op: op::ArgsR, ..Ins::default() }] }
 
 /// Functions that the crate's root has with the same parameters, and those about one instruction by itself.
 macro_rules! calls {

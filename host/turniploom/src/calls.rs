@@ -1,7 +1,7 @@
 //! The calls of block.rs, under its names and as near its signatures as a refusal allows. Code is a slice of [`Ins`](crate::Ins)
 //! or of their words.
 
-use crate::{Code, Refusal, abi::{self, Answer}};
+use crate::{Code, Ins, Refusal, abi::{self, Answer}, block::around};
 use alloc::{vec, vec::Vec};
 
 /// What an instruction does with `a` to `c` (0 to 2), as block.rs tells it: whether `a` is written, which fields are read registers, and
@@ -176,25 +176,25 @@ pub fn stack_callee(ins: &(impl Code + ?Sized), j: usize, n: u16) -> Result<Opti
     Ok((found.first != 0).then_some((found.second as usize, found.third as u16)))
 }
 
-/// The rows of a code, the registers kept at each level, and the sweeps that found them.
+/// The rows of a code, the registers kept at each level, and the sweeps that found them. A word of a row is a `u64`, or for [`kept32`] a `u32`.
 #[derive(Clone, Debug, PartialEq, Eq)]
 #[non_exhaustive]
-pub struct Kept {
+pub struct Kept<W = u64> {
     /// The rows, `words` words each, the end's too.
-    pub rows: Vec<u64>,
+    pub rows: Vec<W>,
     /// The words of a row.
     pub words: usize,
     /// The lists one after another.
     pub list: Vec<u16>,
     /// Where the list of each position begins, and where the last ends.
     pub offsets: Vec<u32>,
-    /// Full sweeps.
+    /// Full sweeps, at most [`most_sweeps`].
     pub full: u64,
-    /// Abandoned sweeps.
+    /// Abandoned sweeps, at most one.
     pub abandoned: u64,
 }
 
-impl Kept {
+impl<W: Copy + Into<u64>> Kept<W> {
     /// The registers kept at position `k`, none where there is no level.
     ///
     /// # Panics
@@ -207,20 +207,44 @@ impl Kept {
         (0..self.offsets.len() - 1).map(|k| (k, self.at(k))).filter(|(_, kept)| !kept.is_empty())
     }
 
-    /// The row of position `k`, the registers needed before it, a bit each. Without the wide route, and with at most 64 registers, rows
-    /// before the first level may be left empty.
+    /// The row of position `k`, the registers needed before it, a bit each. Without the wide route, and with at most as many registers as a word
+    /// has bits, rows before the first level may be left empty.
     ///
     /// # Panics
     ///
     /// If `k` is past the end.
-    pub fn row(&self, k: usize) -> &[u64] { &self.rows[k * self.words..][..self.words] }
+    pub fn row(&self, k: usize) -> &[W] { &self.rows[k * self.words..][..self.words] }
 
     /// Whether register `r` is in the row of position `k`. A register that is not below the count is in none.
     ///
     /// # Panics
     ///
     /// If `k` is past the end.
-    pub fn needed(&self, k: usize, r: u16) -> bool { self.row(k).get(usize::from(r) / 64).is_some_and(|w| w >> (r % 64) & 1 != 0) }
+    pub fn needed(&self, k: usize, r: u16) -> bool {
+        let (bits, r) = (8 * size_of::<W>(), usize::from(r));
+        self.row(k).get(r / bits).is_some_and(|&w| w.into() >> (r % bits) & 1 != 0)
+    }
+}
+
+/// One of the two kept-register calls.
+type Keep<W> = fn(&[u16], usize, &[u32], bool, &mut [W], &mut [u32], &mut [u16]) -> Answer;
+
+/// Asks it with rows of so many words, and again with a longer list if it says that one is needed.
+fn found<W: Copy + Default>(
+    keep: Keep<W>, words: usize, ins: &(impl Code + ?Sized), regs: usize, tries: &[(usize, usize)], wide: bool,
+) -> Result<Kept<W>, Refusal> {
+    let (code, tries, n) = (ins.words(), lent(tries), length(ins));
+    let (mut rows, mut offsets, mut list) = (vec![W::default(); n * words], vec![0; n], vec![0; 4 * n]);
+    loop {
+        match keep(code, regs, &tries, wide, &mut rows, &mut offsets, &mut list).granted() {
+            Err(Refusal::Buffer { buffer: 3, needed }) => list.resize(needed as usize, 0),
+            Err(refusal) => return Err(refusal),
+            Ok(answer) => {
+                list.truncate(answer.first as usize);
+                return Ok(Kept { rows, words, list, offsets, full: answer.second, abandoned: answer.third });
+            }
+        }
+    }
 }
 
 /// The registers kept at each level of a code with `regs` registers; `wide` forces the wide route, which starts at 0.
@@ -248,19 +272,63 @@ impl Kept {
 ///
 /// [`Refusal::Code`] or [`Refusal::Record`] for bad code, [`Refusal::Registers`] for more than 1,024 registers, [`Refusal::Try`] for a bad try.
 pub fn kept(ins: &(impl Code + ?Sized), regs: usize, tries: &[(usize, usize)], wide: bool) -> Result<Kept, Refusal> {
-    let words = abi::row_words(regs.min(1_024));
-    let (code, tries, n) = (ins.words(), lent(tries), length(ins));
-    let (mut rows, mut offsets, mut list) = (vec![0; n * words], vec![0; n], vec![0; 4 * n]);
-    loop {
-        match abi::kept(code, regs, &tries, wide, &mut rows, &mut offsets, &mut list).granted() {
-            Err(Refusal::Buffer { buffer: 3, needed }) => list.resize(needed as usize, 0),
-            Err(refusal) => return Err(refusal),
-            Ok(answer) => {
-                list.truncate(answer.first as usize);
-                return Ok(Kept { rows, words, list, offsets, full: answer.second, abandoned: answer.third });
-            }
-        }
+    found(abi::kept, abi::row_words(regs.min(1_024)), ins, regs, tries, wide)
+}
+
+/// [`kept`] with rows of 32 bits, for a reader that knows no wider words: the same lists. More than 32 registers take the wide route, so the
+/// rows before the first level and the counts of sweeps may differ.
+///
+/// A jump to itself before the only level, which the wide route sweeps too:
+///
+/// ```
+/// use turniploom::{Lowered, kept, kept32, marked, most_sweeps, op::*};
+/// let code = marked(&[Lowered::new(Jump, 0, 0, 0, 0), Lowered::new(GetAttrR, 0, 0, 0, 0)], |_| false);
+/// let (by_64, by_32) = (kept(&code, 33, &[], false)?, kept32(&code, 33, &[], false)?);
+/// assert_eq!((&by_64.rows[..], &by_32.rows[..]), (&[0, 1, 0][..], &[0, 0, 1, 0, 0, 0][..]));
+/// assert_eq!((by_64.full, by_32.full, most_sweeps(&code)?), (1, 2, 3));
+/// assert_eq!((by_64.list, by_64.offsets), (by_32.list, by_32.offsets));
+/// # Ok::<(), turniploom::Refusal>(())
+/// ```
+///
+/// # Errors
+///
+/// As [`kept`].
+pub fn kept32(ins: &(impl Code + ?Sized), regs: usize, tries: &[(usize, usize)], wide: bool) -> Result<Kept<u32>, Refusal> {
+    found(abi::kept32, abi::row_words32(regs.min(1_024)), ins, regs, tries, wide)
+}
+
+/// The most full sweeps that [`kept`] and [`kept32`] make of this code, whatever its registers, tries and route: as many as it has jumps to
+/// their own position or back, and two. At most one more is abandoned. It is known before the call, for a progress bar.
+///
+/// The loop of P5 in document 01 has one such jump, and needs them all:
+///
+/// ```
+/// use turniploom::{Lowered, kept, marked, most_sweeps, op::*};
+/// let p5 = [
+///     Lowered::new(Move, 1, 0, 0, 0),
+///     Lowered::new(LenR, 2, 1, 0, 0),
+///     Lowered::new(JumpIfFalseR, 4, 1, 0, 0),
+///     Lowered::new(Jump, 0, 0, 0, 0),
+///     Lowered::new(ReturnR, 0, 2, 0, 0),
+/// ];
+/// let p5 = marked(&p5, |_| false);
+/// assert_eq!((most_sweeps(&p5)?, kept(&p5, 3, &[], false)?.full), (3, 3));
+/// # Ok::<(), turniploom::Refusal>(())
+/// ```
+///
+/// # Errors
+///
+/// [`Refusal::Code`] or [`Refusal::Record`] for bad code.
+pub fn most_sweeps(ins: &(impl Code + ?Sized)) -> Result<u64, Refusal> {
+    // Any call that tests the whole code; then each instruction is asked about by itself, since every call tests all that it is lent.
+    guarded(ins)?;
+    let jumps = |i: &Ins| Ok(kinds(&around(i), 1)? & 16 != 0);
+    let mut most = 2;
+    for (k, w) in ins.words().chunks_exact(6).enumerate() {
+        let i = Ins::of([w[0], w[1], w[2], w[3], w[4], w[5]]);
+        most += u64::from(usize::from(i.a) <= k && jumps(&i)?);
     }
+    Ok(most)
 }
 
 /// For each position, the registers that a call coming back into a level there must keep.

@@ -58,4 +58,9 @@ calls! {
     /// Drops the constants that no instruction names; the others keep their order, what names them is renumbered, and freed entries are
     /// 0. scratch needs an entry for each constant, and then holds how many named ones stand before it.
     clear(code: &mut [u16], kinds: &mut [u8], words: &mut [u64], constants: usize, scratch: &mut [u32]) -> { first: "constants left" };
+    /// kept with rows of 32 bits: rows is (n + 1) times max(1, registers / 32 rounded up) long, offsets and list are the same. With more than
+    /// 32 registers the counts of sweeps and the rows before the first level may be others.
+    kept32(code: &[u16], regs: usize, tries: &[u32], wide: bool, rows: &mut [u32], offsets: &mut [u32], list: &mut [u16]) -> {
+        first: "the length of the list", second: "full sweeps", third: "abandoned sweeps"
+    };
 }

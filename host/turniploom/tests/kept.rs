@@ -1,6 +1,6 @@
-//! What `Kept` tells: rows, levels, and whether a register is needed.
+//! What `Kept` tells: rows, levels, whether a register is needed, and how many sweeps it took.
 
-use turniploom::{Lowered, kept, marked, op::*};
+use turniploom::{Ins, Lowered, Refusal, kept, kept32, marked, most_sweeps, op::*};
 
 /// Document 01's code K.
 const K: [Lowered; 6] = [
@@ -26,6 +26,35 @@ fn rows_of_more_than_one_word() {
     let found = kept(&marked(&body, |_| false), 130, &[], false).unwrap();
     assert_eq!((found.words, found.row(2), found.at(0)), (3, &[4, 0, 2][..], &[129][..]));
     assert!(found.needed(0, 70) && found.needed(0, 129) && !found.needed(0, 2) && found.needed(2, 2) && !found.needed(4, 129));
+}
+
+/// The same body with rows of 32 bits: other words, the same lists and the same answers of every register.
+#[test]
+fn rows_of_32_bits() {
+    let body = [Lowered::new(CallR, 70, 0, 0, 0), Lowered::new(StoreTopR, 2, 0, 0, 0), Lowered::new(AddR, 3, 2, 129, 0), Lowered::new(ReturnR, 0, 3, 0, 0)];
+    let code = marked(&body, |_| false);
+    let (wide, narrow) = (kept(&code, 130, &[], false).unwrap(), kept32(&code, 130, &[], false).unwrap());
+    assert_eq!((narrow.words, narrow.row(2)), (5, &[4, 0, 0, 0, 2][..]));
+    assert_eq!((&wide.list, &wide.offsets, wide.at(0)), (&narrow.list, &narrow.offsets, narrow.at(0)));
+    for k in 0..=4 { for r in 0..200 { assert_eq!(wide.needed(k, r), narrow.needed(k, r)) } }
+    assert_eq!(kept32(&code, 1_025, &[], false), Err(Refusal::Registers { number: 1_025 }));
+    assert_eq!(kept32(&code, 4, &[(0, 1), (3, 2)], false), Err(Refusal::Try { index: 1 }));
+}
+
+/// Jumps to their own position or back count; jumps onward do not, nor does what has no jump's role: SetupExcept, and ForIterR with an x.
+#[test]
+fn the_most_sweeps_are_known_before_the_call() {
+    let jump = |to: u16| Lowered::new(Jump, to, 0, 0, 0);
+    for (body, most) in [
+        (vec![], 2), (vec![jump(0)], 3), (vec![jump(1), jump(2), jump(9)], 2), (vec![jump(0), jump(0), jump(2), jump(4)], 5),
+        (vec![Lowered::new(JumpIfFalse, 0, 0, 0, 0), Lowered::new(JumpUnlessLt, 0, 1, 2, 0), Lowered::new(JumpIfFalseR, 0, 1, 0, 0)], 5),
+        (vec![Lowered::new(SetupExcept, 0, 0, 0, 0), Lowered::new(ForIterR, 0, 1, 0, 0), Lowered::new(ForIterR, 0, 1, 0, 1)], 3),
+        (vec![Lowered::new(CallR, 0, 0, 0, 0), Lowered::new(ArgsR, 0, 0, 0, 0), jump(0)], 3),
+    ] { assert_eq!(most_sweeps(&marked(&body, |_| false)), Ok(most), "{body:?}") }
+    let longest = vec![Ins::unmarked(Jump, 0, 0, 0, 0); 65_535];
+    assert_eq!(most_sweeps(&longest), Ok(65_537));
+    assert_eq!(most_sweeps(&[0u16; 7]), Err(Refusal::Code { length: 7 }));
+    assert_eq!(most_sweeps(&[Ins::default(), Ins::unmarked(PushRegs, 0, 0, 0, 4)]), Err(Refusal::Record { position: 1 }));
 }
 
 #[test]

@@ -39,6 +39,9 @@ fn no_call_allocates() {
     assert_eq!((abi::loops_around(code, &mut depths).refusal, depths), (0, [0; 7]));
     assert_eq!(abi::kept(code, 4, &[1, 5], false, &mut rows, &mut offsets, &mut list).first, 2);
     assert_eq!((rows, offsets, list), ([0, 0, 3, 1, 5, 8, 0], [0, 0, 0, 2, 2, 2, 2], [0, 3, 9, 9, 9, 9, 9, 9]));
+    let (mut rows, mut offsets, mut list) = ([9u32; 7], [9u32; 7], [9u16; 8]);
+    assert_eq!(abi::kept32(code, 4, &[1, 5], false, &mut rows, &mut offsets, &mut list).first, 2);
+    assert_eq!((rows, offsets, list), ([0, 0, 3, 1, 5, 8, 0], [0, 0, 0, 2, 2, 2, 2], [0, 3, 9, 9, 9, 9, 9, 9]));
     assert_eq!(ALLOCATED.get(), before);
 }
 

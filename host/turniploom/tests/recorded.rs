@@ -138,9 +138,10 @@ fn a_damaged_answer_does_not_agree() {
 #[test]
 fn the_first_bad_record_is_named_by_its_line() {
     let lines: Vec<&str> = RECORDED.lines().collect();
-    let with = |bad: &str| replayed(&[lines[0], lines[1], bad, lines[2], "21 0"].join("\n")).unwrap_err();
+    let unknown = format!("{} 0", CALLS.len() + 1);
+    let with = |bad: &str| replayed(&[lines[0], lines[1], bad, lines[2], &unknown].join("\n")).unwrap_err();
     assert!(with(&damaged(lines[5], lines[5].split(' ').count() - 1)).starts_with("line 3: the record says ["));
-    assert_eq!(with("21 0"), "line 3: no call has the number 21");
+    assert_eq!(with(&unknown), format!("line 3: no call has the number {}", CALLS.len() + 1));
     assert_eq!(with("1 6 57 4"), "line 3: it ends too early");
     assert_eq!(with("1 6 57 4 2 1 1 5 0 0 5 0 0"), "line 3: it ends too early");
     assert_eq!(with("1 6 57 4 2 1 1 5 0 0 5 0 0 0 0"), "line 3: it has more numbers than the call");

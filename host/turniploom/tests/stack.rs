@@ -71,14 +71,17 @@ impl Stacks {
         self.make("targets", || abi::targets(code, tries, &mut bytes));
     }
 
-    /// The kept registers, on both routes.
+    /// The kept registers, on both routes and at both widths.
     fn kept(&mut self, code: &[u16], tries: &[u32], regs: usize) {
         let n = code.len() / 6;
         let (mut rows, mut offsets) = (vec![9; (n + 1) * abi::row_words(regs)], vec![9; n + 1]);
+        let mut rows32 = vec![9; (n + 1) * abi::row_words32(regs)];
         for wide in [false, true] {
             let short = self.make("kept", || abi::kept(code, regs, tries, wide, &mut rows, &mut offsets, &mut []));
             let mut list = vec![9; if short.refusal == 0 { 0 } else { short.second as usize }];
             let a = self.make("kept", || abi::kept(code, regs, tries, wide, &mut rows, &mut offsets, &mut list));
+            assert_eq!((a.refusal, a.first), (0, list.len() as u64));
+            let a = self.make("kept32", || abi::kept32(code, regs, tries, wide, &mut rows32, &mut offsets, &mut list));
             assert_eq!((a.refusal, a.first), (0, list.len() as u64));
         }
     }
@@ -162,7 +165,7 @@ fn no_call_needs_more_than_is_stated() {
         let tries = [0, 9, n as u32 / 2, n as u32];
         for at in 0..=n { stacks.at(code, at) }
         stacks.whole(code, &tries);
-        for regs in [0, 1, 64, 65, 1_024] { stacks.kept(code, &tries, regs) }
+        for regs in [0, 1, 32, 33, 64, 65, 1_024] { stacks.kept(code, &tries, regs) }
     }
     let (kinds, ints) = ([1, 1, 1, 2, 2, 2, 3, 3, 0], [7, 2, 1, 2.5f64.to_bits(), (-0.0f64).to_bits(), f64::NAN.to_bits(), 1, 0, 5]);
     for n in (0..60).chain([4_000]) {

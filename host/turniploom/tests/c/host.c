@@ -51,6 +51,12 @@ static void lengths(void) {
     SHOW(turniploom_kept(K, WORDS, 65, no_tries, 0, false, rows, 14, offsets, 7, list, TURNIPLOOM_LIST_LEN(6, 65)).refusal == 0);
     a = turniploom_loops_around(K, WORDS, out, TURNIPLOOM_ENDS_LEN(6) - 1);
     SHOW(a.refusal == TURNIPLOOM_BUFFER && a.second == TURNIPLOOM_ENDS_LEN(6));
+    uint32_t rows32[TURNIPLOOM_ROWS32_LEN(6, 65)];
+    a = turniploom_kept32(K, WORDS, 65, no_tries, 0, false, rows32, TURNIPLOOM_ROWS32_LEN(6, 65) - 1, offsets, 7, list, 390);
+    SHOW(a.refusal == TURNIPLOOM_BUFFER && a.first == 1 && a.second == TURNIPLOOM_ROWS32_LEN(6, 65));
+    SHOW(turniploom_kept32(K, WORDS, 65, no_tries, 0, false, rows32, 21, offsets, 7, list, TURNIPLOOM_LIST_LEN(6, 65)).refusal == 0);
+    SHOW(offsets[6] == 1 && list[0] == 0 && rows32[2 * 3] == 3 && rows32[2 * 3 + 1] == 0);
+    SHOW(TURNIPLOOM_ROW32_WORDS(0) == 1 && TURNIPLOOM_ROW32_WORDS(32) == 1 && TURNIPLOOM_ROW32_WORDS(33) == 2 && TURNIPLOOM_ROW32_WORDS(1024) == 32);
     SHOW(TURNIPLOOM_ROW_WORDS(0) == 1 && TURNIPLOOM_ROW_WORDS(64) == 1 && TURNIPLOOM_ROW_WORDS(65) == 2 && TURNIPLOOM_ROW_WORDS(1024) == 16);
 }
 

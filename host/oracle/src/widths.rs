@@ -1,0 +1,36 @@
+//! What must hold of a kept-register reply, whoever gave it: the call of the other width tells the same lists, and there are no more sweeps
+//! than the host is told before the call.
+
+use crate::{compare::{Ask, shown}, model::{code, rows}, question::*};
+use turniploom::most_sweeps;
+
+/// The question to the call of the other width, with rows as long as that needs if the question's own are.
+fn other(q: &Question) -> Question {
+    let call = if q.call == Kept { Kept32 } else { Kept };
+    let ends = q.u16("code").len() / 6 + 1;
+    let needed = |call: Call| ends * rows::words(q.n("regs").min(1_024) as usize, call.row_bits());
+    let length = if q.arg("rows").numbers()[0] as usize >= needed(q.call) { needed(call) } else { 0 };
+    let rows = if call == Kept32 { Arg::U32(vec![0; length]) } else { Arg::U64(vec![0; length]) };
+    let args = q.call.params().iter().zip(&q.args).map(|(p, arg)| if p.name == "rows" { rows.clone() } else { arg.clone() });
+    Question { call, args: args.collect() }
+}
+
+/// All that does not hang on the width: the refusal, the list's length, the offsets and the list. How long rows must be does.
+fn lists(reply: &Reply) -> (u8, u64, u64, &[Arg]) {
+    let a = &reply.answer;
+    let needed = if a.refusal == 5 && a.first != 1 { a.second } else { 0 };
+    (a.refusal, a.first, needed, &reply.lent.buffers[1..])
+}
+
+/// Who says otherwise, and what.
+pub fn broken(q: &Question, reply: &Reply, ask: Ask) -> Option<(&'static str, String)> {
+    if !q.call.keeps() { return None }
+    let other = ask(&other(q));
+    if lists(&other) != lists(reply) { return Some(("the other width", shown(&other))) }
+    let words = q.u16("code");
+    let (most, counted) = (most_sweeps(words).ok(), code::code(words).ok().map(|code| rows::jumps_back(&code) as u64 + 2));
+    if most != counted { return Some(("the bound", format!("{most:?}, and the model counts {counted:?}"))) }
+    let within = |r: &Reply| r.answer.refusal != 0 || Some(r.answer.second) <= most && r.answer.third <= 1;
+    let over = [reply, &other].into_iter().find(|r| !within(r))?;
+    Some(("the bound", format!("at most {} full sweeps and 1 abandoned, not {} and {}", most?, over.answer.second, over.answer.third)))
+}

@@ -49,7 +49,7 @@ pub touched-holds : (w : List ℕ) (at : ℕ) (r : Answer) → r ≡ touchTold (
 unfolding touchAnswer
 touched-holds w at r e z = go (insideOf (checkOf w) at) refl
   where
-    abbrev told : Checked → Answer
+    told : Checked → Answer
     told v = touchTold (asked v touch.No (touch.Is (touchOf (insAt w at))))
 
     go : (v : Checked) → insideOf (checkOf w) at ≡ v → TouchedHolds (insAt w at) r

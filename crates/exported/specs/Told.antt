@@ -9,7 +9,7 @@ use Rattle.code.specs.Ins.{insAt, count}
 use Rattle.code.specs.declared.Answer.{Answer}
 use Rattle.code.specs.declared.Ins.{Ins}
 use Rattle.roles.specs.Sets.{from, usedBy, givenBy}
-use Rattle.roles.specs.Touch.{named, writtenBy}
+use Rattle.roles.specs.Touch.{named as fieldsNamed, writtenBy}
 use Rattle.flow.specs.Flow.{Least, Closed}
 use Rattle.flow.specs.Sweep.{row, backs, startOf}
 use Rattle.flow.specs.Demand.{Keeps, Lost, Once}
@@ -34,7 +34,7 @@ use Rattle.exported.specs.Calls.{Lists, FoldCall, ClearCall}
 
 -- the registers that three bits name: 0 a, 1 b, 2 c
 abbrev pub fieldsOf : ℕ → Ins → List ℕ
-fieldsOf m i = named (2 * m) (i .a) (i .b) (i .c)
+fieldsOf m i = fieldsNamed (2 * m) (i .a) (i .b) (i .c)
 
 -- the answer names what the instruction uses, gives up and writes; the run from b on is given up and written
 pub record TouchedHolds (i : Ins) (r : Answer) : Type 0 where

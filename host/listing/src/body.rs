@@ -2,7 +2,7 @@
 
 use crate::{and, count, notation::{Body, ins_text}};
 use model::{code::is_call, roles, rows};
-use turniploom::{Ins, Kept, Refusal, abi, op};
+use turniploom::{Ins, Kept, Refusal, Touched, abi, op};
 
 /// A body with all that is known of it.
 pub struct View {
@@ -19,6 +19,8 @@ pub struct Line {
     pub text: String,
     pub used: Vec<u16>,
     pub given_up: Vec<u16>,
+    /// The positions whose rows it reads.
+    pub after: Vec<usize>,
     /// The registers needed before the instruction.
     pub row: Vec<u16>,
     pub level: Option<Level>,
@@ -49,9 +51,9 @@ impl View {
         let mut lines: Vec<Line> = (0..n).map(|k| {
             let (used, given_up) = sets(code, k, body.registers);
             let level = rows::level(&code[k]).then(|| level(code, k, &found, &tries));
-            Line { text: ins_text(code, k), used, given_up, row: found.row(k), level, notes: notes(code, k, &tries) }
+            Line { text: ins_text(code, k), used, given_up, after: after(code, k), row: found.row(k), level, notes: notes(code, k, &tries) }
         }).collect();
-        lines.push(Line { text: "end".into(), used: vec![], given_up: vec![], row: found.row(n), level: None, notes: notes(code, n, &tries) });
+        lines.push(Line { text: "end".into(), used: vec![], given_up: vec![], after: vec![], row: found.row(n), level: None, notes: notes(code, n, &tries) });
         let columns = columns(&lines, body.registers);
         let width = if body.rows32 { ", rows of 32 bits" } else { "" };
         let heading = format!("{}, {}, {}{width}", count(n, "instruction"), count(body.registers, "register"), count(tries.len(), "try"));
@@ -93,10 +95,13 @@ impl Found {
     fn row(&self, k: usize) -> Vec<u16> { self.rows[k.min(self.kept.len())].clone() }
 }
 
+/// What an instruction by itself touches, as the archive tells it: asked about in a code of its own, since every call tests all that it is lent.
+fn touched(i: &Ins) -> Touched { turniploom::touched(&[Ins::default(), *i, Ins { op: op::ArgsR, ..Ins::default() }], 1).expect("good code") }
+
 /// The registers used and given up, as the row equations have them.
 fn sets(code: &[Ins], k: usize, registers: usize) -> (Vec<u16>, Vec<u16>) {
     if rows::pending(code, k) { return (vec![], vec![]) }
-    let (used, given_up) = rows::touched(&code[k], turniploom::kinds(code, k).expect("good code"));
+    let Touched { used, given_up, .. } = touched(&code[k]);
     let inside = |mut set: Vec<u16>| {
         set.retain(|&r| (r as usize) < registers);
         set.sort();
@@ -145,6 +150,9 @@ fn notes(code: &[Ins], k: usize, tries: &[(usize, usize)]) -> Vec<String> {
     let jumps = |k: usize| roles::jumps(&code[k]);
     let mut notes = vec![];
     if k < n && rows::pending(code, k) { notes.push("pending under the call".into()) }
+    if k < n && let Touched { given_up, written, .. } = touched(&code[k]) && written != given_up {
+        notes.push(if written.is_empty() { "writes nothing".into() } else { format!("writes {}", registers(&written)) });
+    }
     if k < n && jumps(k) {
         let to = code[k].a as usize;
         notes.push(if to > n { format!("to {to}, past the end") } else { format!("to {to}") });
@@ -183,23 +191,26 @@ fn remarks(body: &Body, lines: &[Line], found: &Found) -> Vec<String> {
     let outside = outside(body);
     if !outside.is_empty() { remarks.push(format!("Not below the register count, so never kept: {}.", and(&outside))) }
     remarks.extend(section(&body.code));
-    remarks.push("Uses and gives up: roles by the archive, laid out by the row equations of document 01.".into());
+    remarks.push("Uses and gives up: by the archive, nothing where a value is pending under a call.".into());
     remarks
+}
+
+/// What comes after an instruction.
+fn after(code: &[Ins], k: usize) -> Vec<usize> {
+    let (i, to) = (&code[k], (code[k].a as usize).min(code.len()));
+    match i.op {
+        op::ReturnR => vec![],
+        op::Jump => vec![to],
+        _ if roles::jumps(i) => vec![k + 1, to],
+        _ => vec![k + 1],
+    }
 }
 
 /// The rows of the archive that are not what the sets on their lines make of the rows after.
 fn untrue(body: &Body, lines: &[Line], start: usize) -> Vec<usize> {
     let n = body.code.len();
     (start..n).filter(|&k| {
-        let i = body.code[k];
-        let to = (i.a as usize).min(n);
-        let after: &[usize] = match i.op {
-            op::ReturnR => &[],
-            op::Jump => &[to],
-            _ if roles::jumps(&i) => &[k + 1, to],
-            _ => &[k + 1],
-        };
-        let live = after.iter().flat_map(|&k| &lines[k].row).filter(|r| !lines[k].given_up.contains(r));
+        let live = lines[k].after.iter().flat_map(|&k| &lines[k].row).filter(|r| !lines[k].given_up.contains(r));
         let mut row: Vec<u16> = live.chain(&lines[k].used).copied().collect();
         row.sort();
         row.dedup();

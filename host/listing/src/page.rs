@@ -1,6 +1,6 @@
 //! The listing as one self-contained page.
 
-use crate::{body::{self, registers}, chunk};
+use crate::{body::{self, registers}, chunk, why};
 use std::fmt::Write;
 
 fn escaped(text: &str) -> String { text.replace('&', "&amp;").replace('<', "&lt;").replace('>', "&gt;").replace('"', "&quot;") }
@@ -64,6 +64,9 @@ const LEGEND: &str = "<p class=\"legend\"><span class=\"cell row\"></span> in th
 <span class=\"cell\"><i class=\"used\"></i></span> used <span class=\"cell\"><i class=\"given\"></i></span> given up \
 <span class=\"cell kept\"></span> kept for the resume point <span class=\"cell kept handler\"></span> kept for a handler</p>\n";
 
+/// How many positions are looked at for what a register is needed for.
+const FAR: usize = 1_000;
+
 /// The cell of a register at a position: in the row or not, used, given up, kept.
 fn cell(view: &body::View, k: usize, r: u16) -> String {
     let l = &view.lines[k];
@@ -71,7 +74,10 @@ fn cell(view: &body::View, k: usize, r: u16) -> String {
     let part = l.level.iter().flat_map(|v| &v.kept).find(|p| p.registers.contains(&r));
     let mut class = String::from("cell");
     let mut says = vec![];
-    if row { class += " row"; says.push("needed before it".to_string()) }
+    if row {
+        class += " row";
+        says.push(why::because(view, k, r, FAR).map_or("needed before it".into(), |path| format!("needed before it: {path}")));
+    }
     if used { says.push("used".into()) }
     if given { says.push("given up".into()) }
     if let Some(p) = part {

@@ -78,6 +78,16 @@ fn over_code(q: &Question, lent: &mut Lent) -> Checked<[u64; 4]> {
         PushedBack => walks::pushed_back(&code, at()?, q.n("r") as u16).map_or([0; 4], |p| [1, p as u64, 0, 0]),
         StackCallee => walks::stack_callee(&code, at()?, q.n("count") as u16).map_or([0; 4], |(p, r)| [1, p as u64, r.into(), 0]),
         Kept | Kept32 => keeping(q, &code, lent)?,
+        Touched => {
+            let t = roles::touch(&code[at()?]);
+            [t.used.into(), t.given_up.into(), t.written.into(), t.run.into()]
+        }
+        Needed => {
+            let regs = code::registers(q.n("regs"))?;
+            let k = code::up_to(&code, q.n("at"))?;
+            waiting(lent, n)?;
+            yes(rows::needed(&code, regs, k, q.n("r") as u16))
+        }
         Fold | Clear => unreachable!("it takes a chunk"),
     })
 }

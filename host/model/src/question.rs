@@ -17,7 +17,7 @@ macro_rules! calls {
 
 calls! {
     Kinds, Role, Field, Writes, Pure, Flat, Guarded, Returns, ParamsWritten, Passed, GenPure, DeadPhi, LoopsAround, Targets, GlobalOf, PushedBack,
-    StackCallee, Kept, Fold, Clear, Kept32
+    StackCallee, Kept, Fold, Clear, Kept32, Touched, Needed
 }
 
 pub use Call::*;
@@ -160,6 +160,7 @@ impl Reply {
             LoopsAround | Targets => self.lent.buffers[0].numbers()[1..] != asked.lent().buffers[0].numbers()[1..] && self.marked(asked),
             Fold => first as usize * 3 != asked.u16("code").len(),
             Clear => first != asked.n("constants"),
+            Touched => self.values()[1..].iter().any(|&v| v != 0),
             _ => first != 0,
         }
     }

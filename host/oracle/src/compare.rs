@@ -297,7 +297,7 @@ pub fn shown(r: &Reply) -> String {
 }
 
 /// The call, its numbers and its tables, as a comment of the listing's notation.
-fn described(q: &Question) -> String {
+pub fn described(q: &Question) -> String {
     let told = q.call.params().iter().zip(&q.args).filter(|(p, _)| p.name != "code").map(|(p, arg)| match arg {
         Arg::N(v) => format!(" {}={v}", p.name),
         _ => format!(" {}={}", p.name, slice(arg)),

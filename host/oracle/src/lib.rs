@@ -10,6 +10,7 @@ pub mod port;
 pub mod questions;
 pub mod record;
 pub mod rng;
+pub mod saver;
 pub mod shrink;
 pub mod traces;
 pub mod widths;

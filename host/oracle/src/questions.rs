@@ -1,6 +1,6 @@
 //! The questions: systematic ones, the same at every seed, and random ones.
 
-use crate::{bodies::{body, damage}, chunks, model::code::is_call, question::*, rng::Rng, traces};
+use crate::{bodies::{body, damage}, chunks, model::{code::is_call, rows}, question::*, rng::Rng, saver, traces};
 use turniploom::{Ins, Op, WIDE, abi::{self, Kind, Width}, op};
 
 /// A random question of a call.
@@ -8,6 +8,7 @@ pub fn random(rng: &mut Rng, call: Call) -> Question {
     match call {
         Fold => return chunks::random(rng),
         Clear => return chunks::random_clear(rng),
+        _ if call.saves() => return saver::random(rng, call),
         _ => {}
     }
     let regs = registers(rng, call);
@@ -39,6 +40,7 @@ fn asked_about(call: Call, code: &[Ins], k: usize) -> bool {
         GlobalOf => matches!(i.op, op::CallR | op::CallGlobalR),
         PushedBack => last_store(code),
         StackCallee => matches!(i.op, op::Call | op::Add),
+        Level => i.op.0 <= 190 && rows::level(i),
         _ => true,
     }
 }
@@ -224,9 +226,10 @@ pub fn systematic(rng: &mut Rng, call: Call, take: &mut dyn FnMut(Question)) {
     match call {
         Fold => return chunks::systematic(rng, take),
         Clear => return chunks::systematic_clear(rng, take),
+        _ if call.saves() => return saver::systematic(rng, call, take),
         _ => {}
     }
-    if matches!(call, Kinds | Role | Field | Writes) { every_opcode(rng, call, take) }
+    if matches!(call, Kinds | Role | Field | Writes | Level) { every_opcode(rng, call, take) }
     if call == StackCallee { many_pushed(take) }
     if call == Replay { traces::systematic(take) }
     short_codes(rng, call, take);

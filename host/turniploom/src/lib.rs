@@ -23,9 +23,11 @@ mod calls;
 mod chunk;
 mod day;
 mod ins;
+mod level;
 pub mod op;
 pub mod optimizer;
 mod refusal;
+mod saver;
 #[cfg(feature = "std")]
 mod trace;
 
@@ -33,7 +35,9 @@ pub use calls::*;
 pub use chunk::*;
 pub use day::{Block, Day, replay};
 pub use ins::{Code, DUNDER, Ins, Lowered, REGISTER, WIDE, marked};
+pub use level::{Level, level};
 pub use op::Op;
 pub use refusal::Refusal;
+pub use saver::Saver;
 #[cfg(feature = "std")]
 pub use trace::{Recorder, Unread, replay_from};

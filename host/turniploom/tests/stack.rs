@@ -50,6 +50,7 @@ impl Stacks {
         self.make("returns", || abi::returns(code, at));
         self.make("passed", || abi::passed(code, at, 64));
         self.make("global_of", || abi::global_of(code, at));
+        self.make("level", || abi::level(code, at));
         for r in [0, 1, 1_023] {
             self.make("writes", || abi::writes(code, at, r));
             self.make("pushed_back", || abi::pushed_back(code, at, r));
@@ -84,6 +85,16 @@ impl Stacks {
             let a = self.make("kept32", || abi::kept32(code, regs, tries, wide, &mut rows32, &mut offsets, &mut list));
             assert_eq!((a.refusal, a.first), (0, list.len() as u64));
         }
+    }
+
+    /// A saver, entered as often as there is room and left both ways.
+    fn saver(&mut self, list: &[u16]) {
+        let (mut head, mut area, mut file) = ([9; 2], [9; 4096], [9; 64]);
+        assert_eq!(self.make("saver_make", || abi::saver_make(&mut head, 64)).refusal, 0);
+        while self.make("saver_enter", || abi::saver_enter(&mut head, &mut area, &file, list, 3)).refusal == 0 {}
+        assert_eq!(self.make("saver_enter", || abi::saver_enter(&mut head, &mut area, &file, &[7, 7], 3)).refusal, 14);
+        while self.make("saver_return", || abi::saver_return(&mut head, &area, &mut file, 5)).refusal == 0
+            && self.make("saver_exception", || abi::saver_exception(&mut head, &area, &mut file)).refusal == 0 {}
     }
 
     /// A trace of one block, of whatever steps.
@@ -174,6 +185,7 @@ fn no_call_needs_more_than_is_stated() {
         for steps in [0, 1, 3, 127] { stacks.replay(code, &tries, &(0..steps).collect::<Vec<_>>()) }
         for regs in [0, 1, 32, 33, 64, 65, 1_024] { stacks.kept(code, &tries, regs) }
     }
+    for length in [0, 1, 9, 64] { stacks.saver(&(0..length).collect::<Vec<_>>()) }
     let (kinds, ints) = ([1, 1, 1, 2, 2, 2, 3, 3, 0], [7, 2, 1, 2.5f64.to_bits(), (-0.0f64).to_bits(), f64::NAN.to_bits(), 1, 0, 5]);
     for n in (0..60).chain([4_000]) {
         let code = dice.chunk(n);

@@ -1,9 +1,9 @@
 /* The proved calls of turniploom, for C. Link with libturniploom.a, which `rt staticlib turniploom` makes.
  *
- * A slice is a pointer and a length in elements. No call asks anything of its input but that each pointer has as many elements
- * as its length says (a length of 0 may come with any pointer that is not null), that buffers lent to be written do not overlap
- * anything else, and that a bool is one. Nothing is allocated. No call needs more than 4 KiB of stack. docs/BUFFERS.md has the
- * order of the tests and what each buffer holds afterwards. */
+ * A slice is a pointer and a length in elements, an array whose length is fixed a pointer. No call asks anything of its input but
+ * that each pointer has as many elements as its length says (a length of 0 may come with any pointer that is not null), that buffers
+ * lent to be written do not overlap anything else, and that a bool is one. Nothing is allocated. No call needs more than 4 KiB of
+ * stack. docs/BUFFERS.md has the order of the tests and what each buffer holds afterwards. */
 #ifndef TURNIPLOOM_H
 #define TURNIPLOOM_H
 
@@ -23,6 +23,14 @@
 #define TURNIPLOOM_MOST_INSTRUCTIONS 65535
 #define TURNIPLOOM_MOST_REGISTERS 1024
 #define TURNIPLOOM_MOST_CONSTANTS 65536
+
+/* The words of a saver's three arrays, each lent as one pointer: head and area are its own, file is the registers. An entry takes twice its
+ * list plus two words of the area. And the number of the result register where there is none. */
+#define TURNIPLOOM_SAVER_HEAD 2
+#define TURNIPLOOM_SAVER_AREA 4096
+#define TURNIPLOOM_SAVER_FILE 64
+#define TURNIPLOOM_SAVER_ENTRY(listed) (2 * (size_t)(listed) + 2)
+#define TURNIPLOOM_NO_REGISTER 65536
 
 /* Lengths that are always enough, for n instructions: seen, todo, out, offsets, remap and landings; rows; a list, whose needed length a
  * refusal also tells; kinds and words of a fold; its phi_map and dead marks; its phi_sources, of which `words` are in use. */
@@ -52,11 +60,17 @@ typedef struct {
 enum turniploom_refusal {
     TURNIPLOOM_CODE = 1,      /* length no multiple of the stride, or too many instructions: length */
     TURNIPLOOM_RECORD = 2,    /* an instruction breaks a record rule: first position */
-    TURNIPLOOM_REGISTERS = 3, /* more than 1,024 registers: the number */
+    TURNIPLOOM_REGISTERS = 3, /* more than 1,024 registers, or more than 64 in a saver: the number */
     TURNIPLOOM_TRY = 4,       /* a try breaks its rule: first index */
     TURNIPLOOM_BUFFER = 5,    /* a lent buffer is too short: buffer, length needed */
     TURNIPLOOM_POSITION = 6,  /* a position at the end or beyond, or not one of the four calls: position */
-    TURNIPLOOM_TABLE = 7      /* a table of the chunk breaks its rule: table number */
+    TURNIPLOOM_TABLE = 7,     /* a table of the chunk breaks its rule: table number */
+    TURNIPLOOM_ROOM = 8,      /* the save area has no room for an entry: its free words */
+    TURNIPLOOM_NOTHING = 9,   /* a call is left, and none is entered */
+    TURNIPLOOM_CHECK = 10,    /* a block of a trace is cut short, or its check is wrong: first block */
+    TURNIPLOOM_FILLER = 11,   /* a trace has a filler before a position: the position's block */
+    TURNIPLOOM_MOVE = 12,     /* a trace does not begin at 0, or takes a step that the code does not allow: first step */
+    TURNIPLOOM_LISTED = 14    /* a listed register is not in the file, or is listed twice: its place in the list */
 };
 
 /* Marks of an instruction: six words, opcode, marks, a, b, c, x. They stand for the Rust's `lower::wide`, `lower::dunder_op` and
@@ -174,6 +188,34 @@ turniploom_answer turniploom_kept32(const uint16_t *code, size_t code_len, size_
                                     uint32_t *rows, size_t rows_len, uint32_t *offsets, size_t offsets_len, uint16_t *list,
                                     size_t list_len);
 
+/* Where the level at a position goes on once its call is over, and which register has the result.
+ * first: 1 if it is a level, else 0; second: where it resumes; third: its result register, or 65,536 for none. */
+turniploom_answer turniploom_level(const uint16_t *code, size_t code_len, size_t at);
+
+/* Makes a saver of regs registers, at most 64, with nothing saved. A saver is three arrays, the same for every call: head, 2 words, and
+ * area, 4,096, are its own; file, 64, is the registers, which a host writes between the calls as it likes. */
+turniploom_answer turniploom_saver_make(uint64_t *head, size_t regs);
+
+/* Puts the listed registers aside as a call is entered: the list that kept has for its level, and the result register that level tells.
+ * first: words in use. */
+turniploom_answer turniploom_saver_enter(uint64_t *head, uint64_t *area, const uint64_t *file, const uint16_t *list, size_t list_len,
+                                         uint64_t result);
+
+/* Puts them back as the newest call returns, and writes its value to the result register, if that is in the file.
+ * first: words in use. */
+turniploom_answer turniploom_saver_return(uint64_t *head, const uint64_t *area, uint64_t *file, uint64_t value);
+
+/* Puts them back as the newest call is left by an exception.
+ * first: words in use. */
+turniploom_answer turniploom_saver_exception(uint64_t *head, const uint64_t *area, uint64_t *file);
+
+/* Replays a recorded day. The trace is blocks of 512 bytes: 127 visited positions of 32 bits, little-endian, 0xFFFFFFFF as filler at the
+ * end alone, and the sum of the 508 bytes, each times its place from 1. reads needs an entry for each register, and then holds how many
+ * steps used it. A trace that is no run of the code is refused, and nothing is written.
+ * first: steps; second: levels met. */
+turniploom_answer turniploom_replay(const uint16_t *code, size_t code_len, size_t regs, const uint32_t *tries, size_t tries_len,
+                                    const uint8_t *trace, size_t trace_len, uint64_t *reads, size_t reads_len);
+
 /* What an instruction by itself touches: registers used and given up as the rows have them, and written as writes has them.
  * first: the fields it uses, bit 0 a, 1 b, 2 c; second: the fields it gives up; third: the fields it writes; fourth: how many registers
  * from b on it gives up and writes besides: 0, 2 or 5. */
@@ -240,11 +282,17 @@ static inline const char *turniploom_refusal_text(uint8_t refusal) {
     case 0: return "no refusal";
     case TURNIPLOOM_CODE: return "the code is no whole number of instructions, or has more than 65,535";
     case TURNIPLOOM_RECORD: return "an instruction breaks a record rule";
-    case TURNIPLOOM_REGISTERS: return "there are more than 1,024 registers";
+    case TURNIPLOOM_REGISTERS: return "there are more than 1,024 registers, or more than 64 in a saver";
     case TURNIPLOOM_TRY: return "a try breaks its rule";
     case TURNIPLOOM_BUFFER: return "a lent buffer is too short";
     case TURNIPLOOM_POSITION: return "the position is not one to ask about";
     case TURNIPLOOM_TABLE: return "a table of the chunk breaks its rule";
+    case TURNIPLOOM_ROOM: return "the save area has no room for the entry";
+    case TURNIPLOOM_NOTHING: return "nothing is saved: no call is entered that could be left";
+    case TURNIPLOOM_CHECK: return "a block of the trace is cut short, or its check is wrong";
+    case TURNIPLOOM_FILLER: return "the trace has a filler before a position";
+    case TURNIPLOOM_MOVE: return "the trace does not begin at 0, or takes a step that the code does not allow";
+    case TURNIPLOOM_LISTED: return "a listed register is not in the file, or is listed twice";
     default: return "a refusal that this header does not know";
     }
 }

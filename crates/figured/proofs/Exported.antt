@@ -24,7 +24,8 @@ use Rattle.turniploom.proofs.Answered.{never-0}
 -- what was written is read back
 read-back : (f : Figures) (old : List ℕ) → length old ≡ 7 → figuresIn (wrote f old) ≡ f
 read-back f old e = ap figuresIn (sets-eq (wordsOf f) old 0 (omega arith))
-    ∙ ap (λ (t : Bool). record { bodies = f .bodies; levels = f .levels; kept = f .kept; longest = f .longest; found = t; body = f .body; at = f .at }) (truth (f .found))
+    ∙ ap (λ (t : Bool). record { bodies = f .bodies; levels = f .levels; kept = f .kept; longest = f .longest; found = t; body = f .body; at = f .at })
+    (truth (f .found))
   where
     truth : (t : Bool) → not (eqb (boolByte t) 0) ≡ t
     truth true = refl
@@ -52,7 +53,8 @@ unfolding reportOf figuresOf metFrom longestOf sumOf firstAt
 empty-report = record { long = refl; is = refl }
 
 -- Joined, the words hold the report of all bodies of both groups; the mean told is theirs.
-pub join-report : (xs ys : List Body) (later old new : List ℕ) (r : Answer) → Holds old xs → Holds later ys → joinCall later old ≡ reports new r → r .refusal ≡ 0
+pub join-report : (xs ys : List Body) (later old new : List ℕ) (r : Answer) → Holds old xs → Holds later ys → joinCall later old ≡ reports new r
+    → r .refusal ≡ 0
     → Holds new (xs ++ ys) × (r ≡ answerOf 0 0 (reportOf (xs ++ ys) .kept) (reportOf (xs ++ ys) .levels))
 unfolding joinCall
 join-report xs ys later old new r a b e h =

@@ -26,7 +26,8 @@ use Rattle.steps.specs.Level.{isLevel}
 use Rattle.figures.specs.declared.Figures.{Figures}
 use Rattle.figures.specs.declared.FiguresAnswer.{FiguresAnswer}
 use Rattle.figures.specs.declared.FiguresAnswer.the-variants.{Is, No, Offsets, Over}
-use Rattle.figures.specs.Figures.{Met, met, sumOf, longestOf, firstAt, any, figuresOf, Sums, betterOf, joinOf, most, sumsOf, lenAt, levelsTo, bodyFigures, wrong, firstWrong, Right, placedOf, bodyOf}
+use Rattle.figures.specs.Figures.{Met, met, sumOf, longestOf, firstAt, any, figuresOf, Sums, betterOf, joinOf}
+use Rattle.figures.specs.Figures.{most, sumsOf, lenAt, levelsTo, bodyFigures, wrong, firstWrong, Right, placedOf, bodyOf}
 use Rattle.figures.specs.Month.{moved}
 use Rattle.figures.proofs.Groups.{join-law, sum-append}
 
@@ -59,7 +60,9 @@ module _ (w o : List ℕ) (len : ℕ) (passed : count w + 1 ≤ firstWrong w o l
   or-right false b e = e
 
   -- the rule of a place in the code
-  rule : (k : ℕ) → k < count w → ((eqb k 0 && not (eqb (getD o k 0) 0)) || ltb (getD o (k + 1) 0) (getD o k 0)) || (not (isLevel (insAt w k)) && not (eqb (getD o (k + 1) 0) (getD o k 0))) ≡ false
+  rule : (k : ℕ) → k < count w
+      → ((eqb k 0 && not (eqb (getD o k 0) 0)) || ltb (getD o (k + 1) 0) (getD o k 0)) ||
+      (not (isLevel (insAt w k)) && not (eqb (getD o (k + 1) 0) (getD o k 0))) ≡ false
   unfolding wrong
   rule k h = let e = fine k (omega arith) in rw (lt-ltb k (count w) h) at e
 
@@ -69,7 +72,8 @@ module _ (w o : List ℕ) (len : ℕ) (passed : count w + 1 ≤ firstWrong w o l
 
   -- they run to the list's length
   pub ends-at : getD o (count w) 0 ≡ len
-  ends-at = eqb-true (getD o (count w) 0) len (not-false (eqb (getD o (count w) 0) len) (or-right (eqb (count w) 0 && not (eqb (getD o (count w) 0) 0)) (not (eqb (getD o (count w) 0) len)) end))
+  ends-at = eqb-true (getD o (count w) 0) len
+      (not-false (eqb (getD o (count w) 0) len) (or-right (eqb (count w) 0 && not (eqb (getD o (count w) 0) 0)) (not (eqb (getD o (count w) 0) len)) end))
 
   begins : getD o 0 0 ≡ 0
   begins = go (count w) refl
@@ -145,16 +149,19 @@ module _ (w o : List ℕ) where
   pub sum-is : Right w o → (k : ℕ) → k ≤ count w → sumOf (levelsTo w o k) ≡ getD o k 0
   unfolding levelsTo sumOf
   sum-is right zero h = sym (right .start)
-  sum-is right (suc k) h = sum-append (levelsTo w o k) (cond (isLevel (insAt w k)) (met 0 k (lenAt o k) ∷ []) []) ∙ go (isLevel (insAt w k)) refl (sum-is right k (omega arith))
+  sum-is right (suc k) h = sum-append (levelsTo w o k) (cond (isLevel (insAt w k)) (met 0 k (lenAt o k) ∷ []) [])
+      ∙ go (isLevel (insAt w k)) refl (sum-is right k (omega arith))
     where
-      go : (t : Bool) → isLevel (insAt w k) ≡ t → sumOf (levelsTo w o k) ≡ getD o k 0 → sumOf (levelsTo w o k) + sumOf (cond t (met 0 k (lenAt o k) ∷ []) []) ≡ getD o (suc k) 0
+      go : (t : Bool) → isLevel (insAt w k) ≡ t → sumOf (levelsTo w o k) ≡ getD o k 0
+          → sumOf (levelsTo w o k) + sumOf (cond t (met 0 k (lenAt o k) ∷ []) []) ≡ getD o (suc k) 0
       go true e ih = omega (arith, ih, right .rise k (omega arith), ap (λ (n : ℕ). getD o n 0) (add-one k))
       go false e ih = omega (arith, ih, right .idle k (omega arith) e, ap (λ (n : ℕ). getD o n 0) (add-one k))
 
   few : (k : ℕ) → length (levelsTo w o k) ≤ k
   unfolding levelsTo
   few zero = zero-le
-  few (suc k) = let e = few k in omega (arith, length-append (levelsTo w o k) (cond (isLevel (insAt w k)) (met 0 k (lenAt o k) ∷ []) []), one (isLevel (insAt w k)))
+  few (suc k) = let e = few k in omega
+      (arith, length-append (levelsTo w o k) (cond (isLevel (insAt w k)) (met 0 k (lenAt o k) ∷ []) []), one (isLevel (insAt w k)))
     where
       one : (t : Bool) → length (cond t (met 0 k (lenAt o k) ∷ []) []) ≤ 1
       one true = omega arith
@@ -162,7 +169,8 @@ module _ (w o : List ℕ) where
 
   module _ (right : Right w o) (k : ℕ) (h : k < count w) (f : Figures) (e : f ≡ figuresOf 0 (levelsTo w o k)) where
     pub place-none : (i : Ins) → i ≡ insAt w k → (level : Bool) → level ≡ isLevel i → level ≡ false → f ≡ figuresOf 0 (levelsTo w o (k + 1))
-    place-none i p level l n = e ∙ ap (figuresOf 0) (sym (more k ∙ ap (λ (t : Bool). levelsTo w o k ++ cond t (met 0 k (lenAt o k) ∷ []) []) none ∙ append-nil (levelsTo w o k)))
+    place-none i p level l n = e
+        ∙ ap (figuresOf 0) (sym (more k ∙ ap (λ (t : Bool). levelsTo w o k ++ cond t (met 0 k (lenAt o k) ∷ []) []) none ∙ append-nil (levelsTo w o k)))
       where
         none : isLevel (insAt w k) ≡ false
         none = ap isLevel (sym p) ∙ sym l ∙ n
@@ -171,15 +179,26 @@ module _ (w o : List ℕ) where
       pub place-rise : here ≤ next
       place-rise = omega (arith, right .rise k h)
 
-      pub place-room : next < 18446744073709551616 → Sums f (record { bodies = 0; levels = 1; kept = next - here; longest = next - here; found = true; body = 0; at = k })
+      pub place-room : next < 18446744073709551616
+          → Sums f (record { bodies = 0; levels = 1; kept = next - here; longest = next - here; found = true; body = 0; at = k })
       unfolding figuresOf
       place-room small =
           let b : f .bodies ≡ 0 = ap (λ (x : Figures). x .bodies) e in
           let l : f .levels ≡ length (levelsTo w o k) = ap (λ (x : Figures). x .levels) e in
           let s : f .kept ≡ sumOf (levelsTo w o k) = ap (λ (x : Figures). x .kept) e in
-          record { bodies = omega arith; levels = omega (arith, few k, right .valid .few); kept = omega (arith, sum-is right k (omega arith), right .rise k h); body = omega arith }
+          record {
+            bodies = omega arith;
+            levels = omega (arith, few k, right .valid .few);
+            kept = omega (
+              arith,
+              sum-is right k (omega arith),
+              right .rise k h,
+            );
+            body = omega arith;
+          }
 
-      pub place-level : (i : Ins) → i ≡ insAt w k → (level : Bool) → level ≡ isLevel i → level ≡ true → (r : Figures) → r ≡ joinOf f (record { bodies = 0; levels = 1; kept = next - here; longest = next - here; found = true; body = 0; at = k })
+      pub place-level : (i : Ins) → i ≡ insAt w k → (level : Bool) → level ≡ isLevel i → level ≡ true → (r : Figures)
+          → r ≡ joinOf f (record { bodies = 0; levels = 1; kept = next - here; longest = next - here; found = true; body = 0; at = k })
           → r ≡ figuresOf 0 (levelsTo w o (k + 1))
       unfolding moved
       place-level i x level l y r z =
@@ -231,13 +250,25 @@ module _ (f g : Figures) where
       module _ (c : g .kept ≤ most - f .kept) where
         pub over-4 : most - f .bodies < g .body → Over 4 ≡ sumsOf f g
         unfolding sumsOf
-        over-4 h = rw (le-ltb (most - f .bodies) (g .bodies) a, le-ltb (most - f .levels) (g .levels) b, le-ltb (most - f .kept) (g .kept) c, lt-ltb (most - f .bodies) (g .body) h)
+        over-4 h = rw (
+          le-ltb (most - f .bodies) (g .bodies) a,
+          le-ltb (most - f .levels) (g .levels) b,
+          le-ltb (most - f .kept) (g .kept) c,
+          lt-ltb (most - f .bodies) (g .body) h,
+        )
 
         pub over-none : g .body ≤ most - f .bodies → (r : Figures) → r ≡ joinOf f g → Is r ≡ sumsOf f g
         unfolding sumsOf
-        over-none h r e = rw (le-ltb (most - f .bodies) (g .bodies) a, le-ltb (most - f .levels) (g .levels) b, le-ltb (most - f .kept) (g .kept) c, le-ltb (most - f .bodies) (g .body) h, e)
+        over-none h r e = rw (
+          le-ltb (most - f .bodies) (g .bodies) a,
+          le-ltb (most - f .levels) (g .levels) b,
+          le-ltb (most - f .kept) (g .kept) c,
+          le-ltb (most - f .bodies) (g .body) h,
+          e,
+        )
 
-pub sums-fit : (f g : Figures) → f .bodies < 18446744073709551616 → f .levels < 18446744073709551616 → f .kept < 18446744073709551616 → g .bodies ≤ most - f .bodies → g .levels ≤ most - f .levels → g .kept ≤ most - f .kept → g .body ≤ most - f .bodies → Sums f g
+pub sums-fit : (f g : Figures) → f .bodies < 18446744073709551616 → f .levels < 18446744073709551616 → f .kept < 18446744073709551616
+    → g .bodies ≤ most - f .bodies → g .levels ≤ most - f .levels → g .kept ≤ most - f .kept → g .body ≤ most - f .bodies → Sums f g
 sums-fit f g x y z a b c d = record { bodies = omega arith; levels = omega arith; kept = omega arith; body = omega arith }
 
 pub ruleset joins = (join-better, join-other)

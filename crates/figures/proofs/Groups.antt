@@ -80,7 +80,8 @@ unfolding moved firstAt
 first-at n k [] = refl
 first-at n k (y ∷ ys) = go (eqb (y .len) k) (first-at n k ys)
   where
-    go : (t : Bool) → firstAt k (moved n ys) .at ≡ firstAt k ys .at → cond t (met (n + y .body) (y .at) (y .len)) (firstAt k (moved n ys)) .at ≡ cond t y (firstAt k ys) .at
+    go : (t : Bool) → firstAt k (moved n ys) .at ≡ firstAt k ys .at
+        → cond t (met (n + y .body) (y .at) (y .len)) (firstAt k (moved n ys)) .at ≡ cond t y (firstAt k ys) .at
     go true e = refl
     go false e = e
 
@@ -91,14 +92,16 @@ first-body n k y [] e = rw (eq-eqb (y .len) k (omega arith))
 first-body n k y (y′ ∷ ys) e = go (ℕ-discrete (y .len) k) (λ h. first-body n k y′ ys h)
   where
     go : Dec (y .len ≡ k) → (longestOf (y′ ∷ ys) ≡ k → firstAt k (moved n (y′ ∷ ys)) .body ≡ n + firstAt k (y′ ∷ ys) .body)
-        → cond (eqb (y .len) k) (met (n + y .body) (y .at) (y .len)) (firstAt k (moved n (y′ ∷ ys))) .body ≡ n + cond (eqb (y .len) k) y (firstAt k (y′ ∷ ys)) .body
+        → cond (eqb (y .len) k) (met (n + y .body) (y .at) (y .len)) (firstAt k (moved n (y′ ∷ ys))) .body ≡ n + cond (eqb (y .len) k) y
+        (firstAt k (y′ ∷ ys)) .body
     go (yes p) rec = rw (eq-eqb (y .len) k p)
     go (no p) rec = rw (ne-eqb (y .len) k p) (rec (omega arith))
 
 abbrev mk : ℕ → ℕ → ℕ → ℕ → Bool → ℕ → ℕ → Figures
 mk b l k n t o a = record { bodies = b; levels = l; kept = k; longest = n; found = t; body = o; at = a }
 
-mk-same : {b b′ l l′ k k′ n n′ o o′ a a′ : ℕ} {t t′ : Bool} → b ≡ b′ → l ≡ l′ → k ≡ k′ → n ≡ n′ → t ≡ t′ → o ≡ o′ → a ≡ a′ → mk b l k n t o a ≡ mk b′ l′ k′ n′ t′ o′ a′
+mk-same : {b b′ l l′ k k′ n n′ o o′ a a′ : ℕ} {t t′ : Bool} → b ≡ b′ → l ≡ l′ → k ≡ k′ → n ≡ n′ → t ≡ t′ → o ≡ o′ → a ≡ a′
+    → mk b l k n t o a ≡ mk b′ l′ k′ n′ t′ o′ a′
 mk-same eb el ek en et eo ea = cc
 
 -- two groups, the second's body numbers moved up
@@ -116,8 +119,10 @@ module _ (n m : ℕ) where
   longest-both xs ys = longest-append xs (moved n ys) ∙ ap (max (longestOf xs)) (longest-moved n ys)
 
   -- the later group's is reported
-  later : (xs : List Met) (y : Met) (ys : List Met) → longestOf (xs ++ moved n (y ∷ ys)) ≡ longestOf (y ∷ ys) → firstAt (longestOf (y ∷ ys)) (xs ++ moved n (y ∷ ys)) ≡ firstAt (longestOf (y ∷ ys)) (moved n (y ∷ ys))
-      → mk (n + m) (length xs + length (y ∷ ys)) (sumOf xs + sumOf (y ∷ ys)) (longestOf (y ∷ ys)) (any xs || true) (n + firstAt (longestOf (y ∷ ys)) (y ∷ ys) .body) (firstAt (longestOf (y ∷ ys)) (y ∷ ys) .at)
+  later : (xs : List Met) (y : Met) (ys : List Met) → longestOf (xs ++ moved n (y ∷ ys)) ≡ longestOf (y ∷ ys)
+      → firstAt (longestOf (y ∷ ys)) (xs ++ moved n (y ∷ ys)) ≡ firstAt (longestOf (y ∷ ys)) (moved n (y ∷ ys))
+      → mk (n + m) (length xs + length (y ∷ ys)) (sumOf xs + sumOf (y ∷ ys)) (longestOf (y ∷ ys)) (any xs || true)
+      (n + firstAt (longestOf (y ∷ ys)) (y ∷ ys) .body) (firstAt (longestOf (y ∷ ys)) (y ∷ ys) .at)
       ≡ figuresOf (n + m) (xs ++ moved n (y ∷ ys))
   unfolding figuresOf
   later xs y ys e f = mk-same refl (levels-add xs (y ∷ ys)) (kept-add xs (y ∷ ys)) (sym e) (found-add xs (y ∷ ys))
@@ -129,10 +134,12 @@ module _ (n m : ℕ) where
 
   -- the earlier group's stays
   earlier : (x : Met) (xs ys : List Met) → longestOf ys ≤ longestOf (x ∷ xs)
-      → mk (n + m) (length (x ∷ xs) + length ys) (sumOf (x ∷ xs) + sumOf ys) (longestOf (x ∷ xs)) true (firstAt (longestOf (x ∷ xs)) (x ∷ xs) .body) (firstAt (longestOf (x ∷ xs)) (x ∷ xs) .at)
+      → mk (n + m) (length (x ∷ xs) + length ys) (sumOf (x ∷ xs) + sumOf ys) (longestOf (x ∷ xs)) true (firstAt (longestOf (x ∷ xs)) (x ∷ xs) .body)
+      (firstAt (longestOf (x ∷ xs)) (x ∷ xs) .at)
       ≡ figuresOf (n + m) ((x ∷ xs) ++ moved n ys)
   unfolding figuresOf
-  earlier x xs ys h = mk-same refl (levels-add (x ∷ xs) ys) (kept-add (x ∷ xs) ys) (sym e) refl (sym (ap (λ (z : Met). z .body) at)) (sym (ap (λ (z : Met). z .at) at))
+  earlier x xs ys h = mk-same refl (levels-add (x ∷ xs) ys) (kept-add (x ∷ xs) ys) (sym e) refl (sym (ap (λ (z : Met). z .body) at))
+      (sym (ap (λ (z : Met). z .at) at))
     where
       e : longestOf ((x ∷ xs) ++ moved n ys) ≡ longestOf (x ∷ xs)
       e = longest-both (x ∷ xs) ys ∙ top (longestOf (x ∷ xs)) (longestOf ys) h
@@ -156,7 +163,8 @@ module _ (n m : ℕ) where
       high : (a b : ℕ) → a < b → max a b ≡ b
       high a b h = omega arith
 
-      go : Dec (longestOf (x ∷ xs) < longestOf (y ∷ ys)) → joinOf (figuresOf n (x ∷ xs)) (figuresOf m (y ∷ ys)) ≡ figuresOf (n + m) ((x ∷ xs) ++ moved n (y ∷ ys))
+      go : Dec (longestOf (x ∷ xs) < longestOf (y ∷ ys))
+          → joinOf (figuresOf n (x ∷ xs)) (figuresOf m (y ∷ ys)) ≡ figuresOf (n + m) ((x ∷ xs) ++ moved n (y ∷ ys))
       go (yes h) = rw (lt-ltb (longestOf (x ∷ xs)) (longestOf (y ∷ ys)) h)
           (later (x ∷ xs) y ys (longest-both (x ∷ xs) (y ∷ ys) ∙ high (longestOf (x ∷ xs)) (longestOf (y ∷ ys)) h) (first-behind (longestOf (y ∷ ys)) (x ∷ xs) (moved n (y ∷ ys)) h))
       go (no h) = rw (le-ltb (longestOf (x ∷ xs)) (longestOf (y ∷ ys)) (omega arith)) (earlier x xs (y ∷ ys) (omega arith))
@@ -192,7 +200,8 @@ met-append : (b : ℕ) (xs ys : List Body) → metFrom b (xs ++ ys) ≡ metFrom 
 unfolding metFrom
 met-append b [] ys = ap (λ (k : ℕ). metFrom k ys) (sym (add-zero b))
 met-append b (x ∷ xs) ys =
-    ap (λ (l : List Met). moved b here ++ l) (met-append (suc b) xs ys ∙ ap (λ (k : ℕ). metFrom (suc b) xs ++ metFrom k ys) (suc-add b (length xs) ∙ sym (add-suc b (length xs))))
+    ap (λ (l : List Met). moved b here ++ l)
+    (met-append (suc b) xs ys ∙ ap (λ (k : ℕ). metFrom (suc b) xs ++ metFrom k ys) (suc-add b (length xs) ∙ sym (add-suc b (length xs))))
     ∙ sym (append-assoc (moved b here) (metFrom (suc b) xs) (metFrom (b + suc (length xs)) ys))
   where
     here : List Met

@@ -16,7 +16,8 @@ use Rattle.figures.specs.declared.Figures.{Figures}
 use Rattle.figures.specs.declared.FiguresAnswer.{FiguresAnswer}
 use Rattle.figures.specs.declared.FiguresAnswer.the-variants.{Is, No, Offsets, Over}
 use Rattle.code.specs.declared.Refusal.the-variants.{Short}
-use Rattle.figures.specs.Figures.{Met, met, firstAt, longestOf, figuresOf, joinOf, most, sumsOf, levelsTo, lenAt, bodyFigures, firstWrong, Right, placedOf, afterCheck, bodyOf}
+use Rattle.figures.specs.Figures.{Met, met, firstAt, longestOf, figuresOf, joinOf, most, sumsOf}
+use Rattle.figures.specs.Figures.{levelsTo, lenAt, bodyFigures, firstWrong, Right, placedOf, afterCheck, bodyOf}
 use Rattle.figures.specs.Month.{Body, moved, metFrom, reportOf}
 use Rattle.figures.proofs.Groups.{report-join, report-one}
 use Rattle.figures.proofs.Calls.{sum-is}
@@ -24,7 +25,8 @@ use Rattle.figures.proofs.Calls.{sum-is}
 -- an answer is the groups joined
 sums-is : (f g r : Figures) → sumsOf f g ≡ Is r → r ≡ joinOf f g
 unfolding sumsOf
-sums-is f g r e = go (ltb (most - f .bodies) (g .bodies)) (ltb (most - f .levels) (g .levels)) (ltb (most - f .kept) (g .kept)) (ltb (most - f .bodies) (g .body)) e
+sums-is f g r e = go (ltb (most - f .bodies) (g .bodies)) (ltb (most - f .levels) (g .levels)) (ltb (most - f .kept) (g .kept))
+    (ltb (most - f .bodies) (g .body)) e
   where
     go : (a b c d : Bool) → cond a (Over 1) (cond b (Over 2) (cond c (Over 3) (cond d (Over 4) (Is (joinOf f g))))) ≡ Is r → r ≡ joinOf f g
     go true b c d h = let z : _≡_ {A = ℕ} 0 1 = cc in absurd (omega arith)
@@ -117,7 +119,8 @@ body-below xs = first-le (length xs) (longestOf (metFrom 0 xs)) (metFrom 0 xs) (
 -- so the fourth test never refuses reports of groups
 pub never-4 : (xs ys : List Body) → sumsOf (reportOf xs) (reportOf ys) ≡ Over 4 → ⊥
 unfolding sumsOf
-never-4 xs ys e = go (ltb (most - f .bodies) (g .bodies)) refl (ltb (most - f .levels) (g .levels)) (ltb (most - f .kept) (g .kept)) (ltb (most - f .bodies) (g .body)) refl e
+never-4 xs ys e = go (ltb (most - f .bodies) (g .bodies)) refl (ltb (most - f .levels) (g .levels)) (ltb (most - f .kept) (g .kept))
+    (ltb (most - f .bodies) (g .body)) refl e
   where
     f : Figures
     f = reportOf xs
@@ -125,7 +128,8 @@ never-4 xs ys e = go (ltb (most - f .bodies) (g .bodies)) refl (ltb (most - f .l
     g : Figures
     g = reportOf ys
 
-    go : (a : Bool) → ltb (most - f .bodies) (g .bodies) ≡ a → (b c d : Bool) → ltb (most - f .bodies) (g .body) ≡ d → cond a (Over 1) (cond b (Over 2) (cond c (Over 3) (cond d (Over 4) (Is (joinOf f g))))) ≡ Over 4 → ⊥
+    go : (a : Bool) → ltb (most - f .bodies) (g .bodies) ≡ a → (b c d : Bool) → ltb (most - f .bodies) (g .body) ≡ d
+        → cond a (Over 1) (cond b (Over 2) (cond c (Over 3) (cond d (Over 4) (Is (joinOf f g))))) ≡ Over 4 → ⊥
     go true p b c d q h = let z : _≡_ {A = ℕ} 1 4 = cc in omega arith
     go false p true c d q h = let z : _≡_ {A = ℕ} 2 4 = cc in omega arith
     go false p false true d q h = let z : _≡_ {A = ℕ} 3 4 = cc in omega arith

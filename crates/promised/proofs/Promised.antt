@@ -28,10 +28,11 @@ use Rattle.exported.proofs.Folded.{folds-next, clears-next, folds-cleared, fold
 use Rattle.exported.proofs.Ran.{runs-kept}
 use Rattle.exported.proofs.Cleared.{clear-settles, clear-holds, cleared-twice}
 use Rattle.levels.specs.Answers.{levelAnswer}
-use Rattle.turniploom.proofs.Alone.{one-make, one-enter, one-leave}
+use Rattle.turniploom.proofs.Alone.{one-make, one-enter, one-leave, one-replay}
 use Rattle.saved.proofs.Exported as exported
 use Rattle.figured.proofs.Exported.{empty-report, add-report, join-report, add-keeps, join-keeps}
 use Rattle.figured.proofs.Kept.{kept-added, kept-total}
+use Rattle.replays.proofs.Exported.{answered-recorded, recorded-answered, as-run, report, counts, no-report}
 use Rattle.promised.specs.Promised.{Promised}
 use Rattle.promised.proofs.Marked.{marked}
 use Rattle.promised.proofs.Late.{late}
@@ -148,4 +149,11 @@ promised =
         kept-added bits w regs tries wide (b .rows) (b .offsets) (b .list) (a .rows) (a .offsets) (a .list) r (x .told) z,
         kept-total bits w regs tries wide (b .rows) (b .offsets) (b .list) (a .rows) (a .offsets) (a .list) r (x .told) z,
       );
+      one-replay = one-replay;
+      replay-recorded = answered-recorded;
+      replay-answered = recorded-answered;
+      replay-run = as-run;
+      replay-steps = report;
+      replay-reads = counts;
+      replay-none = no-report;
     }

@@ -45,7 +45,7 @@ use Rattle.refold.specs.Left.{PoolLeft, FoldBeyond, NoneDied, asLent, TriesLeft
 use Rattle.refold.specs.Examples.{jumping, summed, crossed, crossedCounts, crossedLens}
 use Rattle.runs.specs.Machine.{Ins, Stack, End, Run}
 use Rattle.runs.specs.Rule.{Rule}
-use Rattle.turniploom.specs.Answers.{kindsTold, roleTold, fieldTold, touchTold, truthTold, bitsTold, globalTold, pushTold, stackTold, MadeTold, EnterTold, LeaveTold}
+use Rattle.turniploom.specs.Answers.{kindsTold, roleTold, fieldTold, touchTold, truthTold, bitsTold, globalTold, pushTold, stackTold, MadeTold, EnterTold, LeaveTold, ReplayTold}
 use Rattle.exported.specs.Settles.{One, Settles}
 use Rattle.exported.specs.Calls.{TargetsCall, LoopsCall, EntriesBeyond, Marks, DeadCall, GenCall, NeededCall, MarksBeyond, Lists, KeptCall, KeptSettles}
 use Rattle.exported.specs.Calls.{FoldCall, ClearCall, ClearBeyond}
@@ -67,6 +67,13 @@ use Rattle.figures.specs.Figures.{bodyFigures}
 use Rattle.figures.specs.Answers.{reports, addCall, joinCall}
 use Rattle.figures.specs.Month.{Body, reportOf}
 use Rattle.figures.specs.Month as figured
+use Rattle.laws.specs.Page.{among}
+use Rattle.laws.specs.Table.{filledTo}
+use Rattle.steps.specs.Code.{afterAt}
+use Rattle.day.specs.Trace.{slotAt, stepsOf, Recorded}
+use Rattle.day.specs.Count.{readsIn, levelsIn}
+use Rattle.day.specs.Day.{stagesOf}
+use Rattle.replays.specs.Positions.{slotsFrom, visited}
 
 -- where a call's statement says 'the answer is x': there is one answer
 abbrev pub OneAnswer : Answer → Type 0
@@ -325,3 +332,26 @@ pub record Promised : Type 0 where
       → KeptCall bits w regs tries wide b r a → r .refusal ≡ 0
       → ((old new : List ℕ) (t : Answer) → addCall w (a .offsets) (r .first) old ≡ reports new t → (t .refusal ≡ 0) ⊎ (t .refusal ≡ 13))
       × (bodyFigures w (a .offsets) .kept ≡ r .first)
+  -- ---- wish 9: the replay of a survey day
+
+  -- the replay settles the answer and every word of the reads
+  pub one-replay : (w : List ℕ) (regs : ℕ) (tries t old : List ℕ) (r r′ : Answer) (a a′ : List ℕ) → ReplayTold w regs tries t old a r
+      → ReplayTold w regs tries t old a′ r′ → (r ≡ r′) × (a ≡ a′)
+  -- an answered trace is a recorded run: whole blocks, right checks, fillers at the end alone, the first position 0, each below n, every move allowed
+  pub replay-recorded : (w : List ℕ) (regs : ℕ) (tries t old new : List ℕ) (r : Answer) → ReplayTold w regs tries t old new r → r .refusal ≡ 0
+      → Recorded w tries t
+  -- a recorded run is answered, where code, registers, tries and reads are not refused
+  pub replay-answered : (w : List ℕ) (regs : ℕ) (tries t old new : List ℕ) (r : Answer) → ReplayTold w regs tries t old new r
+      → stagesOf w regs tries (length old) ≡ stage.Count (count w) → Recorded w tries t → r .refusal ≡ 0
+  -- where "after" names every move of a stretch, demand 3's machine has choices by which it visits exactly these positions, whatever is written
+  pub replay-run : (w : List ℕ) (regs : ℕ) (tries t old new : List ℕ) (r : Answer) → ReplayTold w regs tries t old new r → r .refusal ≡ 0
+      → (s m : ℕ) → s + m ≤ stepsOf t → ((j : ℕ) → s ≤ j → suc j < s + m → among (slotAt t (suc j)) (afterAt w (slotAt t j)) ≡ true)
+      → (choices : List ℕ) × ((news : List (List ℕ)) (file : List ℕ) → visited (flow regs w) choices news (slotAt t s) file ≡ slotsFrom t s m)
+  -- the answer has the steps and the levels met
+  pub replay-steps : (w : List ℕ) (regs : ℕ) (tries t old new : List ℕ) (r : Answer) → ReplayTold w regs tries t old new r → r .refusal ≡ 0
+      → r ≡ answerOf (stepsOf t) (levelsIn w t (stepsOf t)) 0 0
+  -- reads[r] is the number of steps that use r; words past the registers are as lent
+  pub replay-reads : (w : List ℕ) (regs : ℕ) (tries t old new : List ℕ) (r : Answer) → ReplayTold w regs tries t old new r → r .refusal ≡ 0
+      → new ≡ filledTo (readsIn w t (stepsOf t)) regs old
+  -- a refused trace has no report: the reads are as lent
+  pub replay-none : (w : List ℕ) (regs : ℕ) (tries t old new : List ℕ) (r : Answer) → ReplayTold w regs tries t old new r → r .refusal ≢ 0 → new ≡ old

@@ -6,7 +6,10 @@ use mathlib.Core.List.{List, List·Memᴰ}
 use Prim.Native.Nat.{ℕ, suc, _+_, _*_, _≤_, _<_}
 use native.Mathlib.Decide.{decLt}
 use native.Mathlib.Omega.{arith}
-use lib.ListN.{length}
+use borrow.Author.Tests.{lt-ltb, le-ltb}
+use lib.Dec.{ltb}
+use lib.ListN.{length, getD, set}
+use lib.Seq.{getD-set-same, getD-set-other}
 use Rattle.code.specs.Ins.{insAt, count}
 use Rattle.code.specs.Check.{checkOf, insideOf}
 use Rattle.code.specs.Answers.{asked, answerOf, refusalOf, refusedOf}
@@ -22,14 +25,14 @@ use Rattle.steps.specs.Code.{flow}
 use Rattle.kept.specs.Level.{resumeOf, resultAt}
 use Rattle.kept.specs.Lists.{partAt}
 use Rattle.levels.specs.Answers.{levelTold, levelAnswer}
-use Rattle.saver.specs.Saver.{Saver, Ends, ends, Back, returned, thrown, regsOf, usedOf, freeOf, putIn, entered, enterOf, leaveOf}
+use Rattle.saver.specs.Saver.{Saver, saver, madeHead, Ends, ends, Back, returned, thrown, regsOf, usedOf, freeOf, putIn, entered, enterOf, leaveOf}
 use Rattle.saver.specs.Frames.{fileOf, Sound, Event, Play, Matched, Open, done, enter, write, leave}
 use Rattle.saver.specs.Answers.{saverTold}
 use Rattle.saver.specs.declared.SaverAnswer.{SaverAnswer}
 use Rattle.saver.specs.declared.SaverAnswer.the-variants.{Used, Registers, Listed, Full, Nothing}
 use Rattle.saver.proofs.Resumes.{answers}
-use Rattle.saver.proofs.Open.{none-open, some-open}
-use Rattle.turniploom.specs.Answers.{By, KeptTold, EnterTold, LeaveTold}
+use Rattle.saver.proofs.Open.{open-sound, none-open, some-open, made-open}
+use Rattle.turniploom.specs.Answers.{By, KeptTold, MadeTold, EnterTold, LeaveTold}
 use Rattle.turniploom.proofs.Answered.{never-0, kept-answered}
 use Rattle.saved.specs.Calls.{Called}
 use Rattle.saved.specs.Calls as called
@@ -89,6 +92,29 @@ played {t = t} (called.enter {s = s} {m = m} {l = l} {q = q} {es = es} {r = r} x
 played (called.write e p) = write e (played p)
 played {t = t} (called.leave {s = s} {m = m} {back = back} {es = es} {r = r} x p) =
     leave (subst (λ (z : Saver). Play z es t) (sym (left-is (leaveOf s back) m r x)) (played p))
+
+-- A saver that was made has as many registers as asked for and no call open, whatever area and file hold.
+pub made : (regs : ℕ) (head head′ area file : List ℕ) (r : Answer) → length head ≡ 2 → length area ≡ 4096 → length file ≡ 64
+    → MadeTold regs head head′ r → r .refusal ≡ 0 → Open (saver head′ area file) 0 × (regsOf (saver head′ area file) ≡ regs)
+made regs head head′ area file r h a f x zero = go (decLt 64 regs)
+  where
+    told : saverTold (cond (ltb 64 regs) (Registers regs) (Used 0)) .refusal ≡ 0
+    told = ap (λ (v : SaverAnswer). saverTold v .refusal) (sym (x .allowed .answer)) ∙ sym (ap (λ (y : Answer). y .refusal) (x .is)) ∙ zero
+
+    go : Dec (64 < regs) → Open (saver head′ area file) 0 × (regsOf (saver head′ area file) ≡ regs)
+    go (yes n) = let e = told in let z : _≡_ {A = ℕ} 3 0 = rw (lt-ltb 64 regs n) at e in absurd (omega arith)
+    go (no n) =
+        let e : head′ ≡ madeHead head regs = x .allowed .words in (
+          subst (λ (y : List ℕ). Open (saver y area file) 0) (sym e) (made-open head area file regs h a f (omega arith)),
+          ap (λ (y : List ℕ). getD y 0 0) e ∙ rw (le-ltb 64 regs (omega arith)) zeroth,
+        )
+      where
+        zeroth : getD (set (set head 0 regs) 1 0) 0 0 ≡ regs
+        zeroth = getD-set-other (set head 0 regs) 1 0 0 0 (λ z. omega arith) ∙ getD-set-same head 0 regs 0 (omega arith)
+
+-- However it is used from there on, it is what the promises below ask of it.
+pub in-use : {s : Saver} {n : ℕ} → Open s n → Sound s
+in-use o = open-sound o
 
 -- With no call open a leaving is refused with 9, and no word changes.
 pub nine : {s : Saver} → Open s 0 → (back : Back) (t : Saver) (r : Answer) → LeaveTold s back t r → (r ≡ refusalOf 9 0 0) × (t ≡ s)

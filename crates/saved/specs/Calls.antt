@@ -12,7 +12,8 @@ use Rattle.turniploom.specs.Answers.{EnterTold, LeaveTold}
 -- is whatever the call makes of it.
 pub data Called : Saver → List Event → Saver → Type 0 where
   done : {s : Saver} → Called s [] s
-  enter : {s m t : Saver} {l : List ℕ} {q : ℕ} {es : List Event} {r : Answer} → EnterTold s l q m r → r .refusal ≡ 0 → Called m es t → Called s (enters l q ∷ es) t
+  enter : {s m t : Saver} {l : List ℕ} {q : ℕ} {es : List Event} {r : Answer} → EnterTold s l q m r → r .refusal ≡ 0 → Called m es t
+      → Called s (enters l q ∷ es) t
   write : {s t : Saver} {new : List ℕ} {es : List Event} → length new ≡ length (s .file) → Called (saver (s .head) (s .area) new) es t
       → Called s (writes new ∷ es) t
   leave : {s m t : Saver} {back : Back} {es : List Event} {r : Answer} → LeaveTold s back m r → Called m es t → Called s (leaves back ∷ es) t

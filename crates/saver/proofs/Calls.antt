@@ -13,7 +13,8 @@ use Rattle.laws.specs.Some.{some}
 use Rattle.laws.specs.Walk.{first}
 use Rattle.laws.proofs.Some.{passes-at, some-more, nowhere-yet, nowhere}
 use Rattle.laws.proofs.Walk.{none-passed}
-use Rattle.saver.specs.Saver.{Saver, saver, ends, strange, firstStrange, freeOf, needOf, pairsOf, entryOf, Fit, Stored, putIn, putBack, topOf, Back, returned, thrown, written, Made, entered, enterOf, leftBy, leaveOf}
+use Rattle.saver.specs.Saver.{Saver, saver, ends, strange, firstStrange, freeOf, needOf, pairsOf, entryOf, Fit, Stored}
+use Rattle.saver.specs.Saver.{putIn, putBack, topOf, Back, returned, thrown, written, Made, entered, enterOf, leftBy, leaveOf}
 use Rattle.saver.specs.declared.SaverAnswer.{SaverAnswer}
 use Rattle.saver.specs.declared.SaverAnswer.the-variants.{Used, Registers, Listed, Full, Nothing}
 use Rattle.saver.specs.declared.Top.{Top}
@@ -37,13 +38,15 @@ module _ (l : List ℕ) (i : ℕ) where
   pub before-no : (j : ℕ) → i ≤ j → j ≤ i → some (as-at l i) j ≡ false → false ≡ some (λ j. eqb (getD l j 0) (getD l i 0)) i
   before-no j h k e = nowhere (as-at l i) j i h k e
 
-pub strange-is : (regs : ℕ) (l : List ℕ) (i r : ℕ) (t : Bool) → r ≡ getD l i 0 → t ≡ some (λ j. eqb (getD l j 0) (getD l i 0)) i → leb regs r || t ≡ strange regs l i
+pub strange-is : (regs : ℕ) (l : List ℕ) (i r : ℕ) (t : Bool) → r ≡ getD l i 0 → t ≡ some (λ j. eqb (getD l j 0) (getD l i 0)) i
+    → leb regs r || t ≡ strange regs l i
 strange-is regs l i r t e f = ap₂ (λ (x : ℕ) (y : Bool). leb regs x || y) e f
 
 -- where no place is strange, each register is in the file
 pub all-in : (regs : ℕ) (l : List ℕ) → length l ≤ firstStrange regs l → (i : ℕ) → i < length l → getD l i 0 < regs
 unfolding firstStrange
-all-in regs l h i k = leb-false regs (getD l i 0) (left (leb regs (getD l i 0)) (some (as-at l i) i) (none-passed (strange regs l) i (length l) 0 (omega arith) zero-le (omega arith)))
+all-in regs l h i k = leb-false regs (getD l i 0)
+    (left (leb regs (getD l i 0)) (some (as-at l i) i) (none-passed (strange regs l) i (length l) 0 (omega arith) zero-le (omega arith)))
   where
     left : (a b : Bool) → a || b ≡ false → a ≡ false
     left true b e = e
@@ -87,7 +90,8 @@ module _ (file l : List ℕ) (q : ℕ) (old : List ℕ) (at : ℕ) where
         two : p + 2 ≡ suc (suc p)
         two = omega arith
 
-        step : sets (set (set out p r) (p + 1) (getD file r 0)) (p + 2) (pairsOf file (drop (i + 1) l) ++ (length l ∷ q ∷ [])) ≡ sets out p (pairsOf file (drop i l) ++ (length l ∷ q ∷ []))
+        step : sets (set (set out p r) (p + 1) (getD file r 0)) (p + 2) (pairsOf file (drop (i + 1) l) ++ (length l ∷ q ∷ [])) ≡ sets out p
+            (pairsOf file (drop i l) ++ (length l ∷ q ∷ []))
         step = rw (e, add-one p, two, add-one i) (sym (ap (λ (x : List ℕ). sets out p (pairsOf file x ++ (length l ∷ q ∷ []))) (drop-cons l i 0 h)))
 
     pub storing-end : length l ≤ i → Stored at file l q old (set (set out p (length l)) (p + 1) q) (p + 2)
@@ -134,7 +138,8 @@ unfolding topOf
 top-within used area base len q = go (ltb used 2) (ltb 4096 used) refl (ltb ((used - 2) / 2) (getD area (used - 2) 0)) refl
   where
     go : (a b : Bool) → ltb 4096 used ≡ b → (c : Bool) → ltb ((used - 2) / 2) (getD area (used - 2) 0) ≡ c
-        → Entry base len q ≡ cond a Bare (cond b Bare (cond c Bare (Entry (used - 2 - 2 * getD area (used - 2) 0) (getD area (used - 2) 0) (getD area (used - 2 + 1) 0))))
+        → Entry base len q ≡ cond a Bare
+        (cond b Bare (cond c Bare (Entry (used - 2 - 2 * getD area (used - 2) 0) (getD area (used - 2) 0) (getD area (used - 2 + 1) 0))))
         → base + 2 * len ≤ 4096
     go true b p c r e = let z : _≡_ {A = ℕ} 0 1 = cc in absurd (omega arith)
     go false true p c r e = let z : _≡_ {A = ℕ} 0 1 = cc in absurd (omega arith)
@@ -168,7 +173,8 @@ module _ (regs : ℕ) (area : List ℕ) (base len : ℕ) (old : List ℕ) where
       less x = omega arith
 
   module _ (file : List ℕ) (i : ℕ) (b : Backing regs area base len old file i) where
-    pub backing-more : i < len → (next : List ℕ) → next ≡ putIn regs (getD area (base + 2 * i) 0) (getD area (base + 2 * i + 1) 0) file → Backing regs area base len old next (i + 1)
+    pub backing-more : i < len → (next : List ℕ) → next ≡ putIn regs (getD area (base + 2 * i) 0) (getD area (base + 2 * i + 1) 0) file
+        → Backing regs area base len old next (i + 1)
     unfolding putBack
     backing-more h next e = record {
       le = omega arith;
@@ -225,7 +231,8 @@ module _ (h a f l : List ℕ) (q : ℕ) where
       unfolding enterOf
       enter-full x = rw (le-ltb 64 (getD h 0 0) few, ← e, le-ltb i (length l) fine, ← g, lt-ltb free (needOf l) (omega arith))
 
-      pub enter-done : length l < free / 2 → (b : List ℕ) (n : ℕ) → Stored (getD h 1 0) f l q a b n → enterOf (saver h a f) l q ≡ ends (saver (set h 1 n) b f) (Used n)
+      pub enter-done : length l < free / 2 → (b : List ℕ) (n : ℕ) → Stored (getD h 1 0) f l q a b n
+          → enterOf (saver h a f) l q ≡ ends (saver (set h 1 n) b f) (Used n)
       unfolding enterOf
       enter-done x b n s = rw (le-ltb 64 (getD h 0 0) few, ← e, le-ltb i (length l) fine, ← g, le-ltb free (needOf l) (omega arith), s .words, s .past)
 
@@ -247,7 +254,8 @@ module _ (h a f : List ℕ) where
     leave-done base len q x g y = rw (le-ltb 64 (getD h 0 0) few, ← e, x, y)
 
   -- a return, in the code's two steps
-  pub leave-returned : (v : ℕ) → getD h 0 0 ≤ 64 → (t : Top) → t ≡ topOf (getD h 1 0) a → (base len q : ℕ) → t ≡ Entry base len q → (g′ : List ℕ) → g′ ≡ putBack (getD h 0 0) a base len f
+  pub leave-returned : (v : ℕ) → getD h 0 0 ≤ 64 → (t : Top) → t ≡ topOf (getD h 1 0) a → (base len q : ℕ) → t ≡ Entry base len q → (g′ : List ℕ)
+      → g′ ≡ putBack (getD h 0 0) a base len f
       → (g : List ℕ) → g ≡ putIn (getD h 0 0) q v g′ → leaveOf (saver h a f) (returned v) ≡ ends (saver (set h 1 base) a g) (Used base)
   leave-returned v few t e base len q x g′ y g z = leave-done (returned v) few t e base len q x g (z ∙ ap (putIn (getD h 0 0) q v) y)
 

@@ -9,7 +9,8 @@ use borrow.Author.Tests.{lt-ltb, le-ltb, ltb-true, ltb-false}
 use lib.Dec.{ltb}
 use lib.ListN.{length, getD, take, drop, set, length-set, length-append, take-append-drop}
 use lib.Seq.{sets, sets-eq, length-sets, getD-set-same, getD-set-other, getD-at, take-at, take-take, length-take-le}
-use Rattle.saver.specs.Saver.{Saver, saver, Ends, ends, Back, regsOf, usedOf, freeOf, needOf, firstStrange, pairsOf, entryOf, putBack, topOf, written, entered, enterOf, leftBy, leaveOf}
+use Rattle.saver.specs.Saver.{Saver, saver, Ends, ends, Back, regsOf, usedOf, freeOf, needOf}
+use Rattle.saver.specs.Saver.{firstStrange, pairsOf, entryOf, putBack, topOf, written, entered, enterOf, leftBy, leaveOf}
 use Rattle.saver.specs.Frames.{Sound, Event, enters, writes, leaves, restored, Play, done, enter, write, leave, Matched, none, over, frame, Same}
 use Rattle.saver.specs.declared.SaverAnswer.{SaverAnswer}
 use Rattle.saver.specs.declared.SaverAnswer.the-variants.{Used, Registers, Listed, Full}
@@ -67,7 +68,8 @@ module _ (pre pairs D : List ℕ) (len q : ℕ) (two : length pairs ≡ 2 * len)
       base = omega arith
 
 -- an entry that stands in the area, its last word the last in use
-module _ (area : List ℕ) (long : length area ≡ 4096) (u : ℕ) (file l : List ℕ) (q : ℕ) (fits : u + needOf l ≤ 4096) (so : take (u + needOf l) area ≡ take u area ++ entryOf file l q) where
+module _ (area : List ℕ) (long : length area ≡ 4096) (u : ℕ) (file l : List ℕ) (q : ℕ) (fits : u + needOf l ≤ 4096)
+    (so : take (u + needOf l) area ≡ take u area ++ entryOf file l q) where
   abbrev front : List ℕ
   front = take u area
 
@@ -166,7 +168,8 @@ module _ (s : Saver) (ok : Sound s) (l : List ℕ) (q : ℕ) (a : Accepted s l q
 
     -- the leaving is not refused; it puts back what this entry put aside, and frees its room
     pub leaving : (back : Back)
-        → leaveOf t back ≡ ends (saver (set (t .head) 1 (usedOf s)) (t .area) (written (regsOf s) q back (restored (regsOf s) (s .file) l (t .file)))) (Used (usedOf s))
+        → leaveOf t back ≡ ends (saver (set (t .head) 1 (usedOf s)) (t .area) (written (regsOf s) q back (restored (regsOf s) (s .file) l (t .file))))
+        (Used (usedOf s))
     unfolding leaveOf leftBy
     leaving back = rw (le-ltb 64 (regsOf t) (m .sound .few), found, regs₂, part)
 

@@ -78,7 +78,8 @@ module _ (regs : ℕ) (l : List ℕ) where
 
     apart : (i j : ℕ) → j < i → i < length l → getD l j 0 ≡ getD l i 0 → ⊥
     unfolding firstStrange
-    apart i j h k e = false≢true (sym (right (leb regs (getD l i 0)) (some (as-at l i) i) (none-passed (strange regs l) i (length l) 0 (omega arith) zero-le (omega arith)))
+    apart i j h k e = false≢true
+        (sym (right (leb regs (getD l i 0)) (some (as-at l i) i) (none-passed (strange regs l) i (length l) 0 (omega arith) zero-le (omega arith)))
         ∙ passes-at (as-at l i) j i h (eq-eqb (getD l j 0) (getD l i 0) e))
       where
         right : (a b : Bool) → a || b ≡ false → b ≡ false

@@ -7,7 +7,8 @@ use borrow.Author.Tests.{le-ltb}
 use lib.Dec.{ltb}
 use lib.ListN.{length, getD, take, set, length-set}
 use lib.Seq.{take-take, getD-set-same, getD-set-other}
-use Rattle.saver.specs.Saver.{Saver, saver, Ends, ends, Back, regsOf, usedOf, needOf, entryOf, putIn, putBack, topOf, written, madeHead, enterOf, leftBy, leaveOf}
+use Rattle.saver.specs.Saver.{Saver, saver, Ends, ends, Back, regsOf, usedOf, needOf}
+use Rattle.saver.specs.Saver.{entryOf, putIn, putBack, topOf, written, madeHead, enterOf, leftBy, leaveOf}
 use Rattle.saver.specs.Frames.{Sound, Open, made, entered, overwritten, left}
 use Rattle.saver.specs.declared.SaverAnswer.the-variants.{Used, Nothing}
 use Rattle.saver.specs.declared.Top.{Top}
@@ -18,7 +19,8 @@ use Rattle.saver.proofs.Frames.{Accepted, accepted, entered-sound, entr
 -- the first w words are n entries, one upon the other
 data Tower (area : List ℕ) : ℕ → ℕ → Type 0 where
   ground : {w : ℕ} → w ≡ 0 → Tower area 0 w
-  floor : {n u w : ℕ} (file l : List ℕ) (q : ℕ) → Tower area n u → u + needOf l ≤ 4096 → take (u + needOf l) area ≡ take u area ++ entryOf file l q → w ≡ u + needOf l → Tower area (suc n) w
+  floor : {n u w : ℕ} (file l : List ℕ) (q : ℕ) → Tower area n u → u + needOf l ≤ 4096 → take (u + needOf l) area ≡ take u area ++ entryOf file l q
+      → w ≡ u + needOf l → Tower area (suc n) w
 
 moved : (area area′ : List ℕ) {n w : ℕ} → Tower area n w → take w area′ ≡ take w area → Tower area′ n w
 moved area area′ (ground e) h = ground e
@@ -31,10 +33,12 @@ moved area area′ {w = w} (floor {u = u} file l q t f s e) h = floor file l q (
 back-length : (regs : ℕ) (area : List ℕ) (m p : ℕ) (g : List ℕ) → length (putBack regs area p m g) ≡ length g
 unfolding putBack
 back-length regs area zero p g = refl
-back-length regs area (suc m) p g = back-length regs area m (suc (suc p)) (putIn regs (getD area p 0) (getD area (suc p) 0) g) ∙ in-length regs (getD area p 0) (getD area (suc p) 0) g
+back-length regs area (suc m) p g = back-length regs area m (suc (suc p)) (putIn regs (getD area p 0) (getD area (suc p) 0) g)
+    ∙ in-length regs (getD area p 0) (getD area (suc p) 0) g
 
 -- the newest of n + 1 entries is left
-module _ (s : Saver) (ok : Sound s) (u : ℕ) (file l : List ℕ) (q : ℕ) (f : u + needOf l ≤ 4096) (so : take (u + needOf l) (s .area) ≡ take u (s .area) ++ entryOf file l q) (e : usedOf s ≡ u + needOf l) (back : Back) where
+module _ (s : Saver) (ok : Sound s) (u : ℕ) (file l : List ℕ) (q : ℕ) (f : u + needOf l ≤ 4096)
+    (so : take (u + needOf l) (s .area) ≡ take u (s .area) ++ entryOf file l q) (e : usedOf s ≡ u + needOf l) (back : Back) where
   abbrev to : List ℕ
   to = written (regsOf s) q back (putBack (regsOf s) (s .area) u (length l) (s .file))
 
@@ -63,8 +67,10 @@ standing : {s : Saver} {n : ℕ} → Open s n → Sound s × Tower (s .area) n (
 standing (made ok e) = (ok, ground e)
 standing (entered {s = s} o l q u e) =
     let (ok, t) = standing o in
-    let a = accepted s l q u e in
-    (entered-sound s ok l q a, floor (s .file) l q (moved (s .area) (enterOf s l q .left .area) t (below₁ s ok l q a)) (fits s ok l q a) (stands₁ s ok l q a) (used₁ s ok l q a))
+    let a = accepted s l q u e in (
+      entered-sound s ok l q a,
+      floor (s .file) l q (moved (s .area) (enterOf s l q .left .area) t (below₁ s ok l q a)) (fits s ok l q a) (stands₁ s ok l q a) (used₁ s ok l q a),
+    )
 standing (overwritten {s = s} o new e) =
     let (ok, t) = standing o in
     (record { few = ok .few; room = ok .room; heads = ok .heads; areas = ok .areas; files = e ∙ ok .files }, t)
@@ -72,12 +78,17 @@ standing (left {s = s} o back) =
     let (ok, t) = standing o in
     down s ok back t
   where
-    down : {n : ℕ} (s : Saver) → Sound s → (back : Back) → Tower (s .area) (suc n) (usedOf s) → Sound (leaveOf s back .left) × Tower (leaveOf s back .left .area) n (usedOf (leaveOf s back .left))
+    down : {n : ℕ} (s : Saver) → Sound s → (back : Back) → Tower (s .area) (suc n) (usedOf s)
+        → Sound (leaveOf s back .left) × Tower (leaveOf s back .left .area) n (usedOf (leaveOf s back .left))
     down {n} s ok back (floor {u = u} file l q t f so e) = (
       sound-then s ok u file l q f so e back,
       subst (λ (x : Ends). Tower (x .left .area) n (usedOf (leaveOf s back .left))) (sym (leaves-it s ok u file l q f so e back))
           (subst (λ (w : ℕ). Tower (s .area) n w) (sym (used-then s ok u file l q f so e back)) t),
     )
+
+-- however it was used, a saver that was made is sound
+pub open-sound : {s : Saver} {n : ℕ} → Open s n → Sound s
+open-sound o = standing o .0
 
 -- with no call open a leaving is refused with 9 and changes nothing
 pub none-open : {s : Saver} → Open s 0 → (back : Back) → leaveOf s back ≡ ends s Nothing
@@ -98,7 +109,8 @@ some-open {s} o back = let (ok, t) = standing o in found ok t
     found ok (floor {u = u} file l q t f so e) = (u, ap (λ (x : Ends). x .answer) (leaves-it s ok u file l q f so e back))
 
 -- what `make` leaves is such a saver
-pub made-open : (head area file : List ℕ) (regs : ℕ) → length head ≡ 2 → length area ≡ 4096 → length file ≡ 64 → regs ≤ 64 → Open (saver (madeHead head regs) area file) 0
+pub made-open : (head area file : List ℕ) (regs : ℕ) → length head ≡ 2 → length area ≡ 4096 → length file ≡ 64 → regs ≤ 64
+    → Open (saver (madeHead head regs) area file) 0
 made-open head area file regs h a f few = rw (le-ltb 64 regs few) (made {s = saver (set (set head 0 regs) 1 0) area file}
     (record {
       few = omega (arith, zeroth, few);

@@ -1,4 +1,5 @@
--- A frame's end: every kept register holds what it held, save the result register after a return, and a run goes on as if nobody had touched a register. Assumes nothing.
+-- A frame's end: every kept register holds what it held, save the result register after a return, and a run goes on as if nobody had touched
+-- a register. Assumes nothing.
 use mathlib.Core.Path.{_≡_, refl, sym, ap, ap₂, _∙_, subst}
 use mathlib.Core.Logic.{_≢_}
 use mathlib.Core.Bool.{Bool, true, false, cond}
@@ -22,8 +23,10 @@ use Rattle.saver.proofs.Words.{in-length, in-same, in-other, back-lengt
 use Rattle.saver.proofs.Frames.{Accepted, accepted, entered-sound, leaving, left-same, matched}
 use Rattle.saver.proofs.Listed.{fine-in}
 
--- s is entered with the list l and the result register q; what happens then, nested entries and leavings and registers overwritten, is well bracketed and ends in t
-module _ (s : Saver) (ok : Sound s) (l : List ℕ) (q u : ℕ) (entry : enterOf s l q .answer ≡ Used u) (es : List Event) (bracketed : Matched es) (t : Saver) (play : Play (enterOf s l q .left) es t) where
+-- s is entered with the list l and the result register q; what happens then, nested entries and leavings and registers overwritten, is well
+-- bracketed and ends in t
+module _ (s : Saver) (ok : Sound s) (l : List ℕ) (q u : ℕ) (entry : enterOf s l q .answer ≡ Used u) (es : List Event) (bracketed : Matched es) (t : Saver)
+    (play : Play (enterOf s l q .left) es t) where
   a : Accepted s l q
   a = accepted s l q u entry
 
@@ -94,7 +97,8 @@ module _ (s : Saver) (ok : Sound s) (l : List ℕ) (q u : ℕ) (entry : enterOf 
   pub agree-result : (v : ℕ) → AgreeOn (alone (regsOf s) q) (fileOf (leaveOf t (returned v) .left)) (putIn (regsOf s) q v (fileOf s))
   agree-result v r h = go (ltb q (regsOf s)) refl h
     where
-      go : (b : Bool) → ltb q (regsOf s) ≡ b → 0 < bit (cond b (2 ^ q) 0) r → getD (fileOf (leaveOf t (returned v) .left)) r 0 ≡ getD (putIn (regsOf s) q v (fileOf s)) r 0
+      go : (b : Bool) → ltb q (regsOf s) ≡ b → 0 < bit (cond b (2 ^ q) 0) r
+          → getD (fileOf (leaveOf t (returned v) .left)) r 0 ≡ getD (putIn (regsOf s) q v (fileOf s)) r 0
       go false e z = absurd (omega (arith, bit-zero r))
       go true e z = at (ℕ-discrete q r)
         where

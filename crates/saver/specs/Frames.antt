@@ -34,7 +34,8 @@ pub data Event : Type 0 where
 pub data Play : Saver → List Event → Saver → Type 0 where
   done : {s : Saver} → Play s [] s
   enter : {s t : Saver} {l : List ℕ} {q u : ℕ} {es : List Event} → enterOf s l q .answer ≡ Used u → Play (enterOf s l q .left) es t → Play s (enters l q ∷ es) t
-  write : {s t : Saver} {new : List ℕ} {es : List Event} → length new ≡ length (s .file) → Play (saver (s .head) (s .area) new) es t → Play s (writes new ∷ es) t
+  write : {s t : Saver} {new : List ℕ} {es : List Event} → length new ≡ length (s .file) → Play (saver (s .head) (s .area) new) es t
+      → Play s (writes new ∷ es) t
   leave : {s t : Saver} {back : Back} {es : List Event} → Play (leaveOf s back .left) es t → Play s (leaves back ∷ es) t
 
 -- well bracketed: each entry has its leaving, and what happens between them is well bracketed too

@@ -6,7 +6,8 @@ ghost use lib.Dec.{eqb};
 ghost use Rattle.laws.specs.Some.{some};
 ghost use Rattle.code.specs.Answers.{refusalOf};
 ghost use Rattle.saver.specs.Answers.{saverTold};
-ghost use Rattle.saver.specs.Saver.{saver, ends, strange, firstStrange, freeOf, Stored, putIn, putBack, topOf, Made, enterOf, leaveOf, returned, thrown, Fit};
+ghost use Rattle.saver.specs.Saver.{saver, ends, strange, firstStrange, freeOf, Stored, putIn, putBack, topOf};
+ghost use Rattle.saver.specs.Saver.{Made, enterOf, leaveOf, returned, thrown, Fit};
 use code::Answer;
 
 // What a call answers: the words of the area in use after it, or why it is refused.
@@ -70,7 +71,8 @@ pub fn enter(
     list: &[u16],
     result: u64,
 ) -> SaverAnswer
-    ensures { λ r. ⌜ enterOf (saver (now (head .entry)) (now (area .entry)) (now (file .entry))) (now (list .entry)) result ≡ ends (saver (now (head .exit)) (now (area .exit)) (now (file .entry))) r ⌝ }
+    ensures { λ r. ⌜ enterOf (saver (now (head .entry)) (now (area .entry)) (now (file .entry))) (now (list .entry)) result
+        ≡ ends (saver (now (head .exit)) (now (area .exit)) (now (file .entry))) r ⌝ }
 {
     let regs = head[0] as usize;
     let used = head[1] as usize;
@@ -97,7 +99,8 @@ pub fn leave_by_return(
     file: &mut [u64; 64],
     value: u64,
 ) -> SaverAnswer
-    ensures { λ r. ⌜ leaveOf (saver (now (head .entry)) (now (area .entry)) (now (file .entry))) (returned value) ≡ ends (saver (now (head .exit)) (now (area .entry)) (now (file .exit))) r ⌝ }
+    ensures { λ r. ⌜ leaveOf (saver (now (head .entry)) (now (area .entry)) (now (file .entry))) (returned value)
+        ≡ ends (saver (now (head .exit)) (now (area .entry)) (now (file .exit))) r ⌝ }
 {
     let regs = head[0] as usize;
     let used = head[1] as usize;
@@ -122,7 +125,8 @@ pub fn leave_by_exception(
     area: &[u64; 4096],
     file: &mut [u64; 64],
 ) -> SaverAnswer
-    ensures { λ r. ⌜ leaveOf (saver (now (head .entry)) (now (area .entry)) (now (file .entry))) thrown ≡ ends (saver (now (head .exit)) (now (area .entry)) (now (file .exit))) r ⌝ }
+    ensures { λ r. ⌜ leaveOf (saver (now (head .entry)) (now (area .entry)) (now (file .entry))) thrown
+        ≡ ends (saver (now (head .exit)) (now (area .entry)) (now (file .exit))) r ⌝ }
 {
     let regs = head[0] as usize;
     let used = head[1] as usize;

@@ -24,9 +24,11 @@ use Rattle.lent.specs.declared.Counts.{Counts}
 use Rattle.optimizer.specs.Fold.{Buffers, Called}
 use Rattle.optimizer.specs.declared.FoldAnswer.{FoldAnswer}
 use Rattle.clear.specs.Clear as clearing
-use Rattle.turniploom.specs.Answers.{By, filledTold, truthTold, keptTold, foldTold, TargetsTold, LoopsTold, DeadTold, GenTold, NeededTold, KeptTold, FoldTold, clearTold, ClearTold, MadeTold, EnterTold, LeaveTold}
+use Rattle.turniploom.specs.Answers.{By, filledTold, truthTold, keptTold, foldTold, TargetsTold, LoopsTold, DeadTold, GenTold, NeededTold, KeptTold, FoldTold, clearTold, ClearTold, MadeTold, EnterTold, LeaveTold, ReplayTold}
 use Rattle.saver.specs.Saver.{Saver, Back, Ends}
 use Rattle.saver.specs.Answers.{saverTold}
+use Rattle.day.specs.Answers.{dayTold}
+use Rattle.day.proofs.Alone.{one-day}
 
 -- equal cases are told alike
 by-one : {A : Type 0} (f : A → Answer) {P Q : A → Type 0} {r r′ : Answer} (x : By f P r) (y : By f Q r′) → x .told ≡ y .told → r ≡ r′
@@ -90,3 +92,9 @@ pub one-leave : (s : Saver) (back : Back) (r r′ : Answer) (a a′ : Saver) →
 one-leave s back r r′ a a′ x y =
     let e = sym (x .allowed) ∙ y .allowed in
     (by-one saverTold x y (ap (λ (o : Ends). o .answer) e), ap (λ (o : Ends). o .left) e)
+
+pub one-replay : (w : List ℕ) (regs : ℕ) (tries t reads : List ℕ) (r r′ : Answer) (a a′ : List ℕ) → ReplayTold w regs tries t reads a r → ReplayTold w regs tries t reads a′ r′
+    → (r ≡ r′) × (a ≡ a′)
+one-replay w regs tries t reads r r′ a a′ x y =
+    let (z, e) = one-day w regs tries t reads (x .allowed) (y .allowed) in
+    (by-one dayTold x y e, z)

@@ -42,6 +42,8 @@ use Rattle.kept.specs.declared.KeptAnswer.{KeptAnswer}
 use Rattle.kept.specs.declared.KeptAnswer.the-variants as kept
 use Rattle.saver.specs.Saver.{Made, Saver, Back, ends, enterOf, leaveOf}
 use Rattle.saver.specs.Answers.{saverTold}
+use Rattle.day.specs.Day.{Day}
+use Rattle.day.specs.Answers.{dayTold}
 
 -- truth is 1, falsehood 0
 abbrev pub truthTold : Told → Answer
@@ -151,3 +153,7 @@ EnterTold s l q s′ r = By saverTold (λ v. enterOf s l q ≡ ends s′ v) r
 
 abbrev pub LeaveTold : Saver → Back → Saver → Answer → Type 0
 LeaveTold s back s′ r = By saverTold (λ v. leaveOf s back ≡ ends s′ v) r
+
+-- steps, levels met, and the reads of each register
+abbrev pub ReplayTold : List ℕ → ℕ → List ℕ → List ℕ → List ℕ → List ℕ → Answer → Type 0
+ReplayTold w regs tries t reads reads′ r = By dayTold (λ v. Day w regs tries t reads reads′ v) r

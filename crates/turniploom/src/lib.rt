@@ -11,7 +11,7 @@ ghost use Rattle.levels.specs.Answers.{levelAnswer};
 ghost use lib.ListN.{length};
 ghost use Rattle.figures.specs.Answers.{reports, addCall, joinCall};
 ghost use Rattle.saver.specs.Saver.{saver as words, returned, thrown};
-ghost use Rattle.turniploom.specs.Answers.{MadeTold, EnterTold, LeaveTold};
+ghost use Rattle.turniploom.specs.Answers.{MadeTold, EnterTold, LeaveTold, ReplayTold};
 use callee::GlobalAnswer;
 use callee::PushAnswer;
 use callee::StackAnswer;
@@ -431,4 +431,17 @@ pub extern "C" fn turniploom_figures_join(later: &[u64; 7], report: &mut [u64; 7
     ensures { λ r. ⌜ joinCall (now (later .entry)) (now (report .entry)) ≡ reports (now (report .exit)) r ⌝ }
 {
     figures::join(later, report)
+}
+
+#[no_mangle]
+pub extern "C" fn turniploom_replay(
+    code: &[u16],
+    regs: usize,
+    tries: &[u32],
+    trace: &[u8],
+    reads: &mut [u64],
+) -> Answer
+    ensures { λ r. ⌜ ReplayTold (now (code .entry)) regs (now (tries .entry)) (now (trace .entry)) (now (reads .entry)) (now (reads .exit)) r ⌝ }
+{
+    day::told(day::day(code, regs, tries, trace, reads))
 }

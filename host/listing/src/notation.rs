@@ -355,6 +355,7 @@ impl fmt::Display for Chunk {
 
 /// The code and tables of a question, in the notation.
 pub fn asked(q: &Question) -> String {
+    if !q.call.takes("code") { return String::new() }
     let words = q.u16("code");
     if !q.call.of_a_chunk() {
         let whole = words.len() / 6 * 6;

@@ -12,7 +12,7 @@ pub type Checked<T> = Result<T, No>;
 /// The last opcode number.
 pub const LAST: Op = Op(190);
 
-fn holds(rule: bool, no: No) -> Checked<()> { if rule { Ok(()) } else { Err(no) } }
+pub fn holds(rule: bool, no: No) -> Checked<()> { if rule { Ok(()) } else { Err(no) } }
 
 pub fn is_call(i: &Ins) -> bool { matches!(i.op, op::CallGlobalR | op::CallR | op::CallMethodR | op::CallSpreadR) }
 

@@ -2,11 +2,13 @@
 //! say: the refusals, the lent buffers, strict mode, sweep counts, and the listed differences.
 
 pub mod code;
+pub mod day;
 pub mod facts;
 pub mod fold;
 pub mod question;
 pub mod roles;
 pub mod rows;
+pub mod saver;
 pub mod walks;
 
 use question::*;
@@ -20,6 +22,7 @@ pub fn ask(q: &Question) -> Reply {
     let answer = match q.call {
         Fold => folding(q, &mut lent, &mut |_| fold::NAN),
         Clear => clearing(q, &mut lent),
+        _ if q.call.saves() => saver::answer(q, &mut lent).map(one),
         _ => over_code(q, &mut lent),
     };
     let answer = match answer {
@@ -78,6 +81,12 @@ fn over_code(q: &Question, lent: &mut Lent) -> Checked<[u64; 4]> {
         PushedBack => walks::pushed_back(&code, at()?, q.n("r") as u16).map_or([0; 4], |p| [1, p as u64, 0, 0]),
         StackCallee => walks::stack_callee(&code, at()?, q.n("count") as u16).map_or([0; 4], |(p, r)| [1, p as u64, r.into(), 0]),
         Kept | Kept32 => keeping(q, &code, lent)?,
+        Level => {
+            let k = at()?;
+            let (resume, result) = rows::resume(&code, k);
+            if rows::level(&code[k]) { [1, resume as u64, result.map_or(65_536, u64::from), 0] } else { [0; 4] }
+        }
+        Replay => day::replay(q, &code, lent)?,
         Touched => {
             let t = roles::touch(&code[at()?]);
             [t.used.into(), t.given_up.into(), t.written.into(), t.run.into()]
@@ -88,7 +97,7 @@ fn over_code(q: &Question, lent: &mut Lent) -> Checked<[u64; 4]> {
             waiting(lent, n)?;
             yes(rows::needed(&code, regs, k, q.n("r") as u16))
         }
-        Fold | Clear => unreachable!("it takes a chunk"),
+        Fold | Clear | SaverMake | SaverEnter | SaverReturn | SaverException => unreachable!("it takes no code of block.rs"),
     })
 }
 

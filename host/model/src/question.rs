@@ -17,7 +17,7 @@ macro_rules! calls {
 
 calls! {
     Kinds, Role, Field, Writes, Pure, Flat, Guarded, Returns, ParamsWritten, Passed, GenPure, DeadPhi, LoopsAround, Targets, GlobalOf, PushedBack,
-    StackCallee, Kept, Fold, Clear, Kept32, Touched, Needed
+    StackCallee, Kept, Fold, Clear, Kept32, Level, SaverMake, SaverEnter, SaverReturn, SaverException, Replay, Touched, Needed
 }
 
 pub use Call::*;
@@ -36,6 +36,10 @@ impl Call {
     /// Whether it tells the kept registers, and how many bits a word of its rows then has.
     pub fn keeps(self) -> bool { matches!(self, Kept | Kept32) }
     pub fn row_bits(self) -> usize { if self == Kept32 { 32 } else { 64 } }
+    /// Whether it is one of the frame saver's.
+    pub fn saves(self) -> bool { matches!(self, SaverMake | SaverEnter | SaverReturn | SaverException) }
+    /// Whether the Rust has it not: the model alone decides what is right.
+    pub fn is_new(self) -> bool { matches!(self, Clear | Replay) || self.saves() }
 }
 
 /// A number or a slice.
@@ -66,8 +70,9 @@ impl Arg {
         }
     }
 
-    /// No number or an empty slice.
+    /// No number, an empty slice, or an array of zeros.
     fn none(kind: Kind) -> Arg {
+        if let Some(n) = kind.fixed() { return Arg::U64(vec![0; n]) }
         match kind.width() {
             None => Arg::N(0),
             Some(Width::U8) => Arg::U8(vec![]),
@@ -112,8 +117,12 @@ impl Question {
     pub fn arg(&self, name: &str) -> &Arg { &self.args[self.place(name)] }
 
     pub fn n(&self, name: &str) -> u64 { self.arg(name).n() }
+    pub fn u8(&self, name: &str) -> &[u8] { if let Arg::U8(v) = self.arg(name) { v } else { panic!("{name}") } }
     pub fn u16(&self, name: &str) -> &[u16] { if let Arg::U16(v) = self.arg(name) { v } else { panic!("{name}") } }
     pub fn u32(&self, name: &str) -> &[u32] { if let Arg::U32(v) = self.arg(name) { v } else { panic!("{name}") } }
+    pub fn u64(&self, name: &str) -> &[u64] { if let Arg::U64(v) = self.arg(name) { v } else { panic!("{name}") } }
+    /// The code, none if the call takes none.
+    pub fn code(&self) -> &[u16] { if self.call.takes("code") { self.u16("code") } else { &[] } }
 
     fn place(&self, name: &str) -> usize {
         self.call.params().iter().position(|p| p.name == name).unwrap_or_else(|| panic!("no {name}"))
@@ -160,6 +169,9 @@ impl Reply {
             LoopsAround | Targets => self.lent.buffers[0].numbers()[1..] != asked.lent().buffers[0].numbers()[1..] && self.marked(asked),
             Fold => first as usize * 3 != asked.u16("code").len(),
             Clear => first != asked.n("constants"),
+            SaverMake => asked.n("regs") != 0,
+            SaverEnter => !asked.u16("list").is_empty(),
+            SaverReturn | SaverException => self.lent.buffers[1] != *asked.arg("file"),
             Touched => self.values()[1..].iter().any(|&v| v != 0),
             _ => first != 0,
         }

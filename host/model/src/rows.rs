@@ -4,10 +4,10 @@ use super::{code::{is_call, wide}, facts::fact, roles::*, walks::store};
 use turniploom::{DUNDER, Ins, op};
 
 /// One position's equation: row k = used with (the rows after, without the given-up).
-struct Equation {
-    used: Vec<u16>,
+pub struct Equation {
+    pub used: Vec<u16>,
     given_up: Vec<u16>,
-    after: Vec<usize>,
+    pub after: Vec<usize>,
     /// Where a jump goes, as it stands in the code.
     jump: Option<usize>,
 }
@@ -27,7 +27,7 @@ pub fn pending(code: &[Ins], k: usize) -> bool {
     }
 }
 
-fn equation(code: &[Ins], k: usize, regs: usize) -> Equation {
+pub fn equation(code: &[Ins], k: usize, regs: usize) -> Equation {
     let i = &code[k];
     let to = (i.a as usize).min(code.len());
     let after = match i.op {

@@ -200,7 +200,7 @@ impl Comparison {
                 Row { calls: 0, .. } => "was never asked",
                 Row { refused: 0, .. } => "was never refused",
                 Row { telling: 0, .. } => "never had a telling answer",
-                Row { rust: 0, .. } if call != Clear => "was never answered by the Rust",
+                Row { rust: 0, .. } if !call.is_new() => "was never answered by the Rust",
                 _ => return None,
             };
             Some(format!("{} {lacks}", call.name()))
@@ -297,7 +297,7 @@ pub fn shown(r: &Reply) -> String {
 }
 
 /// The call, its numbers and its tables, as a comment of the listing's notation.
-fn described(q: &Question) -> String {
+pub fn described(q: &Question) -> String {
     let told = q.call.params().iter().zip(&q.args).filter(|(p, _)| p.name != "code").map(|(p, arg)| match arg {
         Arg::N(v) => format!(" {}={v}", p.name),
         _ => format!(" {}={}", p.name, slice(arg)),

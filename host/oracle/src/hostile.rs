@@ -1,6 +1,6 @@
 //! Hostile input to the exported calls, watched for bad access: against guard pages, then under valgrind.
 
-use crate::{house::{Alone, House, Pages}, model, port, question::*, questions, rng::Rng};
+use crate::{compare, house::{Alone, House, Pages}, model, port, question::*, questions, rng::Rng};
 use listing::notation;
 use std::{env, process::{Command, Stdio}};
 use turniploom::abi::Kind;
@@ -18,6 +18,7 @@ fn question(rng: &mut Rng, call: Call) -> Question {
             Arg::U8(v) => spoil(v, number, extreme as u8),
             Arg::U16(v) => spoil(v, number, extreme as u16),
             Arg::U32(v) => spoil(v, number, extreme as u32),
+            Arg::U64(v) if call.params()[k].kind.fixed().is_some() => spoil(v, number | 2, extreme),
             Arg::U64(v) => spoil(v, number, extreme),
         }
     }
@@ -53,7 +54,7 @@ fn round(call: Call, seed: u64, round: u64, questions: u64, house: &mut impl Hou
     let mut rng = Rng::new(seed, round * 32 + call as u64);
     (0..questions).all(|k| {
         let q = narrowed(question(&mut rng, call));
-        if each { println!("# {} question {k}\n{}", call.name(), notation::asked(&q)) }
+        if each { println!("# {} question {k}\n{}{}", call.name(), compare::described(&q), notation::asked(&q)) }
         let port = port::ask_in(house, &q);
         !compared || port == model::ask(&q)
     })

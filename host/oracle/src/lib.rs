@@ -10,7 +10,9 @@ pub mod port;
 pub mod questions;
 pub mod record;
 pub mod rng;
+pub mod saver;
 pub mod shrink;
+pub mod traces;
 pub mod widths;
 
 pub use model::{self, question};

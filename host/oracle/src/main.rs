@@ -1,12 +1,13 @@
 //! The command of the comparison.
 
-use oracle::{compare::{self, Comparison, Until}, hostile, model, port, question::Call, record};
+use oracle::{compare::{self, Comparison, Until}, hostile, model, port, question::Call, record, saver};
 use std::{env, process::ExitCode, thread};
 
 const USE: &str = "oracle [--seed S] [--rounds R | --minutes M] [--threads T]         compare the port with the Rust and the model
 oracle model [--seed S] [--rounds R | --minutes M] [--threads T]   compare the model with the Rust
 oracle constants [--threads T]                                     every folding operator over every pair of some 300 constants
 oracle hostile [--seed S] [--rounds R]                             hostile input, watched for bad access by guard pages and by valgrind
+oracle saver [--events E] [--seed S] [--threads T]                 random events of a saver, played on the port, the model and a plain stack
 oracle record FILE [--seed S]                                      write recorded answers
 --calls NAME,.. asks these calls alone; without it, every call is asked.
 A round asks 1,000 random questions of each call; the systematic questions come once, before them.";
@@ -18,6 +19,7 @@ struct Options {
     minutes: Option<u64>,
     threads: usize,
     calls: Vec<Call>,
+    events: Option<u64>,
     /// For a hostile run that another started: the questions of a round, one round only, each told, no guard pages.
     inside: bool,
     questions: u64,
@@ -29,7 +31,7 @@ struct Options {
 fn options() -> Result<Options, String> {
     let threads = thread::available_parallelism().map_or(1, usize::from);
     let mut o = Options {
-        words: vec![], seed: 1, rounds: None, minutes: None, threads, calls: vec![], inside: false, questions: 1_000, only: None, each: false, alone: false,
+        words: vec![], seed: 1, rounds: None, minutes: None, threads, calls: vec![], events: None, inside: false, questions: 1_000, only: None, each: false, alone: false,
     };
     let mut args = env::args().skip(1);
     while let Some(word) = args.next() {
@@ -40,6 +42,7 @@ fn options() -> Result<Options, String> {
             "--rounds" => o.rounds = Some(number(value()?)?),
             "--minutes" => o.minutes = Some(number(value()?)?),
             "--threads" => o.threads = number(value()?)? as usize,
+            "--events" => o.events = Some(number(value()?)?),
             "--questions" => o.questions = number(value()?)?,
             "--only" => o.only = Some(number(value()?)?),
             "--inside" => o.inside = true,
@@ -70,8 +73,15 @@ fn run() -> Result<bool, String> {
         print!("{}", report.text);
         Ok(report.well)
     };
+    let played = |events: u64| {
+        let played = saver::play(saver::PORT, o.seed, events, o.threads);
+        println!("{played}");
+        played.well()
+    };
     match words[..] {
-        [] => compared(false, false),
+        // Histories first, so that the last line is the comparison's.
+        [] => Ok((!calls.iter().any(|c| c.saves()) || played(100_000)) & compared(false, false)?),
+        ["saver"] => Ok(played(o.events.unwrap_or(10_000_000))),
         ["model"] => compared(true, false),
         ["constants"] => compared(false, true),
         ["hostile"] if o.inside => {

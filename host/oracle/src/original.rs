@@ -37,8 +37,7 @@ pub fn ask(q: &Question, model: &Reply) -> Option<Reply> {
     let mut reply = model.clone();
     match q.call {
         Fold => folding(q, &mut reply)?,
-        // The Rust has no such call.
-        Clear => return None,
+        call if call.is_new() => return None,
         _ => over_code(q, &mut reply)?,
     }
     Some(reply)
@@ -86,11 +85,16 @@ fn over_code(q: &Question, reply: &mut Reply) -> Option<()> {
         PushedBack => rust::pushed_back(&code, at(), r()).map_or([0; 4], |p| [1, p as u64, 0, 0]),
         StackCallee => rust::stack_callee(&code, at(), q.n("count") as usize).map_or([0; 4], |(p, r)| [1, p as u64, r.into(), 0]),
         Kept | Kept32 => return keeping(q, &code, &tries(), reply),
+        Level => {
+            lower::set_dunder_ops(dunder_ops(words)?);
+            let (resume, result) = rust::after(&code, at());
+            if rust::level_at(&code[at()]) { [1, resume as u64, result.map_or(65_536, u64::from), 0] } else { [0; 4] }
+        }
         Touched => touched(&code[at()], reply),
         // Its rows are one word each.
         Needed if q.n("regs") > 64 => return None,
         Needed => [u64::from(u64::from(r()) < q.n("regs")) & rust::live_rows(&code, q.n("regs") as usize, 0)[at()] >> (r() % 64), 0, 0, 0],
-        Fold | Clear => unreachable!("it takes a chunk"),
+        call => unreachable!("{call:?} takes no code of block.rs"),
     };
     let a = &mut reply.answer;
     (a.first, a.second, a.third, a.fourth) = (values[0], values[1], values[2], values[3]);

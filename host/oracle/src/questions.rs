@@ -1,6 +1,6 @@
 //! The questions: systematic ones, the same at every seed, and random ones.
 
-use crate::{bodies::{body, damage}, chunks, model::code::is_call, question::*, rng::Rng};
+use crate::{bodies::{body, damage}, chunks, model::{code::is_call, rows}, question::*, rng::Rng, saver, traces};
 use turniploom::{Ins, Op, WIDE, abi::{self, Kind, Width}, op};
 
 /// A random question of a call.
@@ -8,6 +8,7 @@ pub fn random(rng: &mut Rng, call: Call) -> Question {
     match call {
         Fold => return chunks::random(rng),
         Clear => return chunks::random_clear(rng),
+        _ if call.saves() => return saver::random(rng, call),
         _ => {}
     }
     let regs = registers(rng, call);
@@ -40,6 +41,7 @@ fn asked_about(call: Call, code: &[Ins], k: usize) -> bool {
         GlobalOf => matches!(i.op, op::CallR | op::CallGlobalR),
         PushedBack => last_store(code),
         StackCallee => matches!(i.op, op::Call | op::Add),
+        Level => i.op.0 <= 190 && rows::level(i),
         _ => true,
     }
 }
@@ -57,6 +59,7 @@ fn ask(rng: &mut Rng, call: Call, code: &[Ins], words: Vec<u16>, regs: usize) ->
     } & 0xFFFF;
     let arity = rng.weighted(&[(4, 3), (4, 5), (2, 8), (1, 0), (1, 63), (1, 64), (1, 65), (1, u64::MAX)]);
     let count = rng.weighted(&[(8, 0), (6, 1), (3, 2), (2, 3), (1, 9), (1, 65_535)]);
+    let mut around = vec![];
     let args = call.params().iter().map(|p| match p.name {
         "code" => Arg::U16(words.clone()),
         "at" => Arg::N(at),
@@ -65,7 +68,9 @@ fn ask(rng: &mut Rng, call: Call, code: &[Ins], words: Vec<u16>, regs: usize) ->
         "arity" => Arg::N(arity),
         "count" => Arg::N(count),
         "regs" => Arg::N(if rng.once_in(40) { rng.pick(&[1_025, 65_536, u64::MAX]) } else { regs as u64 }),
-        "tries" => Arg::U32(tries(rng, n, &[])),
+        "tries" => { around = tries(rng, n, &[]); Arg::U32(around.clone()) }
+        "trace" => Arg::U8(traces::random(rng, &words, &around)),
+        "reads" => buffer(rng, p.kind, regs),
         "wide" => Arg::N(rng.once_in(3).into()),
         "seen" | "todo" | "out" | "offsets" => buffer(rng, p.kind, n + 1),
         "rows" => buffer(rng, p.kind, (n + 1) * crate::model::rows::words(regs, call.row_bits())),
@@ -222,10 +227,12 @@ pub fn systematic(rng: &mut Rng, call: Call, take: &mut dyn FnMut(Question)) {
     match call {
         Fold => return chunks::systematic(rng, take),
         Clear => return chunks::systematic_clear(rng, take),
+        _ if call.saves() => return saver::systematic(rng, call, take),
         _ => {}
     }
-    if matches!(call, Kinds | Role | Field | Writes | Touched) { every_opcode(rng, call, take) }
+    if matches!(call, Kinds | Role | Field | Writes | Level | Touched) { every_opcode(rng, call, take) }
     if call == StackCallee { many_pushed(take) }
+    if call == Replay { traces::systematic(take) }
     short_codes(rng, call, take);
     long_codes(rng, call, take);
 }

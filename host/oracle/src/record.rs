@@ -1,7 +1,8 @@
 //! Recorded answers: a sample of the Rust's own, and of the model's where it alone decides, as numbers, one record a line.
 
-use crate::{model, original, question::*, questions, rng::Rng};
+use crate::{model::{self, day::BLOCK}, original, question::*, questions, rng::Rng};
 use std::{fmt::Write as _, fs, io};
+use turniploom::abi::Param;
 
 /// The records of a call, and the instructions that a code may have.
 const RECORDS: usize = 64;
@@ -53,15 +54,28 @@ fn wanted(rng: &mut Rng, call: Call, kind: Shows) -> String {
 }
 
 /// The record of a small question, if the Rust answers it as the model does, or if the model alone decides it: a refusal, and
-/// what the Rust does not have, strict mode and the clearing call.
+/// what the Rust does not have, strict mode and some calls.
 fn record(q: &Question) -> Option<(String, Shows)> {
-    if q.u16("code").len() > INSTRUCTIONS * q.call.stride() || q.args.iter().any(|a| a.numbers().len() > 64) { return None }
+    let params = q.call.params();
+    let long = |(p, a): (&Param, &Arg)| p.kind.fixed().is_none() && a.numbers().len() > if p.name == "trace" { 64 + BLOCK } else { 64 };
+    if q.code().len() > INSTRUCTIONS * q.call.stride() || params.iter().zip(&q.args).any(long) { return None }
     let reply = model::ask(q);
     let shows = if reply.answer.refusal != 0 { Refused } else if reply.telling(q) { Telling } else { Plain };
-    let alone = shows == Refused || q.call == Clear || q.call == Fold && q.n("strict") != 0;
+    let alone = shows == Refused || q.call.is_new() || q.call == Fold && q.n("strict") != 0;
     if !alone && original::ask(q, &reply)? != reply { return None }
     let mut line = (q.call as u64).to_string();
-    let numbers = q.args.iter().flat_map(Arg::numbers).chain(reply.values()).chain(reply.lent.buffers.iter().flat_map(Arg::numbers));
+    let lent = params.iter().filter(|p| p.kind.is_lent()).zip(&reply.lent.buffers).flat_map(recorded);
+    let numbers = params.iter().zip(&q.args).flat_map(recorded).chain(reply.values()).chain(lent);
     for v in numbers { write!(line, " {v}").unwrap() }
-    (line.split(' ').count() <= NUMBERS).then_some((line + "\n", shows))
+    (line.split(' ').count() <= NUMBERS + if q.call == Replay { BLOCK } else { 0 }).then_some((line + "\n", shows))
+}
+
+/// An argument as a record has it; an array whose length is fixed goes up to the last word that is not 0.
+fn recorded((p, arg): (&Param, &Arg)) -> Vec<u64> {
+    let mut numbers = arg.numbers();
+    if p.kind.fixed().is_some() {
+        while numbers.len() > 1 && numbers.last() == Some(&0) { numbers.pop(); }
+        numbers[0] = numbers.len() as u64 - 1;
+    }
+    numbers
 }

@@ -40,13 +40,13 @@ impl Shrink<'_> {
     fn instructions(&mut self) {
         let stride = self.best.call.stride();
         let mut whole = self.best.clone();
-        let tail = whole.u16("code").len() % stride;
-        shorten(&mut whole.args[0], tail);
+        let tail = whole.code().len() % stride;
+        if tail != 0 { shorten(&mut whole.args[0], tail) }
         self.offer(whole);
-        let mut run = (self.best.u16("code").len() / stride).max(1);
+        let mut run = (self.best.code().len() / stride).max(1);
         loop {
             let mut k = 0;
-            while (k + run) * stride <= self.best.u16("code").len() {
+            while (k + run) * stride <= self.best.code().len() {
                 let without = without(&self.best, k, run, stride);
                 if !self.offer(without) { k += run }
             }
@@ -55,11 +55,11 @@ impl Shrink<'_> {
         }
     }
 
-    /// Shortens every other slice from its end, and clears it.
+    /// Shortens every other slice from its end, unless its length is fixed, and clears it.
     fn tables(&mut self) {
-        for k in 0..self.best.args.len() {
-            if self.best.call.params()[k].name == "code" { continue }
-            let mut cut = self.best.args[k].numbers().len();
+        for (k, p) in self.best.call.params().iter().enumerate() {
+            if p.name == "code" { continue }
+            let mut cut = if p.kind.fixed().is_some() { 0 } else { self.best.args[k].numbers().len() };
             while cut > 0 {
                 let mut changed = self.best.clone();
                 shorten(&mut changed.args[k], cut);
@@ -81,7 +81,7 @@ impl Shrink<'_> {
             }
             return;
         }
-        for k in 0..self.best.u16("code").len() / 6 {
+        for k in 0..self.best.code().len() / 6 {
             let code: Vec<Ins> = self.best.u16("code").chunks_exact(6).map(|w| Ins { op: Op(w[0]), marks: w[1], a: w[2], b: w[3], c: w[4], x: w[5] }).collect();
             let mut changed = self.best.clone();
             changed.args[0].u16()[6 * k + 1] = usual(&code, k);

@@ -81,6 +81,8 @@ pub mod vm {
                 live_across(ins: &[Ins], regs: usize, tries: &[(usize, usize)]) -> Vec<Vec<u16>>;
                 live_rows(ins: &[Ins], regs: usize, from: usize) -> Vec<u64>;
                 first_read(ins: &[Ins], tries: &[(usize, usize)]) -> usize;
+                level_at(i: &Ins) -> bool;
+                after(ins: &[Ins], k: usize) -> (usize, Option<u16>);
             }
         }
     }

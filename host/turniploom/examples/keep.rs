@@ -20,7 +20,7 @@ fn main() -> Result<(), Refusal> {
     // The host's own `dunder_op`: here, an addition may run one.
     let code = marked(&body, |i| i.op == InPlaceAddR);
     let found = kept(&code, 5, &[], false)?;
-    for (k, registers) in found.levels() { println!("{k} {:?} keeps {registers:?}", code[k].op) }
+    for level in found.levels() { println!("{} {:?} keeps {:?}", level.at(), code[level.at()].op, level.kept()) }
     println!("r1 is needed at the loop's head: {}", found.needed(2, 1));
 
     let bad = marked(&[Lowered::new(PushRegs, 0, 1, 2, 4)], |_| false);

@@ -88,6 +88,9 @@ impl Kind {
     /// Whether the parameter is lent to be written.
     pub const fn is_lent(self) -> bool { matches!(self, Kind::Buffer(_) | Kind::ArrayBuffer(_)) }
 
+    /// How many words an array has, whose length is fixed.
+    pub const fn fixed(self) -> Option<usize> { if let Kind::Array(n) | Kind::ArrayBuffer(n) = self { Some(n) } else { None } }
+
     /// The width of the elements, unless it is a number.
     pub const fn width(self) -> Option<Width> {
         match self {

@@ -1,7 +1,7 @@
 //! The calls of block.rs, under its names and as near its signatures as a refusal allows. Code is a slice of [`Ins`](crate::Ins)
 //! or of their words.
 
-use crate::{Code, Ins, Refusal, abi::{self, Answer}, block::around};
+use crate::{Code, Ins, Level, Refusal, abi::{self, Answer}, block::around, level};
 use alloc::{vec, vec::Vec};
 
 /// What an instruction does with `a` to `c` (0 to 2), as block.rs tells it: whether `a` is written, which fields are read registers, and
@@ -16,7 +16,7 @@ fn bits(answer: Answer) -> Result<u64, Refusal> { Ok(answer.granted()?.first) }
 fn length(ins: &(impl Code + ?Sized)) -> usize { ins.words().len() / 6 + 1 }
 
 /// Tries as they are lent. A number past 32 bits lies past every code, as the largest of 32 bits does.
-fn lent(tries: &[(usize, usize)]) -> Vec<u32> {
+pub fn lent(tries: &[(usize, usize)]) -> Vec<u32> {
     tries.iter().flat_map(|&(s, h)| [s, h]).map(|v| u32::try_from(v).unwrap_or(u32::MAX)).collect()
 }
 
@@ -260,6 +260,8 @@ pub struct Kept<W = u64> {
     pub full: u64,
     /// Abandoned sweeps, at most one.
     pub abandoned: u64,
+    /// The levels, in order.
+    pub(crate) places: Vec<level::Place>,
 }
 
 impl<W: Copy + Into<u64>> Kept<W> {
@@ -270,9 +272,13 @@ impl<W: Copy + Into<u64>> Kept<W> {
     /// If `k` is at the end or beyond.
     pub fn at(&self, k: usize) -> &[u16] { &self.list[self.offsets[k] as usize..self.offsets[k + 1] as usize] }
 
-    /// The levels that keep something, in order, each with what it keeps. A level that keeps nothing is not among them.
-    pub fn levels(&self) -> impl Iterator<Item = (usize, &[u16])> {
-        (0..self.offsets.len() - 1).map(|k| (k, self.at(k))).filter(|(_, kept)| !kept.is_empty())
+    /// The levels, in order, those that keep nothing too.
+    pub fn levels(&self) -> impl Iterator<Item = Level<'_>> { self.places.iter().map(|place| place.level(self.at(place.at()))) }
+
+    /// The level at position `k`, none if it is no level.
+    pub fn level(&self, k: usize) -> Option<Level<'_>> {
+        let place = self.places.binary_search_by_key(&k, level::Place::at).ok()?;
+        Some(self.places[place].level(self.at(k)))
     }
 
     /// The row of position `k`, the registers needed before it, a bit each. Without the wide route, and with at most as many registers as a word
@@ -309,7 +315,7 @@ fn found<W: Copy + Default>(
             Err(refusal) => return Err(refusal),
             Ok(answer) => {
                 list.truncate(answer.first as usize);
-                return Ok(Kept { rows, words, list, offsets, full: answer.second, abandoned: answer.third });
+                return Ok(Kept { rows, words, list, offsets, full: answer.second, abandoned: answer.third, places: level::places(code)? });
             }
         }
     }
@@ -331,7 +337,7 @@ fn found<W: Copy + Default>(
 /// let found = kept(&marked(&p5, |_| false), 3, &[], false)?;
 /// assert_eq!((&found.rows[..], found.full, found.abandoned), (&[1, 3, 7, 1, 4, 0][..], 3, 1));
 /// assert_eq!(found.at(2), [0, 1, 2]);
-/// assert_eq!(found.levels().collect::<Vec<_>>(), [(2, &[0, 1, 2][..])]);
+/// assert_eq!(found.levels().map(|level| (level.at(), level.kept())).collect::<Vec<_>>(), [(2, &[0, 1, 2][..])]);
 /// assert!(found.needed(2, 2) && !found.needed(3, 2) && found.row(3) == [1]);
 /// # Ok::<(), turniploom::Refusal>(())
 /// ```

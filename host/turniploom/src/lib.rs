@@ -14,18 +14,30 @@
 #![deny(missing_docs, clippy::missing_errors_doc, clippy::missing_panics_doc)]
 
 extern crate alloc;
+#[cfg(feature = "std")]
+extern crate std;
 
 pub mod abi;
 pub mod block;
 mod calls;
 mod chunk;
+mod day;
 mod ins;
+mod level;
 pub mod op;
 pub mod optimizer;
 mod refusal;
+mod saver;
+#[cfg(feature = "std")]
+mod trace;
 
 pub use calls::*;
 pub use chunk::*;
+pub use day::{Block, Day, replay};
 pub use ins::{Code, DUNDER, Ins, Lowered, REGISTER, WIDE, marked};
+pub use level::{Level, level};
 pub use op::Op;
 pub use refusal::Refusal;
+pub use saver::Saver;
+#[cfg(feature = "std")]
+pub use trace::{Recorder, Unread, replay_from};

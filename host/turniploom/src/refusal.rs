@@ -21,7 +21,7 @@ pub enum Refusal {
         /// The first such instruction.
         position: u64,
     },
-    /// 3: there are more than 1,024 registers.
+    /// 3: there are more than 1,024 registers, or more than 64 in a saver.
     Registers {
         /// The number of registers.
         number: u64,
@@ -48,6 +48,33 @@ pub enum Refusal {
         /// The first such table: 1 constants, 2 phi_map, 3 phi_sources, 4 stmt_pos, 5 call_byte_pos.
         table: u64,
     },
+    /// 8: the save area has no room for an entry, which takes twice its list plus two words.
+    Room {
+        /// The words that are free.
+        free: u64,
+    },
+    /// 9: a call is left, and none is entered.
+    Nothing,
+    /// 10: a block of a trace is cut short, or its check is wrong.
+    Check {
+        /// The first such block.
+        block: u64,
+    },
+    /// 11: a trace has a filler before a position.
+    Filler {
+        /// The block of that position.
+        block: u64,
+    },
+    /// 12: a trace does not begin at 0, has a position not below n, or a move that no rule allows.
+    Move {
+        /// The first such step.
+        step: u64,
+    },
+    /// 14: a list has a register that is not in the file, or that stands in it before.
+    Listed {
+        /// Its place in the list, the first such.
+        place: u64,
+    },
 }
 
 impl Refusal {
@@ -61,6 +88,12 @@ impl Refusal {
             Refusal::Buffer { .. } => 5,
             Refusal::Position { .. } => 6,
             Refusal::Table { .. } => 7,
+            Refusal::Room { .. } => 8,
+            Refusal::Nothing => 9,
+            Refusal::Check { .. } => 10,
+            Refusal::Filler { .. } => 11,
+            Refusal::Move { .. } => 12,
+            Refusal::Listed { .. } => 14,
         }
     }
 
@@ -69,11 +102,17 @@ impl Refusal {
         match self {
             Refusal::Code { .. } => "the code is no whole number of instructions, or has more than 65,535",
             Refusal::Record { .. } => "an instruction breaks a record rule",
-            Refusal::Registers { .. } => "there are more than 1,024 registers",
+            Refusal::Registers { .. } => "there are more than 1,024 registers, or more than 64 in a saver",
             Refusal::Try { .. } => "a try breaks its rule",
             Refusal::Buffer { .. } => "a lent buffer is too short",
             Refusal::Position { .. } => "the position is not one to ask about",
             Refusal::Table { .. } => "a table of the chunk breaks its rule",
+            Refusal::Room { .. } => "the save area has no room for the entry",
+            Refusal::Nothing => "nothing is saved: no call is entered that could be left",
+            Refusal::Check { .. } => "a block of the trace is cut short, or its check is wrong",
+            Refusal::Filler { .. } => "the trace has a filler before a position",
+            Refusal::Move { .. } => "the trace does not begin at 0, or takes a step that the code does not allow",
+            Refusal::Listed { .. } => "a listed register is not in the file, or is listed twice",
         }
     }
 
@@ -174,6 +213,12 @@ impl Answer {
             5 => Refusal::Buffer { buffer: first, needed: second },
             6 => Refusal::Position { position: first },
             7 => Refusal::Table { table: first },
+            8 => Refusal::Room { free: first },
+            9 => Refusal::Nothing,
+            10 => Refusal::Check { block: first },
+            11 => Refusal::Filler { block: first },
+            12 => Refusal::Move { step: first },
+            14 => Refusal::Listed { place: first },
             other => panic!("no refusal has the number {other}: the archive is of another version"),
         })
     }
@@ -184,11 +229,18 @@ impl fmt::Display for Refusal {
         match self {
             Refusal::Code { length } => write!(f, "a code of {length} words is no whole number of instructions, or too long"),
             Refusal::Record { position } => write!(f, "the instruction at {position} breaks a record rule"),
-            Refusal::Registers { number } => write!(f, "{number} registers are more than 1,024"),
+            Refusal::Registers { number } if *number > 1_024 => write!(f, "{number} registers are more than 1,024"),
+            Refusal::Registers { number } => write!(f, "{number} registers are more than the 64 of a saver"),
             Refusal::Try { index } => write!(f, "try {index} breaks its rule"),
             Refusal::Buffer { buffer, needed } => write!(f, "buffer {buffer} is too short: it needs {needed} entries"),
             Refusal::Position { position } => write!(f, "position {position} is not one to ask about"),
             Refusal::Table { table } => write!(f, "table {table} of the chunk breaks its rule"),
+            Refusal::Room { free } => write!(f, "the save area has {free} free words, fewer than twice the list plus two"),
+            Refusal::Nothing => f.write_str(self.rule()),
+            Refusal::Check { block } => write!(f, "block {block} of the trace is cut short, or its check is wrong"),
+            Refusal::Filler { block } => write!(f, "block {block} of the trace has a position after a filler"),
+            Refusal::Move { step } => write!(f, "step {step} of the trace is none that the code allows"),
+            Refusal::Listed { place } => write!(f, "the register at place {place} of the list is not in the file, or stands before it too"),
         }
     }
 }

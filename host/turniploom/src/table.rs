@@ -63,6 +63,21 @@ calls! {
     kept32(code: &[u16], regs: usize, tries: &[u32], wide: bool, rows: &mut [u32], offsets: &mut [u32], list: &mut [u16]) -> {
         first: "the length of the list", second: "full sweeps", third: "abandoned sweeps"
     };
+    /// Where the level at a position goes on once its call is over, and which register has the result.
+    level(code: &[u16], at: usize) -> { first: "1 if it is a level, else 0", second: "where it resumes", third: "its result register, or 65,536 for none" };
+    /// Makes a saver of regs registers, at most 64, with nothing saved. A saver is three arrays, the same for every call: head, 2 words, and
+    /// area, 4,096, are its own; file, 64, is the registers, which a host writes between the calls as it likes.
+    saver_make(head: &mut [u64; 2], regs: usize) -> {};
+    /// Puts the listed registers aside as a call is entered: the list that kept has for its level, and the result register that level tells.
+    saver_enter(head: &mut [u64; 2], area: &mut [u64; 4096], file: &[u64; 64], list: &[u16], result: u64) -> { first: "words in use" };
+    /// Puts them back as the newest call returns, and writes its value to the result register, if that is in the file.
+    saver_return(head: &mut [u64; 2], area: &[u64; 4096], file: &mut [u64; 64], value: u64) -> { first: "words in use" };
+    /// Puts them back as the newest call is left by an exception.
+    saver_exception(head: &mut [u64; 2], area: &[u64; 4096], file: &mut [u64; 64]) -> { first: "words in use" };
+    /// Replays a recorded day. The trace is blocks of 512 bytes: 127 visited positions of 32 bits, little-endian, 0xFFFFFFFF as filler at
+    /// the end alone, and the sum of the 508 bytes, each times its place from 1. reads needs an entry for each register, and then holds how
+    /// many steps used it. A trace that is no run of the code is refused, and nothing is written.
+    replay(code: &[u16], regs: usize, tries: &[u32], trace: &[u8], reads: &mut [u64]) -> { first: "steps", second: "levels met" };
     /// What an instruction by itself touches: registers used and given up as the rows have them, and written as writes has them.
     touched(code: &[u16], at: usize) -> {
         first: "the fields it uses, bit 0 a, 1 b, 2 c", second: "the fields it gives up", third: "the fields it writes",

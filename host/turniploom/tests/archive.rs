@@ -149,6 +149,14 @@ fn a_host_outside_the_workspace_by_path() {
     assert_eq!(printed(&folder, link.to_str()), include_str!("examples/keep.txt"));
 }
 
+/// A rule that calls itself, with a saver.
+#[test]
+fn a_host_that_saves_frames() {
+    let folder = folder("saves");
+    host(&folder, "saves", here(), include_str!("../examples/jacket.rs"));
+    assert_eq!(printed(&folder, Some(ARCHIVE)), include_str!("examples/jacket.txt"));
+}
+
 /// By a copy that holds its own archive, with nothing of this repository at hand.
 #[test]
 fn a_host_with_a_copy_of_the_crate() {

@@ -1,6 +1,6 @@
 //! What `Kept` tells: rows, levels, whether a register is needed, and how many sweeps it took.
 
-use turniploom::{Ins, Lowered, Refusal, kept, kept32, marked, most_sweeps, op::*};
+use turniploom::{Ins, Lowered, Refusal, kept, kept32, level, marked, most_sweeps, op::*};
 
 /// Document 01's code K.
 const K: [Lowered; 6] = [
@@ -11,13 +11,14 @@ const K: [Lowered; 6] = [
 #[test]
 fn rows_levels_and_what_is_needed() {
     let found = kept(&marked(&K, |_| false), 4, &[(1, 5)], false).unwrap();
-    assert_eq!(found.levels().collect::<Vec<_>>(), [(2, &[0, 3][..])]);
+    assert_eq!(found.levels().map(|l| (l.at(), l.resume(), l.result(), l.kept())).collect::<Vec<_>>(), [(2, 3, Some(2), &[0, 3][..])]);
     assert_eq!((0..=6).map(|k| found.row(k)).collect::<Vec<_>>(), [[0], [0], [3], [1], [5], [8], [0]]);
     for (k, row) in found.rows.iter().enumerate() {
         for r in 0..64 { assert_eq!(found.needed(k, r), row >> r & 1 != 0) }
         assert!(!found.needed(k, 64) && !found.needed(k, 65_535));
     }
-    assert!(found.levels().all(|(k, list)| found.at(k) == list));
+    assert!(found.levels().all(|l| found.at(l.at()) == l.kept() && found.level(l.at()) == Some(l) && l.words() == 2 * l.kept().len() + 2));
+    assert!((0..=7).filter(|&k| k != 2).all(|k| found.level(k).is_none()));
 }
 
 #[test]
@@ -58,10 +59,27 @@ fn the_most_sweeps_are_known_before_the_call() {
 }
 
 #[test]
-fn a_level_that_keeps_nothing_is_not_among_the_levels() {
+fn a_level_that_keeps_nothing_is_a_level() {
     let body = [Lowered::new(CallGlobalR, 3, 0, 0, 0), Lowered::new(StoreTopR, 0, 0, 0, 0), Lowered::new(ReturnR, 0, 0, 0, 0)];
     let found = kept(&marked(&body, |_| false), 1, &[], false).unwrap();
-    assert_eq!((found.levels().count(), found.at(0)), (0, &[][..]));
+    assert_eq!(found.levels().map(|l| (l.at(), l.kept(), l.words())).collect::<Vec<_>>(), [(0, &[][..], 2)]);
+}
+
+/// Each level is asked about with what follows it alone: the answer is that of the whole code.
+#[test]
+fn levels_are_those_of_the_whole_code() {
+    let ops = [CallR, CallR, ArgsR, CallGlobalR, CallSpreadR, CallMethodR, StoreTopR, JumpIfFalseR, Call, GetAttrR, AddR, PushRegs, ReturnR];
+    let mut state = 1u64;
+    let mut below = |n: u64| { state = state.wrapping_mul(6_364_136_223_846_793_005).wrapping_add(1_442_695_040_888_963_407); (state >> 33) % n };
+    for _ in 0..500 {
+        let body: Vec<Lowered> = (0..below(7)).map(|_| Lowered::new(ops[below(13) as usize], below(9) as u16, 1, 2, 1)).collect();
+        let mut code = marked(&body, |i| i.op == AddR);
+        if code.first().is_some_and(|i| i.op == ArgsR) { code.remove(0); }
+        if code.first().is_some_and(|i| i.op == ArgsR) { code[0] = Ins::default() }
+        let found = kept(&code, 9, &[], false).unwrap();
+        for k in 0..code.len() { assert_eq!(found.level(k).map(|l| (l.resume(), l.result())), level(&code, k).unwrap(), "{k} of {code:?}") }
+    }
+    assert_eq!(level(&[0u16; 6], 1), Err(Refusal::Position { position: 1 }));
 }
 
 #[test]

@@ -28,6 +28,12 @@ impl Numbers<'_> {
     }
 
     fn lent(&mut self, kind: Kind) -> Read<Lent> {
+        if let Some(words) = kind.fixed() {
+            let mut slice = self.slice()?;
+            if slice.len() > words || slice.last() == Some(&0) { return Err(format!("an array of {} words, not {words}, the last not 0", slice.len())) }
+            slice.resize(words, 0);
+            return Ok(Lent::Array(slice));
+        }
         Ok(match (kind, kind.width()) {
             (Kind::Bool | Kind::U8, _) => Lent::Number(self.one::<u8>()?.into()),
             (Kind::U16, _) => Lent::Number(self.one::<u16>()?.into()),
@@ -47,6 +53,8 @@ enum Lent {
     U16(Vec<u16>),
     U32(Vec<u32>),
     U64(Vec<u64>),
+    /// Words whose number is fixed.
+    Array(Vec<u64>),
 }
 
 impl Lent {
@@ -56,11 +64,11 @@ impl Lent {
             Lent::U8(v) => Arg::U8(v),
             Lent::U16(v) => Arg::U16(v),
             Lent::U32(v) => Arg::U32(v),
-            Lent::U64(v) => Arg::U64(v),
+            Lent::U64(v) | Lent::Array(v) => Arg::U64(v),
         }
     }
 
-    /// A slice as a record has it: its length, then its elements.
+    /// A slice as a record has it: its length, then its elements; an array up to its last word that is not 0.
     fn numbers(&self) -> Vec<u64> {
         fn all<T: Copy + Into<u64>>(v: &[T]) -> Vec<u64> { std::iter::once(v.len() as u64).chain(v.iter().map(|&w| w.into())).collect() }
         match self {
@@ -69,6 +77,7 @@ impl Lent {
             Lent::U16(v) => all(v),
             Lent::U32(v) => all(v),
             Lent::U64(v) => all(v),
+            Lent::Array(v) => all(&v[..v.iter().rposition(|&w| w != 0).map_or(0, |k| k + 1)]),
         }
     }
 }

@@ -1,6 +1,6 @@
 //! A refusal says which rule was broken, and how: one sentence for each rule of docs/BUFFERS.md.
 
-use turniploom::{Chunk, Constant::Int, Ins, Instruction, JUMP, NAMES, Op, WIDE, constant_fold, kept, op::*};
+use turniploom::{Block, Chunk, Constant::Int, Ins, Instruction, JUMP, NAMES, Op, WIDE, constant_fold, kept, op::*, replay};
 
 /// What is said of a code of this instruction between two others.
 fn code(i: Ins) -> String {
@@ -61,12 +61,27 @@ fn every_rule_of_a_chunk_has_its_sentence() {
     assert_eq!(says(many), "table 1 of the chunk breaks its rule: there are at most 65,536 constants, of the kinds 0 to 3, and a bool is 0 or 1");
 }
 
-/// The crate leans on core and alloc alone.
+/// What a trace is refused with, in full sentences.
+#[test]
+fn every_rule_of_a_trace_has_its_sentence() {
+    let code = [Ins::unmarked(Move, 0, 1, 0, 0); 200];
+    let says = |trace: &[u8]| replay(&code, 2, &[], trace).unwrap_err().in_code(&code, &[]);
+    let (full, rest) = (Block::of(&(0..127).collect::<Vec<_>>()).bytes(), Block::of(&[127]).bytes());
+    assert_eq!(replay(&code, 2, &[], &[full, rest].concat()).unwrap().steps, 128);
+    assert_eq!(says(&[&full[..], &rest[..511]].concat()), "block 1 of the trace is cut short, or its check is wrong");
+    assert_eq!(says(&[rest, full].concat()), "step 0 of the trace is none that the code allows");
+    assert_eq!(says(&[Block::default().bytes(), full].concat()), "block 1 of the trace has a position after a filler");
+    assert_eq!(says(&[full, Block::of(&[128]).bytes()].concat()), "step 127 of the trace is none that the code allows");
+}
+
+/// The crate leans on core and alloc alone, but for the module that the feature `std` brings.
 #[test]
 fn no_std() {
     for file in std::fs::read_dir(concat!(env!("CARGO_MANIFEST_DIR"), "/src")).unwrap() {
-        let text = std::fs::read_to_string(file.unwrap().path()).unwrap();
-        assert!(!text.contains("std::"));
+        let path = file.unwrap().path();
+        let text = std::fs::read_to_string(&path).unwrap();
+        assert!(!text.contains("std::") || path.ends_with("trace.rs"), "{}", path.display());
     }
-    assert!(include_str!("../src/lib.rs").contains("#![no_std]"));
+    let lib = include_str!("../src/lib.rs");
+    assert!(lib.contains("#![no_std]") && lib.contains("#[cfg(feature = \"std\")]\nmod trace;"));
 }

@@ -5,7 +5,7 @@
 mod restarts;
 
 use std::{arch::asm, collections::{BTreeMap, BTreeSet}, fs, path::Path};
-use turniploom::{Ins, WIDE, abi::{self, Answer}, op::*};
+use turniploom::{Block, Ins, WIDE, abi::{self, Answer}, op::*};
 
 const PAINT: u64 = 0x5afe_5afe_5afe_5afe;
 
@@ -50,6 +50,7 @@ impl Stacks {
         self.make("returns", || abi::returns(code, at));
         self.make("passed", || abi::passed(code, at, 64));
         self.make("global_of", || abi::global_of(code, at));
+        self.make("level", || abi::level(code, at));
         self.make("touched", || abi::touched(code, at));
         for r in [0, 1, 1_023] {
             for regs in [2, 1_024] { self.make("needed", || abi::needed(code, regs, at, r, &mut seen, &mut todo)); }
@@ -86,6 +87,22 @@ impl Stacks {
             let a = self.make("kept32", || abi::kept32(code, regs, tries, wide, &mut rows32, &mut offsets, &mut list));
             assert_eq!((a.refusal, a.first), (0, list.len() as u64));
         }
+    }
+
+    /// A saver, entered as often as there is room and left both ways.
+    fn saver(&mut self, list: &[u16]) {
+        let (mut head, mut area, mut file) = ([9; 2], [9; 4096], [9; 64]);
+        assert_eq!(self.make("saver_make", || abi::saver_make(&mut head, 64)).refusal, 0);
+        while self.make("saver_enter", || abi::saver_enter(&mut head, &mut area, &file, list, 3)).refusal == 0 {}
+        assert_eq!(self.make("saver_enter", || abi::saver_enter(&mut head, &mut area, &file, &[7, 7], 3)).refusal, 14);
+        while self.make("saver_return", || abi::saver_return(&mut head, &area, &mut file, 5)).refusal == 0
+            && self.make("saver_exception", || abi::saver_exception(&mut head, &area, &mut file)).refusal == 0 {}
+    }
+
+    /// A trace of one block, of whatever steps.
+    fn replay(&mut self, code: &[u16], tries: &[u32], positions: &[u32]) {
+        let (trace, mut reads) = (Block::of(positions).bytes(), vec![9; 1_024]);
+        for regs in [0, 1_024] { self.make("replay", || abi::replay(code, regs, tries, &trace, &mut reads)); }
     }
 
     /// A chunk folded and cleared.
@@ -167,8 +184,10 @@ fn no_call_needs_more_than_is_stated() {
         let tries = [0, 9, n as u32 / 2, n as u32];
         for at in 0..=n { stacks.at(code, at) }
         stacks.whole(code, &tries);
+        for steps in [0, 1, 3, 127] { stacks.replay(code, &tries, &(0..steps).collect::<Vec<_>>()) }
         for regs in [0, 1, 32, 33, 64, 65, 1_024] { stacks.kept(code, &tries, regs) }
     }
+    for length in [0, 1, 9, 64] { stacks.saver(&(0..length).collect::<Vec<_>>()) }
     let (kinds, ints) = ([1, 1, 1, 2, 2, 2, 3, 3, 0], [7, 2, 1, 2.5f64.to_bits(), (-0.0f64).to_bits(), f64::NAN.to_bits(), 1, 0, 5]);
     for n in (0..60).chain([4_000]) {
         let code = dice.chunk(n);

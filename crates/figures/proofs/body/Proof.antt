@@ -33,7 +33,10 @@ returns-2 : tie.Need-returns-2
 returns-2 c = search (needs, bodies)
 
 body-figures-requires : tie.Need-body-figures-requires
-body-figures-requires c κs = body-right _ _ (c .before .before .before .before .before .before .check .result) (c .before .before .before .before .before .before .check .ensures) (c .before .before .before .before .v2 .given .0 .0) (c .before .before .before .before .v2 .given .1) (c .before .before .if1 .left) _ (c .before .first-wrong .result) (c .before .first-wrong .ensures) (c .if2 .left)
+body-figures-requires c κs = body-right _ _ (c .before .before .before .before .before .before .check .result)
+    (c .before .before .before .before .before .before .check .ensures) (c .before .before .before .before .v2 .given .0 .0)
+    (c .before .before .before .before .v2 .given .1) (c .before .before .if1 .left) _ (c .before .first-wrong .result) (c .before .first-wrong .ensures)
+    (c .if2 .left)
 
 returns-3 : tie.Need-returns-3
 returns-3 c = search (needs, bodies)

@@ -31,7 +31,8 @@ shared-slice-read-if1-2 : tie.Need-shared-slice-read-if1-2 Inv-loop μ-loop
 shared-slice-read-if1-2 c = search needs
 
 returns : tie.Need-returns Inv-loop μ-loop
-returns c = before-yes (c .before .before .before .before .before .args .list .now) (c .before .before .before .before .before .args .i) (c .before .before .before .before .loop .j) (search needs) (c .if1 .taken)
+returns c = before-yes (c .before .before .before .before .before .args .list .now) (c .before .before .before .before .before .args .i)
+    (c .before .before .before .before .loop .j) (search needs) (c .if1 .taken)
 
 add-j : tie.Need-add-j Inv-loop μ-loop
 add-j c = search needs
@@ -43,7 +44,8 @@ loop-again : tie.Need-loop-again Inv-loop μ-loop
 loop-again c = search (needs, before-none, before-on)
 
 returns-2 : tie.Need-returns-2 Inv-loop μ-loop
-returns-2 c = before-no (c .before .before .args .list .now) (c .before .before .args .i) (c .before .loop .j) (search needs) (search needs) (c .before .loop .inv .1)
+returns-2 c = before-no (c .before .before .args .list .now) (c .before .before .args .i) (c .before .loop .j) (search needs) (search needs)
+    (c .before .loop .inv .1)
 
 pub before-spec : {M : Type 1} → statement M
 before-spec =

@@ -26,7 +26,9 @@ returns-3 : tie.Need-returns-3
 returns-3 c = search (needs, enters)
 
 store-requires : tie.Need-store-requires
-store-requires c κs = enter-fit _ _ (c .before .before .free-of .result) (c .before .before .before .before .first-strange .result) _ (c .before .before .before .before .before .if1 .left) (c .before .before .before .before .first-strange .ensures) (c .before .before .before .if2 .left) (c .before .before .free-of .ensures) (c .before .if3 .left)
+store-requires c κs = enter-fit _ _ (c .before .before .free-of .result) (c .before .before .before .before .first-strange .result) _
+    (c .before .before .before .before .before .if1 .left) (c .before .before .before .before .first-strange .ensures) (c .before .before .before .if2 .left)
+    (c .before .before .free-of .ensures) (c .before .if3 .left)
 
 element-write-head : tie.Need-element-write-head
 element-write-head c = search needs

@@ -32,10 +32,12 @@ element-write-area : tie.Need-element-write-area Inv-loop μ-loop
 element-write-area c = search needs
 
 mul-area-2 : tie.Need-mul-area-2 Inv-loop μ-loop
-mul-area-2 c = omega (arith, c .before .before .before .loop .inv .fit .below (c .before .before .before .loop .i) (c .before .before .loop-test .taken), c .wide .ensures)
+mul-area-2 c = omega
+    (arith, c .before .before .before .loop .inv .fit .below (c .before .before .before .loop .i) (c .before .before .loop-test .taken), c .wide .ensures)
 
 element-copy-out-area : tie.Need-element-copy-out-area Inv-loop μ-loop
-element-copy-out-area c = omega (arith, c .before .before .before .loop .inv .fit .below (c .before .before .before .loop .i) (c .before .before .loop-test .taken), c .wide .ensures)
+element-copy-out-area c = omega
+    (arith, c .before .before .before .loop .inv .fit .below (c .before .before .before .loop .i) (c .before .before .loop-test .taken), c .wide .ensures)
 
 add-area : tie.Need-add-area Inv-loop μ-loop
 add-area c = search needs

@@ -78,19 +78,67 @@ static void room(void) {
     SHOW(a.refusal == 0 && a.first == 3 && a.second == 2 && words[1] == (uint64_t)-7);
 }
 
+/* Code K replayed from a block that is made here, and from the same with a byte flipped. */
+static void replayed(void) {
+    static const uint32_t no_tries[1] = {0};
+    uint8_t trace[512];
+    uint64_t reads[4] = {9, 9, 9, 9};
+    uint32_t check = 0, k;
+    turniploom_answer a;
+    memset(trace, 0xFF, sizeof trace);
+    for (k = 0; k < 6; k++) { memset(trace + 4 * k, 0, 4); trace[4 * k] = (uint8_t)k; }
+    for (k = 0; k < 508; k++) check += trace[k] * (k + 1);
+    for (k = 0; k < 4; k++) trace[508 + k] = (uint8_t)(check >> (8 * k));
+    trace[99] ^= 1;
+    a = turniploom_replay(K, WORDS, 4, no_tries, 0, trace, 512, reads, 4);
+    SHOW(a.refusal == TURNIPLOOM_CHECK && a.first == 0 && reads[0] == 9);
+    trace[99] ^= 1;
+    a = turniploom_replay(K, WORDS, 4, no_tries, 0, trace, 512, reads, 4);
+    SHOW(a.refusal == 0 && a.first == 6 && a.second == 1 && reads[0] == 1 && reads[1] == 1 && reads[2] == 1 && reads[3] == 1);
+    a = turniploom_replay(K, WORDS, 5, no_tries, 0, trace, 512, reads, 4);
+    SHOW(a.refusal == TURNIPLOOM_BUFFER && a.first == 1 && a.second == 5);
+}
+
 /* The text of each refusal. */
 static void texts(void) {
-    uint8_t k;
-    for (k = 1; k <= 7; k++) puts(turniploom_refusal_text(k));
+    static const uint8_t refusals[] = {TURNIPLOOM_CODE, TURNIPLOOM_RECORD, TURNIPLOOM_REGISTERS, TURNIPLOOM_TRY, TURNIPLOOM_BUFFER,
+                                       TURNIPLOOM_POSITION, TURNIPLOOM_TABLE, TURNIPLOOM_ROOM, TURNIPLOOM_NOTHING, TURNIPLOOM_CHECK,
+                                       TURNIPLOOM_FILLER, TURNIPLOOM_MOVE, TURNIPLOOM_LISTED};
+    size_t k;
+    for (k = 0; k < sizeof refusals; k++) puts(turniploom_refusal_text(refusals[k]));
     puts(turniploom_refusal_text(0));
     puts(turniploom_refusal_text(200));
 }
 
+/* A saver of four registers: a level of K is entered twice, and left both ways. */
+static void saver(void) {
+    static uint64_t area[TURNIPLOOM_SAVER_AREA];
+    uint64_t head[TURNIPLOOM_SAVER_HEAD], file[TURNIPLOOM_SAVER_FILE] = {30, 31, 32, 33};
+    static const uint16_t list[] = {0, 3}, twice[] = {3, 0, 3};
+    turniploom_answer level = turniploom_level(K, WORDS, 2), a;
+    SHOW(level.first == 1 && level.second == 3 && level.third == 2 && turniploom_level(K, WORDS, 3).first == 0);
+    SHOW(turniploom_saver_make(head, 65).refusal == TURNIPLOOM_REGISTERS && turniploom_saver_make(head, 4).refusal == 0);
+    SHOW(turniploom_saver_exception(head, area, file).refusal == TURNIPLOOM_NOTHING);
+    a = turniploom_saver_enter(head, area, file, twice, 3, level.third);
+    SHOW(a.refusal == TURNIPLOOM_LISTED && a.first == 2 && head[1] == 0);
+    SHOW(turniploom_saver_enter(head, area, file, list, 2, level.third).first == TURNIPLOOM_SAVER_ENTRY(2));
+    file[0] = file[3] = 7;
+    SHOW(turniploom_saver_enter(head, area, file, list, 1, TURNIPLOOM_NO_REGISTER).first == TURNIPLOOM_SAVER_ENTRY(2) + TURNIPLOOM_SAVER_ENTRY(1));
+    file[0] = 9;
+    SHOW(turniploom_saver_exception(head, area, file).first == TURNIPLOOM_SAVER_ENTRY(2) && file[0] == 7 && file[2] == 32);
+    SHOW(turniploom_saver_return(head, area, file, 5).first == 0 && file[0] == 30 && file[2] == 5 && file[3] == 33 && file[1] == 31);
+    head[1] = TURNIPLOOM_SAVER_AREA - TURNIPLOOM_SAVER_ENTRY(2) + 1;
+    a = turniploom_saver_enter(head, area, file, list, 2, level.third);
+    SHOW(a.refusal == TURNIPLOOM_ROOM && a.first == TURNIPLOOM_SAVER_ENTRY(2) - 1);
+}
+
 int main(void) {
     marks();
+    replayed();
     texts();
     lengths();
     room();
+    saver();
     SHOW(turniploom_kinds(K, WORDS, 4).first == 13);
     turniploom_answer refused = turniploom_kinds(K, WORDS - 1, 4);
     SHOW(refused.refusal == TURNIPLOOM_CODE && refused.first == WORDS - 1 && refused.second == 0);

@@ -1,0 +1,5 @@
+pub mod Calls
+pub mod Counts
+pub mod Runs
+pub mod Days
+pub mod Alone

@@ -1,0 +1,4 @@
+pub mod Trace
+pub mod Count
+pub mod Day
+pub mod Answers

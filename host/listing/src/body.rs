@@ -13,6 +13,8 @@ pub struct View {
     pub lines: Vec<Line>,
     pub tries: Vec<(usize, usize)>,
     pub remarks: Vec<String>,
+    /// The registers that no step of a replayed trace read; none if there is no trace.
+    pub unread: Vec<u16>,
 }
 
 pub struct Line {
@@ -56,7 +58,31 @@ impl View {
         let width = if body.rows32 { ", rows of 32 bits" } else { "" };
         let heading = format!("{}, {}, {}{width}", count(n, "instruction"), count(body.registers, "register"), count(tries.len(), "try"));
         let remarks = remarks(body, &lines, &found);
-        Ok(View { heading, columns, lines, tries, remarks })
+        Ok(View { heading, columns, lines, tries, remarks, unread: vec![] })
+    }
+
+    /// Lays a recorded day beside the rows: how often each position was visited, and how often each register was read.
+    pub fn replay(&mut self, body: &Body, trace: &[u8]) -> Result<(), Refusal> {
+        let day = turniploom::replay(&body.words(), body.registers, &self.tries, trace)?;
+        let mut visits = vec![0; body.code.len()];
+        for k in turniploom::positions(trace) { visits[k as usize] += 1 }
+        for (line, &visits) in self.lines.iter_mut().zip(&visits) { line.notes.insert(0, visited(visits)) }
+        self.unread = (0..).zip(&day.reads).filter(|r| *r.1 == 0).map(|r| r.0).collect();
+        let reads: Vec<String> = (0..).zip(&day.reads).filter(|r| *r.1 != 0).map(|(r, reads): (u16, _)| format!("r{r} {reads}")).collect();
+        let reads = if reads.is_empty() { "no register".into() } else { reads.join(", ") };
+        self.remarks.insert(0, format!("Replayed: {}, {} met. Read: {reads}.", count(day.steps as usize, "step"), count(day.levels as usize, "level")));
+        let lost: Vec<String> = self.unread.iter().filter(|r| self.lines.iter().any(|l| l.row.contains(r))).map(|r| format!("r{r}")).collect();
+        if !lost.is_empty() { self.remarks.insert(1, format!("Needed by a row and never read on that day: {}.", and(&lost))) }
+        Ok(())
+    }
+}
+
+/// How often a position was visited.
+fn visited(times: u64) -> String {
+    match times {
+        0 => "never visited".into(),
+        1 => "visited once".into(),
+        _ => format!("visited {times} times"),
     }
 }
 

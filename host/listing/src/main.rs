@@ -3,19 +3,21 @@
 use listing::{body, chunk, notation::{self, Text}, page, refused, text};
 use std::{env, fs, process::ExitCode};
 
-const USE: &str = "listing FILE [--html PAGE] [--strict] [--wide] [--rows 32]
+const USE: &str = "listing FILE [--html PAGE] [--strict] [--wide] [--rows 32] [--replay TRACE]
 FILE has a body or a chunk in the notation of document 01's examples (host/README.md); - is the standard input.
 --html PAGE   writes one self-contained page as well
 --strict      folds a chunk in strict mode
 --wide        takes the wide route, which looks for rows from 0 on
---rows 32     has rows of 32 bits, where more than 32 registers take the wide route";
+--rows 32     has rows of 32 bits, where more than 32 registers take the wide route
+--replay TRACE  lays a recorded day beside the rows: visited positions, and how often each register was read";
 
 fn run() -> Result<(), String> {
-    let (mut files, mut html, mut strict, mut wide, mut rows32) = (vec![], None, false, false, None);
+    let (mut files, mut html, mut strict, mut wide, mut rows32, mut trace) = (vec![], None, false, false, None, None);
     let mut args = env::args().skip(1);
     while let Some(word) = args.next() {
         match word.as_str() {
             "--html" => html = Some(args.next().ok_or("--html wants the name of the page")?),
+            "--replay" => trace = Some(args.next().ok_or("--replay wants the name of the trace")?),
             "--strict" => strict = true,
             "--wide" => wide = true,
             "--rows" => rows32 = Some(match args.next().as_deref() {
@@ -34,9 +36,14 @@ fn run() -> Result<(), String> {
         Text::Body(mut b) => {
             b.wide |= wide;
             b.rows32 = rows32.unwrap_or(b.rows32);
-            let view = body::View::of(&b).map_err(|r| format!("{file}: {}", refused::body(r, &b)))?;
+            let mut view = body::View::of(&b).map_err(|r| format!("{file}: {}", refused::body(r, &b)))?;
+            if let Some(trace) = trace {
+                let bytes = fs::read(&trace).map_err(|e| format!("{trace}: {e}"))?;
+                view.replay(&b, &bytes).map_err(|r| format!("{trace}: {}", refused::body(r, &b)))?;
+            }
             (view.heading.clone(), text::body(&view), page::body(&view))
         }
+        Text::Chunk(_) if trace.is_some() => return Err(format!("{file}: --replay is for a body, and this is a chunk")),
         Text::Chunk(mut c) => {
             c.strict |= strict;
             let view = chunk::View::of(&c).map_err(|r| format!("{file}: {}", refused::chunk(r, &c)))?;

@@ -50,7 +50,9 @@ impl View {
         let tries: Vec<(usize, usize)> = body.tries.chunks(2).map(|t| (t[0] as usize, t[1] as usize)).collect();
         let mut lines: Vec<Line> = (0..n).map(|k| {
             let (used, given_up) = sets(code, k, body.registers);
-            let level = rows::level(&code[k]).then(|| level(code, k, &found, &tries));
+            let level = found.levels[k].map(|(resume, result)| {
+                Level { resume, result, callee: callee(code, k), kept: parts(&found, k, resume, result, &tries) }
+            });
             Line { text: ins_text(code, k), used, given_up, row: found.row(k), level, notes: notes(code, k, &tries) }
         }).collect();
         lines.push(Line { text: "end".into(), used: vec![], given_up: vec![], row: found.row(n), level: None, notes: notes(code, n, &tries) });
@@ -91,6 +93,8 @@ struct Found {
     /// The rows, the end's too, and what is kept at each position.
     rows: Vec<Vec<u16>>,
     kept: Vec<Vec<u16>>,
+    /// Where each level resumes, and its result register.
+    levels: Vec<Option<(usize, Option<u16>)>>,
     full: u64,
     abandoned: u64,
     /// The most full sweeps, known before the call.
@@ -100,9 +104,7 @@ struct Found {
 impl Found {
     fn of(body: &Body) -> Result<Found, Refusal> {
         let (words, registers, wide) = (body.words(), body.registers, body.wide);
-        // An odd last word is a try without a handler, which is refused before any buffer is looked at.
-        if !body.tries.len().is_multiple_of(2) { abi::kept(&words, registers, &body.tries, wide, &mut [], &mut [], &mut []).granted()?; }
-        let tries: Vec<(usize, usize)> = body.tries.chunks_exact(2).map(|t| (t[0] as usize, t[1] as usize)).collect();
+        let tries = tries(body)?;
         let most = turniploom::most_sweeps(&words);
         if body.rows32 { Ok(Found::read(turniploom::kept32(&words, registers, &tries, wide)?, most?)) }
         else { Ok(Found::read(turniploom::kept(&words, registers, &tries, wide)?, most?)) }
@@ -112,11 +114,20 @@ impl Found {
         let n = kept.offsets.len() - 1;
         let registers = 0..(kept.words * 8 * size_of::<W>()) as u16;
         let row = |k: usize| registers.clone().filter(|&r| kept.needed(k, r)).collect();
-        Found { rows: (0..=n).map(row).collect(), kept: (0..n).map(|k| kept.at(k).to_vec()).collect(), full: kept.full, abandoned: kept.abandoned, most }
+        let levels = (0..n).map(|k| kept.level(k).map(|l| (l.resume(), l.result()))).collect();
+        let (rows, lists) = ((0..=n).map(row).collect(), (0..n).map(|k| kept.at(k).to_vec()).collect());
+        Found { rows, kept: lists, levels, full: kept.full, abandoned: kept.abandoned, most }
     }
 
     /// The row of a position, and of any past the end.
     fn row(&self, k: usize) -> Vec<u16> { self.rows[k.min(self.kept.len())].clone() }
+}
+
+/// The tries of a body in pairs.
+pub fn tries(body: &Body) -> Result<Vec<(usize, usize)>, Refusal> {
+    // An odd last word is a try without a handler, which is refused before any buffer is looked at.
+    if !body.tries.len().is_multiple_of(2) { abi::kept(&body.words(), body.registers, &body.tries, body.wide, &mut [], &mut [], &mut []).granted()?; }
+    Ok(body.tries.chunks_exact(2).map(|t| (t[0] as usize, t[1] as usize)).collect())
 }
 
 /// The registers used and given up, as the row equations have them.
@@ -130,11 +141,6 @@ fn sets(code: &[Ins], k: usize, registers: usize) -> (Vec<u16>, Vec<u16>) {
         set
     };
     (inside(used), inside(given_up))
-}
-
-fn level(code: &[Ins], k: usize, found: &Found, tries: &[(usize, usize)]) -> Level {
-    let (resume, result) = rows::resume(code, k);
-    Level { resume, result, callee: callee(code, k), kept: parts(found, k, resume, result, tries) }
 }
 
 /// The kept list of the archive, taken apart by what each register is kept for.

@@ -3,7 +3,7 @@
 use crate::{body::{self, registers}, chunk};
 use std::fmt::Write;
 
-fn escaped(text: &str) -> String { text.replace('&', "&amp;").replace('<', "&lt;").replace('>', "&gt;").replace('"', "&quot;") }
+pub fn escaped(text: &str) -> String { text.replace('&', "&amp;").replace('<', "&lt;").replace('>', "&gt;").replace('"', "&quot;") }
 
 const STYLE: &str = include_str!("page.css");
 

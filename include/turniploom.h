@@ -32,6 +32,9 @@
 #define TURNIPLOOM_SAVER_ENTRY(listed) (2 * (size_t)(listed) + 2)
 #define TURNIPLOOM_NO_REGISTER 65536
 
+/* The words of a report of figures. */
+#define TURNIPLOOM_REPORT 7
+
 /* Lengths that are always enough, for n instructions: seen, todo, out, offsets, remap and landings; rows; a list, whose needed length a
  * refusal also tells; kinds and words of a fold; its phi_map and dead marks; its phi_sources, of which `words` are in use. */
 #define TURNIPLOOM_ENDS_LEN(n) ((size_t)(n) + 1)
@@ -70,7 +73,9 @@ enum turniploom_refusal {
     TURNIPLOOM_CHECK = 10,    /* a block of a trace is cut short, or its check is wrong: first block */
     TURNIPLOOM_FILLER = 11,   /* a trace has a filler before a position: the position's block */
     TURNIPLOOM_MOVE = 12,     /* a trace does not begin at 0, or takes a step that the code does not allow: first step */
-    TURNIPLOOM_LISTED = 14    /* a listed register is not in the file, or is listed twice: its place in the list */
+    TURNIPLOOM_TOTAL = 13,    /* a total would pass 64 bits: 1 bodies, 2 levels, 3 kept registers, 4 the number of a body */
+    TURNIPLOOM_LISTED = 14,   /* a listed register is not in the file, or is listed twice: its place in the list */
+    TURNIPLOOM_OFFSETS = 15   /* the offsets are not those of this code and its list: first place */
 };
 
 /* Marks of an instruction: six words, opcode, marks, a, b, c, x. They stand for the Rust's `lower::wide`, `lower::dunder_op` and
@@ -209,6 +214,17 @@ turniploom_answer turniploom_saver_return(uint64_t *head, const uint64_t *area, 
  * first: words in use. */
 turniploom_answer turniploom_saver_exception(uint64_t *head, const uint64_t *area, uint64_t *file);
 
+/* Adds a body to a report: its code and its answer from kept, the list cut to the length that was told. A report is seven words, all 0 for
+ * no body: bodies, levels, kept registers, the longest list, 1 if there is a level, and body and position of the first list so long.
+ * first: this body's levels; second: its kept registers; third: all kept registers; fourth: all levels: the mean list length is third /
+ * fourth. */
+turniploom_answer turniploom_figures_add(const uint16_t *code, size_t code_len, const uint32_t *offsets, size_t offsets_len,
+                                         const uint16_t *list, size_t list_len, uint64_t *report);
+
+/* Joins the report of a later group of bodies to that of an earlier one, which becomes that of both.
+ * third: all kept registers; fourth: all levels. */
+turniploom_answer turniploom_figures_join(const uint64_t *later, uint64_t *report);
+
 /* Replays a recorded day. The trace is blocks of 512 bytes: 127 visited positions of 32 bits, little-endian, 0xFFFFFFFF as filler at the
  * end alone, and the sum of the 508 bytes, each times its place from 1. reads needs an entry for each register, and then holds how many
  * steps used it. A trace that is no run of the code is refused, and nothing is written.
@@ -292,7 +308,9 @@ static inline const char *turniploom_refusal_text(uint8_t refusal) {
     case TURNIPLOOM_CHECK: return "a block of the trace is cut short, or its check is wrong";
     case TURNIPLOOM_FILLER: return "the trace has a filler before a position";
     case TURNIPLOOM_MOVE: return "the trace does not begin at 0, or takes a step that the code does not allow";
+    case TURNIPLOOM_TOTAL: return "a total would pass 64 bits";
     case TURNIPLOOM_LISTED: return "a listed register is not in the file, or is listed twice";
+    case TURNIPLOOM_OFFSETS: return "the offsets are not those of this code and its list";
     default: return "a refusal that this header does not know";
     }
 }

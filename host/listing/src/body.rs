@@ -13,6 +13,8 @@ pub struct View {
     pub lines: Vec<Line>,
     pub tries: Vec<(usize, usize)>,
     pub remarks: Vec<String>,
+    /// The registers that no step of a replayed trace read; none if there is no trace.
+    pub unread: Vec<u16>,
 }
 
 pub struct Line {
@@ -50,7 +52,9 @@ impl View {
         let tries: Vec<(usize, usize)> = body.tries.chunks(2).map(|t| (t[0] as usize, t[1] as usize)).collect();
         let mut lines: Vec<Line> = (0..n).map(|k| {
             let (used, given_up) = sets(code, k, body.registers);
-            let level = rows::level(&code[k]).then(|| level(code, k, &found, &tries));
+            let level = found.levels[k].map(|(resume, result)| {
+                Level { resume, result, callee: callee(code, k), kept: parts(&found, k, resume, result, &tries) }
+            });
             Line { text: ins_text(code, k), used, given_up, after: after(code, k), row: found.row(k), level, notes: notes(code, k, &tries) }
         }).collect();
         lines.push(Line { text: "end".into(), used: vec![], given_up: vec![], after: vec![], row: found.row(n), level: None, notes: notes(code, n, &tries) });
@@ -58,7 +62,31 @@ impl View {
         let width = if body.rows32 { ", rows of 32 bits" } else { "" };
         let heading = format!("{}, {}, {}{width}", count(n, "instruction"), count(body.registers, "register"), count(tries.len(), "try"));
         let remarks = remarks(body, &lines, &found);
-        Ok(View { heading, columns, lines, tries, remarks })
+        Ok(View { heading, columns, lines, tries, remarks, unread: vec![] })
+    }
+
+    /// Lays a recorded day beside the rows: how often each position was visited, and how often each register was read.
+    pub fn replay(&mut self, body: &Body, trace: &[u8]) -> Result<(), Refusal> {
+        let day = turniploom::replay(&body.words(), body.registers, &self.tries, trace)?;
+        let mut visits = vec![0; body.code.len()];
+        for k in turniploom::positions(trace) { visits[k as usize] += 1 }
+        for (line, &visits) in self.lines.iter_mut().zip(&visits) { line.notes.insert(0, visited(visits)) }
+        self.unread = (0..).zip(&day.reads).filter(|r| *r.1 == 0).map(|r| r.0).collect();
+        let reads: Vec<String> = (0..).zip(&day.reads).filter(|r| *r.1 != 0).map(|(r, reads): (u16, _)| format!("r{r} {reads}")).collect();
+        let reads = if reads.is_empty() { "no register".into() } else { reads.join(", ") };
+        self.remarks.insert(0, format!("Replayed: {}, {} met. Read: {reads}.", count(day.steps as usize, "step"), count(day.levels as usize, "level")));
+        let lost: Vec<String> = self.unread.iter().filter(|r| self.lines.iter().any(|l| l.row.contains(r))).map(|r| format!("r{r}")).collect();
+        if !lost.is_empty() { self.remarks.insert(1, format!("Needed by a row and never read on that day: {}.", and(&lost))) }
+        Ok(())
+    }
+}
+
+/// How often a position was visited.
+fn visited(times: u64) -> String {
+    match times {
+        0 => "never visited".into(),
+        1 => "visited once".into(),
+        _ => format!("visited {times} times"),
     }
 }
 
@@ -67,6 +95,8 @@ struct Found {
     /// The rows, the end's too, and what is kept at each position.
     rows: Vec<Vec<u16>>,
     kept: Vec<Vec<u16>>,
+    /// Where each level resumes, and its result register.
+    levels: Vec<Option<(usize, Option<u16>)>>,
     full: u64,
     abandoned: u64,
     /// The most full sweeps, known before the call.
@@ -76,9 +106,7 @@ struct Found {
 impl Found {
     fn of(body: &Body) -> Result<Found, Refusal> {
         let (words, registers, wide) = (body.words(), body.registers, body.wide);
-        // An odd last word is a try without a handler, which is refused before any buffer is looked at.
-        if !body.tries.len().is_multiple_of(2) { abi::kept(&words, registers, &body.tries, wide, &mut [], &mut [], &mut []).granted()?; }
-        let tries: Vec<(usize, usize)> = body.tries.chunks_exact(2).map(|t| (t[0] as usize, t[1] as usize)).collect();
+        let tries = tries(body)?;
         let most = turniploom::most_sweeps(&words);
         if body.rows32 { Ok(Found::read(turniploom::kept32(&words, registers, &tries, wide)?, most?)) }
         else { Ok(Found::read(turniploom::kept(&words, registers, &tries, wide)?, most?)) }
@@ -88,11 +116,20 @@ impl Found {
         let n = kept.offsets.len() - 1;
         let registers = 0..(kept.words * 8 * size_of::<W>()) as u16;
         let row = |k: usize| registers.clone().filter(|&r| kept.needed(k, r)).collect();
-        Found { rows: (0..=n).map(row).collect(), kept: (0..n).map(|k| kept.at(k).to_vec()).collect(), full: kept.full, abandoned: kept.abandoned, most }
+        let levels = (0..n).map(|k| kept.level(k).map(|l| (l.resume(), l.result()))).collect();
+        let (rows, lists) = ((0..=n).map(row).collect(), (0..n).map(|k| kept.at(k).to_vec()).collect());
+        Found { rows, kept: lists, levels, full: kept.full, abandoned: kept.abandoned, most }
     }
 
     /// The row of a position, and of any past the end.
     fn row(&self, k: usize) -> Vec<u16> { self.rows[k.min(self.kept.len())].clone() }
+}
+
+/// The tries of a body in pairs.
+pub fn tries(body: &Body) -> Result<Vec<(usize, usize)>, Refusal> {
+    // An odd last word is a try without a handler, which is refused before any buffer is looked at.
+    if !body.tries.len().is_multiple_of(2) { abi::kept(&body.words(), body.registers, &body.tries, body.wide, &mut [], &mut [], &mut []).granted()?; }
+    Ok(body.tries.chunks_exact(2).map(|t| (t[0] as usize, t[1] as usize)).collect())
 }
 
 /// What an instruction by itself touches, as the archive tells it: asked about in a code of its own, since every call tests all that it is lent.
@@ -109,11 +146,6 @@ fn sets(code: &[Ins], k: usize, registers: usize) -> (Vec<u16>, Vec<u16>) {
         set
     };
     (inside(used), inside(given_up))
-}
-
-fn level(code: &[Ins], k: usize, found: &Found, tries: &[(usize, usize)]) -> Level {
-    let (resume, result) = rows::resume(code, k);
-    Level { resume, result, callee: callee(code, k), kept: parts(found, k, resume, result, tries) }
 }
 
 /// The kept list of the archive, taken apart by what each register is kept for.

@@ -2,6 +2,7 @@
 
 pub mod body;
 pub mod chunk;
+pub mod figures;
 pub mod notation;
 pub mod page;
 pub mod refused;

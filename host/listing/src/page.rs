@@ -3,7 +3,7 @@
 use crate::{body::{self, registers}, chunk, why};
 use std::fmt::Write;
 
-fn escaped(text: &str) -> String { text.replace('&', "&amp;").replace('<', "&lt;").replace('>', "&gt;").replace('"', "&quot;") }
+pub fn escaped(text: &str) -> String { text.replace('&', "&amp;").replace('<', "&lt;").replace('>', "&gt;").replace('"', "&quot;") }
 
 const STYLE: &str = include_str!("page.css");
 
@@ -57,6 +57,7 @@ pub fn body(view: &body::View) -> String {
     }
     out += "</table>\n";
     if drawn && !view.columns.is_empty() { out += LEGEND }
+    if drawn && !view.unread.is_empty() { out += UNREAD }
     out + &remarks(&view.remarks)
 }
 
@@ -64,6 +65,7 @@ const LEGEND: &str = "<p class=\"legend\"><span class=\"cell row\"></span> in th
 <span class=\"cell\"><i class=\"used\"></i></span> used <span class=\"cell\"><i class=\"given\"></i></span> given up \
 <span class=\"cell kept\"></span> kept for the resume point <span class=\"cell kept handler\"></span> kept for a handler</p>\n";
 
+const UNREAD: &str = "<p class=\"legend\"><span class=\"cell row unread\"></span> needed and never read on that day</p>\n";
 /// How many positions are looked at for what a register is needed for.
 const FAR: usize = 1_000;
 
@@ -78,6 +80,7 @@ fn cell(view: &body::View, k: usize, r: u16) -> String {
         class += " row";
         says.push(why::because(view, k, r, FAR).map_or("needed before it".into(), |path| format!("needed before it: {path}")));
     }
+    if row && view.unread.contains(&r) { class += " unread"; says.push("never read on that day".into()) }
     if used { says.push("used".into()) }
     if given { says.push("given up".into()) }
     if let Some(p) = part {

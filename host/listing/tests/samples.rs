@@ -1,6 +1,6 @@
 //! The samples: each is listed, and K's listing is README's.
 
-use listing::{body, chunk, notation::{Text, read}, page, text, why};
+use listing::{body, chunk, figures, notation::{Text, read}, page, text, why};
 use std::{fs, path::Path};
 
 fn source(name: &str) -> String { fs::read_to_string(Path::new(env!("CARGO_MANIFEST_DIR")).join("../../samples").join(name)).unwrap() }
@@ -104,6 +104,32 @@ fn operands_that_all_folded_away_ship_one_constant() {
     let (text, _) = listed("ships.txt");
     assert!(text.contains("9 instructions became 2.") && text.contains("Cleared, it ships 1 constant: -10."), "{text}");
     assert!(listed("P13.txt").0.contains("Cleared, it ships 1 constant: 5."));
+}
+
+/// A body of every length of list, a body without a level, and a body that keeps nothing.
+#[test]
+fn figures_of_many_bodies() {
+    let mut view = figures::View::default();
+    let empty = figures::text(&view);
+    assert_eq!(view.heading(), "no body, no level, no kept register");
+    assert!(empty.ends_with("No level: no call has anything to keep.\n"), "{empty}");
+    for name in ["K.txt", "jacket.txt", "P5.txt"] {
+        let source = fs::read_to_string(Path::new(env!("CARGO_MANIFEST_DIR")).join("../../samples").join(name)).unwrap();
+        let Text::Body(b) = read(&source).unwrap() else { panic!("{name} is no body") };
+        view.add(name, &b).unwrap();
+    }
+    let Text::Body(bad) = read("registers 4\ntry 3 2").unwrap() else { panic!("no body") };
+    assert_eq!(view.add("bad", &bad), Err(turniploom::Refusal::Try { index: 0 }));
+    assert_eq!(view.heading(), "3 bodies, 6 levels, 15 kept registers");
+    let text = figures::text(&view);
+    assert!(text.contains("\njacket.txt            17       4    11  3 at 1\n"), "{text}");
+    assert!(text.contains("\nall                   28       6    15  3 in jacket.txt at 1\n"), "{text}");
+    assert!(text.contains("   3       4                  8         512\n") && text.contains("Mean list length: 15 / 6, 2.50.\n"), "{text}");
+    assert!(text.contains("at most 8 x d words of save area,") && text.contains(": 80 for 10, 800 for 100, 8,000 for 1,000 calls.\n"), "{text}");
+    let page = figures::page(&view);
+    let tags = |tag: String| page.matches(&tag).count();
+    for tag in ["table", "tr", "td", "i", "p"] { assert_eq!(tags(format!("<{tag}")), tags(format!("</{tag}>")), "{tag}: {page}") }
+    assert!(page.contains("title=\"4 levels with a list of 3\"><i style=\"width: 26.00rem\"></i>4</td>"), "{page}");
 }
 
 #[test]

@@ -4,6 +4,7 @@
 pub mod code;
 pub mod day;
 pub mod facts;
+pub mod figures;
 pub mod fold;
 pub mod question;
 pub mod roles;
@@ -22,6 +23,7 @@ pub fn ask(q: &Question) -> Reply {
     let answer = match q.call {
         Fold => folding(q, &mut lent, &mut |_| fold::NAN),
         Clear => clearing(q, &mut lent),
+        FiguresJoin => figures::join(q.u64("later"), lent.u64("report")),
         _ if q.call.saves() => saver::answer(q, &mut lent).map(one),
         _ => over_code(q, &mut lent),
     };
@@ -86,6 +88,7 @@ fn over_code(q: &Question, lent: &mut Lent) -> Checked<[u64; 4]> {
             let (resume, result) = rows::resume(&code, k);
             if rows::level(&code[k]) { [1, resume as u64, result.map_or(65_536, u64::from), 0] } else { [0; 4] }
         }
+        FiguresAdd => figures::add(&code, q.u32("offsets"), q.u16("list").len(), lent.u64("report"))?,
         Replay => day::replay(q, &code, lent)?,
         Touched => {
             let t = roles::touch(&code[at()?]);
@@ -97,7 +100,7 @@ fn over_code(q: &Question, lent: &mut Lent) -> Checked<[u64; 4]> {
             waiting(lent, n)?;
             yes(rows::needed(&code, regs, k, q.n("r") as u16))
         }
-        Fold | Clear | SaverMake | SaverEnter | SaverReturn | SaverException => unreachable!("it takes no code of block.rs"),
+        call => unreachable!("{call:?} takes no code of block.rs"),
     })
 }
 

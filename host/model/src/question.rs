@@ -17,7 +17,7 @@ macro_rules! calls {
 
 calls! {
     Kinds, Role, Field, Writes, Pure, Flat, Guarded, Returns, ParamsWritten, Passed, GenPure, DeadPhi, LoopsAround, Targets, GlobalOf, PushedBack,
-    StackCallee, Kept, Fold, Clear, Kept32, Level, SaverMake, SaverEnter, SaverReturn, SaverException, Replay, Touched, Needed
+    StackCallee, Kept, Fold, Clear, Kept32, Level, SaverMake, SaverEnter, SaverReturn, SaverException, FiguresAdd, FiguresJoin, Replay, Touched, Needed
 }
 
 pub use Call::*;
@@ -39,7 +39,7 @@ impl Call {
     /// Whether it is one of the frame saver's.
     pub fn saves(self) -> bool { matches!(self, SaverMake | SaverEnter | SaverReturn | SaverException) }
     /// Whether the Rust has it not: the model alone decides what is right.
-    pub fn is_new(self) -> bool { matches!(self, Clear | Replay) || self.saves() }
+    pub fn is_new(self) -> bool { self.saves() || matches!(self, Clear | FiguresAdd | FiguresJoin | Replay) }
 }
 
 /// A number or a slice.
@@ -171,6 +171,7 @@ impl Reply {
             Clear => first != asked.n("constants"),
             SaverMake => asked.n("regs") != 0,
             SaverEnter => !asked.u16("list").is_empty(),
+            FiguresJoin => self.answer.fourth != 0,
             SaverReturn | SaverException => self.lent.buffers[1] != *asked.arg("file"),
             Touched => self.values()[1..].iter().any(|&v| v != 0),
             _ => first != 0,

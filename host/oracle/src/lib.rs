@@ -3,6 +3,7 @@
 pub mod bodies;
 pub mod chunks;
 pub mod compare;
+pub mod figures;
 pub mod hostile;
 pub mod house;
 pub mod original;

@@ -1,6 +1,6 @@
 //! The questions: systematic ones, the same at every seed, and random ones.
 
-use crate::{bodies::{body, damage}, chunks, model::{code::is_call, rows}, question::*, rng::Rng, saver, traces};
+use crate::{bodies::{body, damage}, chunks, figures, model::{code::is_call, rows}, question::*, rng::Rng, saver, traces};
 use turniploom::{Ins, Op, WIDE, abi::{self, Kind, Width}, op};
 
 /// A random question of a call.
@@ -8,6 +8,7 @@ pub fn random(rng: &mut Rng, call: Call) -> Question {
     match call {
         Fold => return chunks::random(rng),
         Clear => return chunks::random_clear(rng),
+        FiguresJoin => return figures::random_join(rng),
         _ if call.saves() => return saver::random(rng, call),
         _ => {}
     }
@@ -48,6 +49,7 @@ fn asked_about(call: Call, code: &[Ins], k: usize) -> bool {
 
 /// A question of a call about code, with the other arguments chosen.
 fn ask(rng: &mut Rng, call: Call, code: &[Ins], words: Vec<u16>, regs: usize) -> Question {
+    if call == FiguresAdd { return figures::ask(rng, words, regs) }
     let n = words.len() / 6;
     let at = place(rng, call, code, n);
     let near = code.get(at as usize).copied().unwrap_or_default();
@@ -227,6 +229,7 @@ pub fn systematic(rng: &mut Rng, call: Call, take: &mut dyn FnMut(Question)) {
     match call {
         Fold => return chunks::systematic(rng, take),
         Clear => return chunks::systematic_clear(rng, take),
+        FiguresJoin => return figures::systematic_join(take),
         _ if call.saves() => return saver::systematic(rng, call, take),
         _ => {}
     }

@@ -22,6 +22,7 @@ pub mod block;
 mod calls;
 mod chunk;
 mod day;
+mod figures;
 mod ins;
 mod level;
 pub mod op;
@@ -33,7 +34,8 @@ mod trace;
 
 pub use calls::*;
 pub use chunk::*;
-pub use day::{Block, Day, replay};
+pub use day::{Block, Day, positions, replay};
+pub use figures::{Figures, Longest};
 pub use ins::{Code, DUNDER, Ins, Lowered, REGISTER, WIDE, marked};
 pub use level::{Level, level};
 pub use op::Op;

@@ -53,6 +53,16 @@ enum Held<'a> {
 /// assert_eq!(saver.leave(7), Err(Refusal::Nothing));
 /// # Ok::<(), Refusal>(())
 /// ```
+///
+/// The caller's saver can't be touched while its call is open:
+///
+/// ```compile_fail,E0499
+/// # fn open(saver: &mut turniploom::Saver<'_>, level: turniploom::Level<'_>) -> Result<(), turniploom::Refusal> {
+/// let call = saver.enter(level)?;
+/// saver.registers_mut()[0] = 7;
+/// call.leave(7)
+/// # }
+/// ```
 pub struct Saver<'a> {
     held: Held<'a>,
     /// The words in use once its call was entered; none for the outermost.

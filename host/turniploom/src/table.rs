@@ -74,6 +74,13 @@ calls! {
     saver_return(head: &mut [u64; 2], area: &[u64; 4096], file: &mut [u64; 64], value: u64) -> { first: "words in use" };
     /// Puts them back as the newest call is left by an exception.
     saver_exception(head: &mut [u64; 2], area: &[u64; 4096], file: &mut [u64; 64]) -> { first: "words in use" };
+    /// Adds a body to a report: its code and its answer from kept, the list cut to the length that was told. A report is seven words, all 0 for
+    /// no body: bodies, levels, kept registers, the longest list, 1 if there is a level, and body and position of the first list so long.
+    figures_add(code: &[u16], offsets: &[u32], list: &[u16], report: &mut [u64; 7]) -> {
+        first: "this body's levels", second: "its kept registers", third: "all kept registers", fourth: "all levels: the mean list length is third / fourth"
+    };
+    /// Joins the report of a later group of bodies to that of an earlier one, which becomes that of both.
+    figures_join(later: &[u64; 7], report: &mut [u64; 7]) -> { third: "all kept registers", fourth: "all levels" };
     /// Replays a recorded day. The trace is blocks of 512 bytes: 127 visited positions of 32 bits, little-endian, 0xFFFFFFFF as filler at
     /// the end alone, and the sum of the 508 bytes, each times its place from 1. reads needs an entry for each register, and then holds how
     /// many steps used it. A trace that is no run of the code is refused, and nothing is written.

@@ -32,7 +32,7 @@ fn marks() -> String {
 }
 
 /// The numbers that refusals have.
-const REFUSALS: [u8; 13] = [1, 2, 3, 4, 5, 6, 7, 8, 9, 10, 11, 12, 14];
+const REFUSALS: [u8; 15] = [1, 2, 3, 4, 5, 6, 7, 8, 9, 10, 11, 12, 13, 14, 15];
 
 /// The text of each refusal, as the program prints it.
 fn texts() -> String {

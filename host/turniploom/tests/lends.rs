@@ -30,6 +30,7 @@ const K: [Ins; 6] = [
 fn no_call_allocates() {
     let code = abi::words(&K);
     let (mut seen, mut todo, mut depths) = ([9u8; 7], [9u32; 7], [9u32; 7]);
+    let mut report = [0; 7];
     let (mut head, mut area, mut file) = ([9u64; 2], [9u64; 4096], [9u64; 64]);
     let (mut rows, mut offsets, mut list) = ([9u64; 7], [9u32; 7], [9u16; 8]);
     let before = ALLOCATED.get();
@@ -46,6 +47,8 @@ fn no_call_allocates() {
     let (mut rows, mut offsets, mut list) = ([9u32; 7], [9u32; 7], [9u16; 8]);
     assert_eq!(abi::kept32(code, 4, &[1, 5], false, &mut rows, &mut offsets, &mut list).first, 2);
     assert_eq!((rows, offsets, list), ([0, 0, 3, 1, 5, 8, 0], [0, 0, 0, 2, 2, 2, 2], [0, 3, 9, 9, 9, 9, 9, 9]));
+    assert_eq!((abi::figures_add(code, &offsets, &list[..2], &mut report).second, abi::figures_join(&[1, 2, 3, 9, 1, 0, 5], &mut report).third), (2, 5));
+    assert_eq!(report, [2, 3, 5, 9, 1, 1, 5]);
     assert_eq!((abi::level(code, 2).third, abi::saver_make(&mut head, 4).refusal), (2, 0));
     assert_eq!(abi::saver_enter(&mut head, &mut area, &file, &list[..2], 2).first, 6);
     assert_eq!(abi::saver_return(&mut head, &area, &mut file, 7).first, 0);

@@ -84,6 +84,10 @@ impl Stacks {
             let mut list = vec![9; if short.refusal == 0 { 0 } else { short.second as usize }];
             let a = self.make("kept", || abi::kept(code, regs, tries, wide, &mut rows, &mut offsets, &mut list));
             assert_eq!((a.refusal, a.first), (0, list.len() as u64));
+            let mut report = [0; 7];
+            let a = self.make("figures_add", || abi::figures_add(code, &offsets, &list, &mut report));
+            assert_eq!((a.refusal, a.second), (0, list.len() as u64));
+            assert_eq!(self.make("figures_join", || abi::figures_join(&[1, 2, 3, 2_000, 1, 0, 5], &mut report)).refusal, 0);
             let a = self.make("kept32", || abi::kept32(code, regs, tries, wide, &mut rows32, &mut offsets, &mut list));
             assert_eq!((a.refusal, a.first), (0, list.len() as u64));
         }

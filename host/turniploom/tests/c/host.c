@@ -103,7 +103,7 @@ static void replayed(void) {
 static void texts(void) {
     static const uint8_t refusals[] = {TURNIPLOOM_CODE, TURNIPLOOM_RECORD, TURNIPLOOM_REGISTERS, TURNIPLOOM_TRY, TURNIPLOOM_BUFFER,
                                        TURNIPLOOM_POSITION, TURNIPLOOM_TABLE, TURNIPLOOM_ROOM, TURNIPLOOM_NOTHING, TURNIPLOOM_CHECK,
-                                       TURNIPLOOM_FILLER, TURNIPLOOM_MOVE, TURNIPLOOM_LISTED};
+                                       TURNIPLOOM_FILLER, TURNIPLOOM_MOVE, TURNIPLOOM_TOTAL, TURNIPLOOM_LISTED, TURNIPLOOM_OFFSETS};
     size_t k;
     for (k = 0; k < sizeof refusals; k++) puts(turniploom_refusal_text(refusals[k]));
     puts(turniploom_refusal_text(0));
@@ -132,6 +132,25 @@ static void saver(void) {
     SHOW(a.refusal == TURNIPLOOM_ROOM && a.first == TURNIPLOOM_SAVER_ENTRY(2) - 1);
 }
 
+/* K's figures, added twice and joined with themselves. */
+static void figures(void) {
+    static const uint32_t offsets[] = {0, 0, 0, 1, 1, 1, 1}, fall[] = {0, 0, 0, 1, 0, 1, 1};
+    static const uint16_t list[] = {0};
+    static const uint64_t both[TURNIPLOOM_REPORT] = {4, 4, 4, 1, 1, 0, 2};
+    uint64_t report[TURNIPLOOM_REPORT] = {0}, later[TURNIPLOOM_REPORT];
+    turniploom_answer a = turniploom_figures_add(K, WORDS, offsets, 7, list, 1, report);
+    SHOW(a.refusal == 0 && a.first == 1 && a.second == 1 && a.third == 1 && a.fourth == 1);
+    a = turniploom_figures_add(K, WORDS, offsets, 7, list, 1, report);
+    SHOW(a.third == 2 && a.fourth == 2 && report[0] == 2 && report[5] == 0 && report[6] == 2);
+    a = turniploom_figures_add(K, WORDS, fall, 7, list, 1, report);
+    SHOW(a.refusal == TURNIPLOOM_OFFSETS && a.first == 3 && report[0] == 2);
+    memcpy(later, report, sizeof later);
+    SHOW(turniploom_figures_join(later, report).fourth == 4 && memcmp(report, both, sizeof both) == 0);
+    later[2] = UINT64_MAX;
+    a = turniploom_figures_join(later, report);
+    SHOW(a.refusal == TURNIPLOOM_TOTAL && a.first == 3 && memcmp(report, both, sizeof both) == 0);
+}
+
 int main(void) {
     marks();
     replayed();
@@ -139,6 +158,7 @@ int main(void) {
     lengths();
     room();
     saver();
+    figures();
     SHOW(turniploom_kinds(K, WORDS, 4).first == 13);
     turniploom_answer refused = turniploom_kinds(K, WORDS - 1, 4);
     SHOW(refused.refusal == TURNIPLOOM_CODE && refused.first == WORDS - 1 && refused.second == 0);

@@ -232,6 +232,17 @@ turniploom_answer turniploom_figures_join(const uint64_t *later, uint64_t *repor
 turniploom_answer turniploom_replay(const uint16_t *code, size_t code_len, size_t regs, const uint32_t *tries, size_t tries_len,
                                     const uint8_t *trace, size_t trace_len, uint64_t *reads, size_t reads_len);
 
+/* What an instruction by itself touches: registers used and given up as the rows have them, and written as writes has them.
+ * first: the fields it uses, bit 0 a, 1 b, 2 c; second: the fields it gives up; third: the fields it writes; fourth: how many registers
+ * from b on it gives up and writes besides: 0, 2 or 5. */
+turniploom_answer turniploom_touched(const uint16_t *code, size_t code_len, size_t at);
+
+/* Whether register r is needed at a position: some path from there uses it before it gives it up. The end may be asked about, where none
+ * is. seen and todo are n + 1 long, and 0 after an answer.
+ * first: 1 if so, else 0. */
+turniploom_answer turniploom_needed(const uint16_t *code, size_t code_len, size_t regs, size_t at, uint16_t r, uint8_t *seen,
+                                    size_t seen_len, uint32_t *todo, size_t todo_len);
+
 /* Opcode numbers, as docs/OPCODES.md lists them. 0 is any other. */
 enum turniploom_opcode {
     TURNIPLOOM_LoadConst = 2, TURNIPLOOM_LoadName = 4, TURNIPLOOM_StoreName = 6, TURNIPLOOM_Call = 8, TURNIPLOOM_PopTop = 10,

@@ -88,7 +88,7 @@ loops-settles w =
 
 -- ---- two buffers serve a search, and are 0 after it
 
-both : {a a′ b b′ : List ℕ} → a ≡ a′ → b ≡ b′ → _≡_ {A = Marks} (record { seen = a; todo = b }) (record { seen = a′; todo = b′ })
+pub both : {a a′ b b′ : List ℕ} → a ≡ a′ → b ≡ b′ → _≡_ {A = Marks} (record { seen = a; todo = b }) (record { seen = a′; todo = b′ })
 both e f = rw (e, f)
 
 module _ (w : List ℕ) (v : Checked) (P : Type 0) (b : Marks) (r : Answer) (a : Marks)
@@ -99,14 +99,14 @@ module _ (w : List ℕ) (v : Checked) (P : Type 0) (b : Marks) (r : Answer) (a :
   abbrev Says : Checked → Type 0
   Says u = Tells u P (count w + 1) (b .seen) (b .todo) (x .told) (a .seen) (a .todo)
 
-  told-refusal : settles.Refusal r → a ≡ b
+  pub told-refusal : settles.Refusal r → a ≡ b
   told-refusal h = go tests refl (x .allowed)
     where
       go : (u : Checked) → tests ≡ u → Says u → a ≡ b
       go (No q) e y = both (y .1) (y .2)
       go (Count n) e y = absurd (h (ap (λ (s : Answer). s .refusal) (x .is) ∙ ap (λ (s : Told). truthTold s .refusal) (y .1)))
 
-  told-beyond : MarksBeyond w b a
+  pub told-beyond : MarksBeyond w b a
   told-beyond = go tests refl (x .allowed)
     where
       m : ℕ

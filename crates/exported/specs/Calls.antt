@@ -13,7 +13,7 @@ use Rattle.kept.specs.Answers.{scratchFor}
 use Rattle.lent.specs.declared.Counts.{Counts}
 use Rattle.clear.specs.Clear as clearing
 use Rattle.refold.specs.Lending.{Lending}
-use Rattle.turniploom.specs.Answers.{TargetsTold, LoopsTold, DeadTold, GenTold, KeptTold, FoldTold, ClearTold}
+use Rattle.turniploom.specs.Answers.{TargetsTold, LoopsTold, DeadTold, GenTold, NeededTold, KeptTold, FoldTold, ClearTold}
 use Rattle.exported.specs.Settles.{Refusal}
 
 -- ---- targets and loops_around write n + 1 entries
@@ -27,7 +27,7 @@ LoopsCall w b r a = LoopsTold w b r a
 abbrev pub EntriesBeyond : List ℕ → List ℕ → List ℕ → Type 0
 EntriesBeyond w b a = Held (count w + 1) b a
 
--- ---- dead_phi and gen_pure write n + 1 words of both buffers
+-- ---- dead_phi, gen_pure and needed write n + 1 words of both buffers
 
 pub record Marks : Type 0 where
   pub seen : List ℕ
@@ -38,6 +38,9 @@ DeadCall w k q b r a = DeadTold w k q (b .seen) (b .todo) r (a .seen) (a .todo)
 
 abbrev pub GenCall : List ℕ → Marks → Answer → Marks → Type 0
 GenCall w b r a = GenTold w (b .seen) (b .todo) r (a .seen) (a .todo)
+
+abbrev pub NeededCall : List ℕ → (regs k q : ℕ) → Marks → Answer → Marks → Type 0
+NeededCall w regs k q b r a = NeededTold w regs k q (b .seen) (b .todo) r (a .seen) (a .todo)
 
 pub record MarksBeyond (w : List ℕ) (b a : Marks) : Type 0 where
   pub seen : Held (count w + 1) (b .seen) (a .seen)

@@ -2,11 +2,14 @@
 use mathlib.Core.Path.{_≡_}
 use mathlib.Core.Logic.{_⊎_}
 use mathlib.Core.Bool.{Bool, true, false}
-use mathlib.Core.List.{List, [], List·Memᴰ}
-use Prim.Native.Nat.{ℕ, suc, _+_, _^_, _≤_, _<_}
+use mathlib.Core.List.{List, [], _++_, List·Memᴰ}
+use Prim.Native.Nat.{ℕ, suc, _+_, _*_, _^_, _≤_, _<_}
 use lib.ListN.{length, getD, take}
 use Rattle.code.specs.Ins.{insAt, count}
 use Rattle.code.specs.declared.Answer.{Answer}
+use Rattle.code.specs.declared.Ins.{Ins}
+use Rattle.roles.specs.Sets.{from, usedBy, givenBy}
+use Rattle.roles.specs.Touch.{named as fieldsNamed, writtenBy}
 use Rattle.flow.specs.Flow.{Least, Closed}
 use Rattle.flow.specs.Sweep.{row, backs, startOf}
 use Rattle.flow.specs.Demand.{Keeps, Lost, Once}
@@ -27,7 +30,19 @@ use Rattle.refold.specs.Refolded.{RefoldedAll}
 use Rattle.runs.specs.Kept.{Same}
 use Rattle.exported.specs.Calls.{Lists, FoldCall, ClearCall}
 
--- ---- dead_phi and gen_pure
+-- ---- touched
+
+-- the registers that three bits name: 0 a, 1 b, 2 c
+abbrev pub fieldsOf : ℕ → Ins → List ℕ
+fieldsOf m i = fieldsNamed (2 * m) (i .a) (i .b) (i .c)
+
+-- the answer names what the instruction uses, gives up and writes; the run from b on is given up and written
+pub record TouchedHolds (i : Ins) (r : Answer) : Type 0 where
+  pub used : fieldsOf (r .first) i ≡ usedBy i
+  pub given : fieldsOf (r .second) i ++ from (i .b) (r .fourth) ≡ givenBy i
+  pub written : fieldsOf (r .third) i ++ from (i .b) (r .fourth) ≡ writtenBy i
+
+-- ---- dead_phi, gen_pure and needed
 
 -- 1 says that P holds, 0 that it does not, and there is no other answer
 abbrev pub Truth : Type 0 → Answer → Type 0

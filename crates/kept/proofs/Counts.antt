@@ -12,7 +12,7 @@ use Rattle.roles.specs.Kinds.{isJump}
 use Rattle.flow.specs.Sweep.{tally, below, backs, startOf}
 use Rattle.flow.proofs.Answer.{start-le}
 use Rattle.steps.specs.Code.{afterAt, jumpsBack, flow}
-use Rattle.steps.proofs.After.{back-at}
+use Rattle.steps.proofs.Follows.{back-at}
 use Rattle.rows.specs.Route.{firstOf}
 use Rattle.rows.proofs.Least.{rows-few}
 use Rattle.kept.specs.Answers.{Outcome}

@@ -25,7 +25,7 @@ use Rattle.kept.specs.Lists.{listsTo, offsetsTo, over, partAt}
 use Rattle.kept.specs.Answers.{Scratch, Outcome, refused, short, told}
 use Rattle.kept.specs.declared.KeptAnswer.{KeptAnswer}
 use Rattle.kept.specs.declared.KeptAnswer.the-variants.{Is}
-use Rattle.kept.proofs.Resume.{resume-in}
+use Rattle.steps.proofs.Resume.{resume-in}
 use Rattle.kept.proofs.Parts.{part-is}
 use Rattle.kept.proofs.Tests.{accepted-valid}
 

@@ -30,7 +30,7 @@ use Rattle.steps.specs.Code.{setOf}
 use Rattle.rows.proofs.Sets.{or-assoc, joined-append}
 use Rattle.kept.specs.Level.{resumeOf, resultOf, levelOf, Goes}
 use Rattle.kept.specs.Lists.{Ready}
-use Rattle.kept.proofs.Resume.{resume-in}
+use Rattle.steps.proofs.Resume.{resume-in}
 use Rattle.kept.proofs.Sets.{scaled}
 use Rattle.kept.proofs.Walks.{listed-le}
 

@@ -1,4 +1,3 @@
-pub mod Resume
 pub mod Sets
 pub mod Walks
 pub mod Tries

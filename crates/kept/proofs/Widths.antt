@@ -24,7 +24,7 @@ use Rattle.kept.specs.Level.{resumeOf, levelOf, keptAt}
 use Rattle.kept.specs.Lists.{listsTo, offsetsTo, over}
 use Rattle.kept.specs.Answers.{Outcome}
 use Rattle.kept.specs.declared.KeptAnswer.the-variants.{Is}
-use Rattle.kept.proofs.Resume.{resume-in}
+use Rattle.steps.proofs.Resume.{resume-in}
 use Rattle.kept.proofs.Passes.{offsets-long}
 use Rattle.kept.proofs.Demand.{inside, before, Left, left}
 

@@ -14,27 +14,17 @@ ghost use Rattle.flow.specs.Sweep.{row};
 ghost use Rattle.flow.specs.Listed.{listed, Listing};
 ghost use Rattle.flow.specs.Words.{value, rowsOf, Small, Holds};
 ghost use Rattle.flow.specs.Kept.{handlersOf, added, kept as keptOf};
-ghost use Rattle.kept.specs.Level.{resumeOf, resultOf, Goes, levelOf, keptAt};
+ghost use Rattle.kept.specs.Level.{resumeOf, resultOf, levelOf, keptAt};
 ghost use Rattle.kept.specs.Lists.{rowsBy, listsTo, Ready, Filled};
 ghost use Rattle.kept.specs.Answers.{stagesOf, scratchFor, Outcome};
 use code::Checked;
 use code::Refusal;
-use code::op::*;
 
 // The list's length and the counts of full and of abandoned sweeps, or the refusal.
 pub enum KeptAnswer {
     Is(usize, u32, u32),
     No(Refusal),
 }
-
-// Where a level goes on, and the register of its result.
-pub struct Onward {
-    pub at: usize,
-    pub result: usize,
-}
-
-// No register.
-const NONE: usize = 65536;
 
 // The kept registers of every level: rows in the scratch, the flat list, and where each position's part begins.
 pub fn kept(
@@ -52,45 +42,6 @@ pub fn kept(
     match v {
         Checked::No(r) => KeptAnswer::No(r),
         Checked::Count(_) => keep_all(code, regs, tries, wide, rows, offsets, list),
-    }
-}
-
-// `after`.
-pub fn after(code: &[u16], k: usize) -> Onward
-    requires { ⌜ Valid (now code) × (k < count (now code)) ⌝ }
-    ensures { λ a. ⌜ Goes (now (code .entry)) k (a .at) (a .result) ⌝ }
-{
-    let i = code::ins_at(code, k);
-    let o = i.op;
-    if o == JumpIfFalseR {
-        return Onward {
-            at: k,
-            result: NONE,
-        };
-    }
-    if o == Call {
-        return Onward {
-            at: k + 1,
-            result: NONE,
-        };
-    }
-    if code::is_call(o) {
-        let s = steps::store_of(code, k);
-        if s < code.len() / 6 {
-            let t = code::ins_at(code, s);
-            return Onward {
-                at: s,
-                result: t.a as usize,
-            };
-        }
-        return Onward {
-            at: s,
-            result: NONE,
-        };
-    }
-    Onward {
-        at: k + 1,
-        result: i.a as usize,
     }
 }
 
@@ -263,7 +214,7 @@ fn main_row(code: &[u16], regs: usize, rows: &[u64], words: usize, k: usize) -> 
     requires { ⌜ Ready 64 16 regs (now code) words (now rows) × (k < count (now code)) ⌝ }
     ensures { λ s. ⌜ Holds 64 s (minus (row (rowsBy 64 words (now (code .entry)) (now (rows .entry))) (resumeOf (now (code .entry)) k)) (resultOf regs (now (code .entry)) k)) ⌝ }
 {
-    let a = after(code, k);
+    let a = steps::after(code, k);
     let whole = rows::join_row([0u64; 16], rows, a.at * words, words);
     rows::without_reg(whole, true, regs, a.result)
 }

@@ -14,7 +14,7 @@ ghost use Rattle.flow.specs.Sweep.{row};
 ghost use Rattle.flow.specs.Listed.{listed, Listing};
 ghost use Rattle.flow.specs.Words.{value, rowsOf, Small, Holds};
 ghost use Rattle.flow.specs.Kept.{handlersOf, added, kept as keptOf};
-ghost use Rattle.kept.specs.Level.{resumeOf, resultOf, Goes, levelOf, keptAt};
+ghost use Rattle.kept.specs.Level.{resumeOf, resultOf, levelOf, keptAt};
 ghost use Rattle.kept.specs.Lists.{rowsBy, listsTo, Ready, Filled};
 ghost use Rattle.kept.specs.Answers.{stagesOf, scratchFor, Outcome};
 use code::Checked;
@@ -196,7 +196,7 @@ fn main_row(code: &[u16], regs: usize, rows: &[u32], words: usize, k: usize) -> 
     requires { ⌜ Ready 32 32 regs (now code) words (now rows) × (k < count (now code)) ⌝ }
     ensures { λ s. ⌜ Holds 32 s (minus (row (rowsBy 32 words (now (code .entry)) (now (rows .entry))) (resumeOf (now (code .entry)) k)) (resultOf regs (now (code .entry)) k)) ⌝ }
 {
-    let a = kept::after(code, k);
+    let a = steps::after(code, k);
     let whole = rows32::join_row([0u32; 32], rows, a.at * words, words);
     rows32::without_reg(whole, true, regs, a.result)
 }

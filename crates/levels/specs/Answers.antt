@@ -7,7 +7,7 @@ use Rattle.code.specs.Check.{checkOf, insideOf}
 use Rattle.code.specs.Answers.{asked, answerOf, refusedOf}
 use Rattle.code.specs.declared.Answer.{Answer}
 use Rattle.steps.specs.Level.{isLevel}
-use Rattle.kept.specs.Level.{resumeOf, resultAt}
+use Rattle.steps.specs.Resume.{resumeOf, resultAt}
 
 -- 1, where the level at k goes on, and its result register or 65,536; 0 where k is no level
 abbrev pub levelTold : List ℕ → ℕ → Answer

@@ -23,7 +23,7 @@ fn level_in(code: &[u16], k: usize) -> Answer
     ensures { λ r. ⌜ r ≡ levelTold (now (code .entry)) k ⌝ }
 {
     if steps::level_at(code::ins_at(code, k)) {
-        let a = kept::after(code, k);
+        let a = steps::after(code, k);
         return code::tell(1, a.at as u64, a.result as u64, 0);
     }
     code::tell(0, 0, 0, 0)

@@ -7,11 +7,11 @@ use Rattle.values.proofs.Division.{divides, one-pair}
 use Rattle.values.proofs.Digits.{and-law, or-law, xor-law, one-digits}
 use Rattle.values.proofs.Order.{lt-ints, le-ints, eq-ints, ne-ints, eqZ-true, eqZ-same, exact-int, lt-mixed, gt-mixed, eq-mixed}
 use Rattle.chunk.proofs.Nan.{the-nan, nan-read, nan-kept}
-use Rattle.roles.specs.Answers.{kindsAnswer, roleAnswer, fieldAnswer, writesAnswer}
+use Rattle.roles.specs.Answers.{kindsAnswer, roleAnswer, fieldAnswer, writesAnswer, touchAnswer}
 use Rattle.walks.specs.Answers.{pureAnswer, flatAnswer, guardedAnswer, returnsAnswer}
 use Rattle.surveys.specs.Answers.{writtenAnswer, passedAnswer}
 use Rattle.callee.specs.Answers.{globalAnswer, pushAnswer, stackAnswer}
-use Rattle.turniploom.specs.Answers.{kindsTold, roleTold, fieldTold, truthTold, bitsTold, globalTold, pushTold, stackTold}
+use Rattle.turniploom.specs.Answers.{kindsTold, roleTold, fieldTold, touchTold, truthTold, bitsTold, globalTold, pushTold, stackTold}
 use Rattle.fold.proofs.Landed.{same-folds, still-true}
 use Rattle.runs.proofs.Lock.{one-end}
 use Rattle.clear.proofs.Kept.{named-by, naming}
@@ -21,6 +21,8 @@ use Rattle.refold.proofs.Relent.{relent}
 use Rattle.exported.proofs.Answered.{one}
 use Rattle.exported.proofs.Writing.{targets-settles, loops-settles, dead-settles, gen-settles, dead-truth, gen-truth}
 use Rattle.exported.proofs.Kept.{kept-settles, kept-holds, routes-same}
+use Rattle.exported.proofs.Touched.{touched-holds}
+use Rattle.exported.proofs.Needed.{needed-settles, needed-truth, needed-bit, wide-zero}
 use Rattle.exported.proofs.Folded.{fold-settles, pool-kept, tables-kept, tries-kept, landings-true, code-again, none-died}
 use Rattle.exported.proofs.Folded.{folds-next, clears-next, folds-cleared, folds-same}
 use Rattle.exported.proofs.Ran.{runs-kept}
@@ -44,6 +46,7 @@ promised =
       one-role = λ w at. one (roleTold (roleAnswer w at));
       one-field = λ w at f. one (fieldTold (fieldAnswer w at f));
       one-writes = λ w at r. one (truthTold (writesAnswer w at r));
+      one-touched = λ w at. one (touchTold (touchAnswer w at));
       one-pure = λ w. one (truthTold (pureAnswer w));
       one-flat = λ w. one (truthTold (flatAnswer w));
       one-guarded = λ w. one (truthTold (guardedAnswer w));
@@ -57,6 +60,7 @@ promised =
       loops = loops-settles;
       dead = dead-settles;
       gen = gen-settles;
+      needed = needed-settles;
       kept = kept-settles 64 (omega arith);
       kept32 = kept-settles 32 (omega arith);
       folding = fold-settles;
@@ -69,6 +73,10 @@ promised =
       kept-holds = kept-holds;
       routes-same = routes-same;
       least-one = least-one;
+      touched-holds = touched-holds;
+      needed-truth = needed-truth;
+      needed-bit = needed-bit;
+      wide-zero = wide-zero;
       divides = divides;
       one-pair = one-pair;
       and-law = and-law;

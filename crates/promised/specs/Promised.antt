@@ -14,13 +14,15 @@ use Rattle.laws.specs.Mask.{mask}
 use Rattle.code.specs.declared.Answer.{Answer}
 use Rattle.code.specs.declared.Refusal.the-variants.{Table}
 use Rattle.code.specs.declared.Checked.the-variants as stage
-use Rattle.roles.specs.Answers.{kindsAnswer, roleAnswer, fieldAnswer, writesAnswer}
+use Rattle.roles.specs.Answers.{kindsAnswer, roleAnswer, fieldAnswer, writesAnswer, touchAnswer}
 use Rattle.walks.specs.Answers.{pureAnswer, flatAnswer, guardedAnswer, returnsAnswer}
 use Rattle.surveys.specs.Answers.{writtenAnswer, passedAnswer}
 use Rattle.callee.specs.Answers.{globalAnswer, pushAnswer, stackAnswer}
 use Rattle.callee.specs.Trace.{stepAt, heard, tracedBy, traced}
 use Rattle.phis.specs.Phi.{Dead}
 use Rattle.phis.specs.Generator.{GenPure}
+use Rattle.needed.specs.Path.{Needs}
+use Rattle.flow.specs.Set.{bit}
 use Rattle.flow.specs.Flow.{Flow, Least}
 use Rattle.values.specs.Python.{Divides, floorDiv, floorMod, Digitwise, both, some, one, andZ, orZ, xorZ, eqZ, signed, sign}
 use Rattle.values.specs.Folds.{Small}
@@ -43,16 +45,17 @@ use Rattle.refold.specs.Left.{PoolLeft, FoldBeyond, NoneDied, asLent, TriesLeft
 use Rattle.refold.specs.Examples.{jumping, summed, crossed, crossedCounts, crossedLens}
 use Rattle.runs.specs.Machine.{Ins, Stack, End, Run}
 use Rattle.runs.specs.Rule.{Rule}
-use Rattle.turniploom.specs.Answers.{kindsTold, roleTold, fieldTold, truthTold, bitsTold, globalTold, pushTold, stackTold, MadeTold, EnterTold, LeaveTold, ReplayTold}
+use Rattle.turniploom.specs.Answers.{kindsTold, roleTold, fieldTold, touchTold, truthTold, bitsTold, globalTold, pushTold, stackTold, MadeTold, EnterTold, LeaveTold, ReplayTold}
 use Rattle.exported.specs.Settles.{One, Settles}
-use Rattle.exported.specs.Calls.{TargetsCall, LoopsCall, EntriesBeyond, Marks, DeadCall, GenCall, MarksBeyond, Lists, KeptCall, KeptSettles}
+use Rattle.exported.specs.Calls.{TargetsCall, LoopsCall, EntriesBeyond, Marks, DeadCall, GenCall, NeededCall, MarksBeyond, Lists, KeptCall, KeptSettles}
 use Rattle.exported.specs.Calls.{FoldCall, ClearCall, ClearBeyond}
+use Rattle.exported.specs.Told.{TouchedHolds, startAt, rowLeft}
 use Rattle.exported.specs.Told.{Truth, listLeft, KeptHolds, SameLists, foldedOf, FoldsNext, ClearsNext, FoldsCleared, FoldsSame, RunsKept, ClearHolds, ClearedTwice}
 use Rattle.promised.specs.Marked.{Marked}
 use Rattle.promised.specs.Late.{Late}
 use Rattle.promised.specs.Breaks.{Breaks}
 use Rattle.promised.specs.Above.{AtLevel, Entered}
-use Rattle.code.specs.Ins.{count}
+use Rattle.code.specs.Ins.{insAt, count}
 use Rattle.code.specs.Answers.{answerOf, refusalOf}
 use Rattle.flow.specs.Kept.{handlersOf}
 use Rattle.flow.specs.Demand.{Alike}
@@ -95,6 +98,8 @@ pub record Promised : Type 0 where
   pub one-field : (w : List ℕ) (at f : ℕ) → OneAnswer (fieldTold (fieldAnswer w at f))
   -- writes has one answer
   pub one-writes : (w : List ℕ) (at r : ℕ) → OneAnswer (truthTold (writesAnswer w at r))
+  -- touched has one answer
+  pub one-touched : (w : List ℕ) (at : ℕ) → OneAnswer (touchTold (touchAnswer w at))
   -- pure has one answer
   pub one-pure : (w : List ℕ) → OneAnswer (truthTold (pureAnswer w))
   -- flat has one answer
@@ -121,6 +126,8 @@ pub record Promised : Type 0 where
   pub dead : (w : List ℕ) (at r : ℕ) → Settles (DeadCall w at r) (MarksBeyond w)
   -- gen_pure settles both its buffers
   pub gen : (w : List ℕ) → Settles (GenCall w) (MarksBeyond w)
+  -- needed settles both its buffers
+  pub needed : (w : List ℕ) (regs at r : ℕ) → Settles (NeededCall w regs at r) (MarksBeyond w)
   -- kept settles its three buffers; refusal 5 for the list is the one refusal that changes a buffer, the scratch, which then holds the rows
   pub kept : (w : List ℕ) (regs : ℕ) (tries : List ℕ) (wide : Bool) → KeptSettles 64 w regs tries wide
   -- kept32 does the same with words of 32 bits
@@ -151,6 +158,21 @@ pub record Promised : Type 0 where
       → KeptCall bits w regs tries wide b r a → r .refusal ≡ 0 → KeptCall bits′ w regs tries wide′ b′ r′ a′ → r′ .refusal ≡ 0 → SameLists w r r′ a a′
   -- row equations have one least solution
   pub least-one : (f : Flow) (start : ℕ) (R S : ℕ → ℕ) → Least f start R → Least f start S → (k : ℕ) → start ≤ k → R k ≡ S k
+  -- ---- wish 3: what an instruction touches
+
+  -- the fields that touched answers, and the run from b on, are the registers that the instruction by itself uses, gives up and writes
+  pub touched-holds : (w : List ℕ) (at : ℕ) (r : Answer) → r ≡ touchTold (touchAnswer w at) → r .refusal ≡ 0 → TouchedHolds (insAt w at) r
+  -- ---- wish 11: is this one register needed here?
+
+  -- needed answers 1 exactly when some path from the position uses the register before it gives it up
+  pub needed-truth : (w : List ℕ) (regs k q : ℕ) (b : Marks) (r : Answer) (a : Marks) → NeededCall w regs k q b r a → r .refusal ≡ 0
+      → Truth (Needs (flow regs w) q k) r
+  -- it is the bit in the finished rows of a kept call, of either width, that began at 0
+  pub needed-bit : (bits : ℕ) (w : List ℕ) (regs : ℕ) (tries : List ℕ) (wide : Bool) (b : Lists) (r : Answer) (a : Lists) → KeptCall bits w regs tries wide b r a
+      → r .refusal ≡ 0 → startAt bits wide regs w ≡ 0
+      → (k q : ℕ) (m : Marks) (s : Answer) (m′ : Marks) → NeededCall w regs k q m s m′ → s .refusal ≡ 0 → bit (rowLeft bits regs w a k) q ≡ s .first
+  -- as the forced wide route does
+  pub wide-zero : (bits regs : ℕ) (w : List ℕ) → startAt bits true regs w ≡ 0
   -- ---- Python's numbers
 
   -- quotient and remainder are as Python's law asks

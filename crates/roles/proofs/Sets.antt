@@ -20,22 +20,6 @@ pub among-only : (t : Bool) (r a : ℕ) → t && eqb r a ≡ among r (only t a)
 among-only true r a = sym (or-no (eqb r a))
 among-only false r a = refl
 
-in-turn : (p q s : Bool) → p || q || s ≡ p || (q || (s || false))
-in-turn true q s = refl
-in-turn false true s = refl
-in-turn false false s = sym (or-no s)
-
-all-three : (n r a b c : ℕ) → 3 ≤ n → leb 1 n && eqb r a || leb 2 n && eqb r b || leb 3 n && eqb r c ≡ among r (take n (a ∷ b ∷ c ∷ []))
-all-three n r a b c h =
-    rw (take-all n (a ∷ b ∷ c ∷ []) h, le-leb 1 n (omega arith), le-leb 2 n (omega arith), le-leb 3 n h)
-    (in-turn (eqb r a) (eqb r b) (eqb r c))
-
-pub among-first : (x r a b c : ℕ) → leb 1 x && eqb r a || leb 2 x && eqb r b || leb 3 x && eqb r c ≡ among r (take x (a ∷ b ∷ c ∷ []))
-among-first zero r a b c = refl
-among-first (suc zero) r a b c = or-no (eqb r a || false)
-among-first (suc (suc zero)) r a b c = in-turn (eqb r a) (eqb r b) false
-among-first (suc (suc (suc x))) r a b c = all-three (suc (suc (suc x))) r a b c (omega arith)
-
 -- r is at b or past it, and below b + m
 within : ℕ → ℕ → ℕ → Bool
 within r b m = leb b r && ltb r (b + m)
@@ -51,7 +35,7 @@ within-next r b m (yes h) e =
     rw (le-leb b r (omega arith), le-leb (suc b) r h, q)
 within-next r b m (no h) e = rw (lt-leb b r (omega arith), lt-leb (suc b) r (omega arith))
 
-among-from : (r b m : ℕ) → within r b m ≡ among r (from b m)
+pub among-from : (r b m : ℕ) → leb b r && ltb r (b + m) ≡ among r (from b m)
 unfolding within
 among-from r b zero = none (decLt r b)
   where
@@ -63,11 +47,3 @@ among-from r b (suc m) = go (ℕ-discrete r b) (among-from r (suc b) m)
     go : Dec (r ≡ b) → within r (suc b) m ≡ among r (from (suc b) m) → within r b (suc m) ≡ eqb r b || among r (from (suc b) m)
     go (yes e) h = rw (eq-eqb r b e, le-leb b r (omega arith), lt-ltb r (b + suc m) (omega arith))
     go (no e) h = rw (ne-eqb r b e) (within-next r b m (decLt b r) e ∙ h)
-
-pub among-run : (x r b m : ℕ) → not (eqb x 0) && leb b r && ltb r (b + m) ≡ among r (run x b m)
-unfolding within
-among-run x r b m = go (eqb x 0)
-  where
-    go : (t : Bool) → not t && leb b r && ltb r (b + m) ≡ among r (cond t [] (from b m))
-    go true = refl
-    go false = among-from r b m

@@ -8,6 +8,7 @@ use Rattle.code.specs.declared.Told.{Told}
 use Rattle.code.specs.declared.Told.the-variants as told
 use Rattle.roles.specs.Kinds.{kindsOf, roleOf, fieldOf}
 use Rattle.roles.specs.Sets.{writes}
+use Rattle.roles.specs.Touch.{touchOf}
 use Rattle.roles.specs.declared.Found.{Found}
 use Rattle.roles.specs.declared.Found.the-variants as found
 use Rattle.roles.specs.declared.KindsAnswer.{KindsAnswer}
@@ -16,6 +17,8 @@ use Rattle.roles.specs.declared.RoleAnswer.{RoleAnswer}
 use Rattle.roles.specs.declared.RoleAnswer.the-variants as role
 use Rattle.roles.specs.declared.FieldAnswer.{FieldAnswer}
 use Rattle.roles.specs.declared.FieldAnswer.the-variants as field
+use Rattle.roles.specs.declared.TouchAnswer.{TouchAnswer}
+use Rattle.roles.specs.declared.TouchAnswer.the-variants as touch
 
 unfoldable pub kindsAnswer : List ℕ → ℕ → KindsAnswer
 kindsAnswer w k = asked (insideOf (checkOf w) k) kinds.No (kinds.Is (kindsOf (insAt w k)))
@@ -32,3 +35,6 @@ fieldAnswer w k f = asked (insideOf (checkOf w) k) field.No (field.Is (fieldOf (
 
 unfoldable pub writesAnswer : List ℕ → ℕ → ℕ → Told
 writesAnswer w k r = asked (insideOf (checkOf w) k) told.No (told.Is (writes (insAt w k) r))
+
+unfoldable pub touchAnswer : List ℕ → ℕ → TouchAnswer
+touchAnswer w k = asked (insideOf (checkOf w) k) touch.No (touch.Is (touchOf (insAt w k)))

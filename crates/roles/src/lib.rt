@@ -1,14 +1,15 @@
 // What an instruction does with its fields a, b and c, and with registers (block.rs: `role`, `kinds`, `writes`, `field`).
 ghost use mathlib.Core.Path.{_≡_};
+ghost use mathlib.Core.Bool.{cond};
 ghost use Prim.Native.Nat.{_+_, _*_, _%_, _/_, _<_, _≤_};
 ghost use lib.ListN.{length};
 ghost use Rattle.code.specs.Ins.{insAt};
 ghost use Rattle.code.specs.Check.{checkOf, insideOf};
 ghost use Rattle.code.specs.Answers.{asked};
 ghost use Rattle.roles.specs.Kinds.{ruleOf, firstOf, abc, bc, kindsOf, roleOf, hasRole, isJump, fieldOf};
-ghost use Rattle.laws.specs.Page.{among};
-ghost use Rattle.roles.specs.Sets.{caseOf, destBy, unpacked, run, writes as writesIt};
-ghost use Rattle.roles.specs.Answers.{kindsAnswer, roleAnswer, fieldAnswer, writesAnswer};
+ghost use Rattle.roles.specs.Sets.{caseOf, writes as writesIt};
+ghost use Rattle.roles.specs.Touch.{plainOf, touchOf};
+ghost use Rattle.roles.specs.Answers.{kindsAnswer, roleAnswer, fieldAnswer, writesAnswer, touchAnswer};
 use code::Checked;
 use code::Ins;
 use code::Refusal;
@@ -261,45 +262,113 @@ pub fn case_of(o: u16) -> Case
     }
 }
 
-// Whether i writes r where `role` tells it.
-fn writes_a(i: Ins, r: u16) -> bool
-    ensures { λ t. ⌜ t ≡ among r (destBy i) ⌝ }
-{
-    let k = kinds_of(i);
-    let none = k / NONE % 2 == 1;
-    !none & (k / DEST % 2 == 1) & (r == i.a)
+// What an instruction by itself touches: the fields it uses, gives up and writes, and how many registers from b on it gives up and writes besides.
+pub struct Touch {
+    pub used: u8,
+    pub given: u8,
+    pub written: u8,
+    pub run: u8,
 }
 
-// Whether r is one of the first x of a, b, c.
-fn unpacks(i: Ins, r: u16) -> bool
-    ensures { λ t. ⌜ t ≡ among r (unpacked i) ⌝ }
-{
-    (1 <= i.x) & (r == i.a) | (2 <= i.x) & (r == i.b) | (3 <= i.x) & (r == i.c)
+// What is touched, or the refusal.
+pub enum TouchAnswer {
+    Is(Touch),
+    No(Refusal),
 }
 
-// Whether r is one of the `many` registers from b on, where x is not 0.
-fn runs(i: Ins, r: u16, many: usize) -> bool
-    requires { ⌜ many ≤ 5 ⌝ }
-    ensures { λ t. ⌜ t ≡ among r (run (i .x) (i .b) many) ⌝ }
+// A mask, if.
+fn when(t: bool, mask: u8) -> u8
+    ensures { λ r. ⌜ r ≡ cond t mask 0 ⌝ }
 {
-    let b = i.b as usize;
-    let r = r as usize;
-    (i.x != 0) & (b <= r) & (r < b + many)
+    if t { mask } else { 0 }
+}
+
+// What `kinds` tells.
+fn plain(kind: u8) -> Touch
+    ensures { λ t. ⌜ t ≡ plainOf kind ⌝ }
+{
+    if kind / NONE % 2 == 1 {
+        return Touch {
+            used: 0,
+            given: 0,
+            written: 0,
+            run: 0,
+        };
+    }
+    Touch {
+        used: kind / 2 % 8 * 2,
+        given: kind % 2 * 2,
+        written: kind % 2 * 2,
+        run: 0,
+    }
+}
+
+// The three sets of an instruction.
+pub fn touch_of(i: Ins, kind: u8) -> Touch
+    requires { ⌜ kind ≡ kindsOf i ⌝ }
+    ensures { λ t. ⌜ t ≡ touchOf i ⌝ }
+{
+    let x = i.x;
+    match case_of(i.op) {
+        Case::Store => Touch {
+            used: 0,
+            given: A,
+            written: when(x == 0, A),
+            run: 0,
+        },
+        Case::Unpack => {
+            let m = first_abc(x as usize);
+            Touch {
+                used: 0,
+                given: m,
+                written: m,
+                run: 0,
+            }
+        }
+        Case::Enter => Touch {
+            used: when(x == 2, C),
+            given: 0,
+            written: 0,
+            run: when(x != 0, 2),
+        },
+        Case::Exit => Touch {
+            used: 0,
+            given: 0,
+            written: 0,
+            run: when(x != 0, 5),
+        },
+        Case::Judge => Touch {
+            used: when(x == 1, A),
+            given: 0,
+            written: 0,
+            run: 0,
+        },
+        Case::Step => {
+            let m = when(x == 0, B);
+            Touch {
+                used: m,
+                given: 0,
+                written: m,
+                run: 0,
+            }
+        }
+        Case::Plain => plain(kind),
+    }
 }
 
 // `writes` of an instruction.
 pub fn writes_of(i: Ins, r: u16) -> bool
     ensures { λ t. ⌜ t ≡ writesIt i r ⌝ }
 {
-    match case_of(i.op) {
-        Case::Store => (i.x == 0) & (r == i.a),
-        Case::Unpack => unpacks(i, r),
-        Case::Enter => runs(i, r, 2),
-        Case::Exit => runs(i, r, 5),
-        Case::Judge => false,
-        Case::Step => (i.x == 0) & (r == i.b),
-        Case::Plain => writes_a(i, r),
-    }
+    let t = touch_of(i, kinds_of(i));
+    let m = t.written;
+    let named = (m / 2 % 2 == 1) & (r == i.a)
+        | (m / 4 % 2 == 1) & (r == i.b)
+        | (m / 8 % 2 == 1) & (r == i.c);
+    let b = i.b as usize;
+    let run = t.run as usize;
+    let at = r as usize;
+    named | (b <= at) & (at < b + run)
 }
 
 // `kinds` at a position: refusals 1, 2, 6.
@@ -342,5 +411,18 @@ pub fn writes(code: &[u16], at: usize, r: u16) -> Told
     match code::inside(code::check(code), at) {
         Checked::No(q) => Told::No(q),
         Checked::Count(_) => Told::Is(writes_of(code::ins_at(code, at), r)),
+    }
+}
+
+// What the instruction at a position touches: refusals 1, 2, 6.
+pub fn touched(code: &[u16], at: usize) -> TouchAnswer
+    ensures { λ t. ⌜ t ≡ touchAnswer (now (code .entry)) at ⌝ }
+{
+    match code::inside(code::check(code), at) {
+        Checked::No(r) => TouchAnswer::No(r),
+        Checked::Count(_) => {
+            let i = code::ins_at(code, at);
+            TouchAnswer::Is(touch_of(i, kinds_of(i)))
+        }
     }
 }

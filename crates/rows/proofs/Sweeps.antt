@@ -22,7 +22,7 @@ use Rattle.steps.specs.Code.{afterAt, flow}
 use Rattle.steps.specs.Step.{StepAt, goesBefore, stepFlow}
 use Rattle.steps.specs.declared.Step.{Step}
 use Rattle.steps.specs.Calm.{calmOf, calmStep}
-use Rattle.steps.proofs.After.{below-step}
+use Rattle.steps.proofs.Follows.{below-step}
 use Rattle.steps.proofs.Told.{calm-step}
 
 -- the step's equation is the code's

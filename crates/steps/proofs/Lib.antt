@@ -1,3 +1,4 @@
-pub mod Effects
-pub mod After
+pub mod Touched
+pub mod Follows
 pub mod Told
+pub mod Resume

@@ -2,3 +2,4 @@ pub mod Code
 pub mod Level
 pub mod Step
 pub mod Calm
+pub mod Resume

@@ -1,30 +1,29 @@
 // What a sweep sees of lent code: levels, the registers that a position uses and gives up, and what comes after it (block.rs: `level_at`, `live_rows`).
 ghost use mathlib.Core.Path.{_≡_};
-ghost use mathlib.Core.Bool.{cond};
 ghost use Prim.Native.Nat.{_+_, _-_, _*_, _/_, _%_, _<_, _≤_};
 ghost use lib.ListN.{length};
 ghost use Rattle.code.specs.Ins.{insAt, count};
-ghost use Rattle.code.specs.Check.{Whole};
+ghost use Rattle.code.specs.Check.{Whole, Valid};
 ghost use Rattle.roles.specs.Kinds.{kindsOf};
 ghost use Rattle.steps.specs.Level.{isLevel, firstLevel};
 ghost use Rattle.steps.specs.Code.{storeOf, overPending, pastStore, idle as idleAt};
-ghost use Rattle.steps.specs.Step.{Effects, EffectsAt, plainOf, goesBefore, StepAt};
+ghost use Rattle.steps.specs.Resume.{Goes};
+ghost use Rattle.steps.specs.Step.{TouchesAt, goesBefore, StepAt};
 ghost use Rattle.steps.specs.Calm.{calmOf, calmStep, turnStep};
 use code::Ins;
 use code::op::*;
-use roles::A;
-use roles::B;
-use roles::C;
-use roles::Case;
+use roles::Touch;
 
-// What an instruction does to registers: which of its fields it uses, which it gives up, and how many from b on it gives up besides.
-pub struct Effect {
-    pub used: u8,
-    pub given: u8,
-    pub run: u8,
+// Where a level goes on, and the register of its result.
+pub struct Onward {
+    pub at: usize,
+    pub result: usize,
 }
 
-// An instruction as a sweep sees it: its fields, its effect, and whether the row after it and its target's row are read.
+// No register.
+const NONE: usize = 65536;
+
+// An instruction as a sweep sees it: its fields, what it uses and gives up, and whether the row after it and its target's row are read.
 pub struct Step {
     pub a: u16,
     pub b: u16,
@@ -75,6 +74,45 @@ pub fn store_of(code: &[u16], c: usize) -> usize
     c + 1
 }
 
+// `after`.
+pub fn after(code: &[u16], k: usize) -> Onward
+    requires { ⌜ Valid (now code) × (k < count (now code)) ⌝ }
+    ensures { λ a. ⌜ Goes (now (code .entry)) k (a .at) (a .result) ⌝ }
+{
+    let i = code::ins_at(code, k);
+    let o = i.op;
+    if o == JumpIfFalseR {
+        return Onward {
+            at: k,
+            result: NONE,
+        };
+    }
+    if o == Call {
+        return Onward {
+            at: k + 1,
+            result: NONE,
+        };
+    }
+    if code::is_call(o) {
+        let s = store_of(code, k);
+        if s < code.len() / 6 {
+            let t = code::ins_at(code, s);
+            return Onward {
+                at: s,
+                result: t.a as usize,
+            };
+        }
+        return Onward {
+            at: s,
+            result: NONE,
+        };
+    }
+    Onward {
+        at: k + 1,
+        result: i.a as usize,
+    }
+}
+
 // Whether there is a call over a pending value at c.
 fn over_pending(code: &[u16], c: usize) -> bool
     requires { ⌜ Whole (now code) ⌝ }
@@ -117,85 +155,20 @@ fn idle(code: &[u16], k: usize, o: u16) -> bool
     false
 }
 
-// A mask, if.
-fn when(t: bool, mask: u8) -> u8
-    ensures { λ r. ⌜ r ≡ cond t mask 0 ⌝ }
-{
-    if t { mask } else { 0 }
-}
-
-// The effect that `kinds` tells.
-fn plain(kind: u8) -> Effect
-    ensures { λ e. ⌜ e ≡ plainOf kind ⌝ }
-{
-    if kind / 32 % 2 == 1 {
-        return Effect {
-            used: 0,
-            given: 0,
-            run: 0,
-        };
-    }
-    Effect {
-        used: kind / 2 % 8 * 2,
-        given: kind % 2 * 2,
-        run: 0,
-    }
-}
-
-// What an instruction by itself uses and gives up.
-fn effect_of(i: Ins, kind: u8) -> Effect
-    requires { ⌜ kind ≡ kindsOf i ⌝ }
-    ensures { λ e. ⌜ Effects i e ⌝ }
-{
-    let x = i.x;
-    match roles::case_of(i.op) {
-        Case::Store => Effect {
-            used: 0,
-            given: A,
-            run: 0,
-        },
-        Case::Unpack => Effect {
-            used: 0,
-            given: roles::first_abc(x as usize),
-            run: 0,
-        },
-        Case::Enter => Effect {
-            used: when(x == 2, C),
-            given: 0,
-            run: when(x != 0, 2),
-        },
-        Case::Exit => Effect {
-            used: 0,
-            given: 0,
-            run: when(x != 0, 5),
-        },
-        Case::Judge => Effect {
-            used: when(x == 1, A),
-            given: 0,
-            run: 0,
-        },
-        Case::Step => Effect {
-            used: when(x == 0, B),
-            given: 0,
-            run: 0,
-        },
-        Case::Plain => plain(kind),
-    }
-}
-
-// What the instruction i at k uses and gives up.
-fn effect_at(code: &[u16], k: usize, i: Ins, kind: u8) -> Effect
+// What the instruction i at k touches; where it pushes or restores a pending value, nothing.
+fn touch_at(code: &[u16], k: usize, i: Ins, kind: u8) -> Touch
     requires { ⌜ Whole (now code) × (k < count (now code)) × (i ≡ insAt (now code) k) × (kind ≡ kindsOf i) ⌝ }
-    ensures { λ e. ⌜ EffectsAt (now (code .entry)) k e ⌝ }
+    ensures { λ t. ⌜ TouchesAt (now (code .entry)) k t ⌝ }
 {
     if idle(code, k, i.op) {
-        return Effect {
+        return Touch {
             used: 0,
             given: 0,
+            written: 0,
             run: 0,
         };
     }
-    effect_of(i, kind)
+    roles::touch_of(i, kind)
 }
 
 // The step at k, in code of n instructions.
@@ -205,15 +178,15 @@ pub fn step_at(code: &[u16], n: usize, k: usize) -> Step
 {
     let i = code::ins_in(code, k);
     let kind = roles::kinds_of(i);
-    let e = effect_at(code, k, i, kind);
+    let t = touch_at(code, k, i, kind);
     let o = i.op;
     Step {
         a: i.a,
         b: i.b,
         c: i.c,
-        used: e.used,
-        given: e.given,
-        run: e.run,
+        used: t.used,
+        given: t.given,
+        run: t.run,
         on: (o != ReturnR) & (o != Jump),
         to: kind / 16 % 4 == 1,
         target: code::least(i.a as usize, n),

@@ -6,7 +6,7 @@ use mathlib.Core.List.{List}
 use Prim.Native.Nat.{ℕ, _+_, _<_}
 use lib.ListN.{length}
 use Rattle.code.specs.Ins.{count}
-use Rattle.code.specs.Check.{checkOf, insideOf, triedOf, roomOf}
+use Rattle.code.specs.Check.{checkOf, insideOf, registersOf, triedOf, roomOf}
 use Rattle.code.specs.declared.Answer.{Answer}
 use Rattle.flow.specs.Words.{Small}
 use Rattle.surveys.specs.Answers.{targetMark}
@@ -16,12 +16,15 @@ use Rattle.phis.specs.Phi.{Dead}
 use Rattle.phis.specs.Generator.{GenPure}
 use Rattle.phis.specs.Answers.{roomBoth}
 use Rattle.phis.proofs.Telling.{one-answer}
+use Rattle.steps.specs.Code.{flow}
+use Rattle.needed.specs.Path.{Needs}
+use Rattle.needed.specs.Answers.{uptoOf}
 use Rattle.kept.proofs.Alone.{outcome-one}
 use Rattle.lent.specs.declared.Counts.{Counts}
 use Rattle.optimizer.specs.Fold.{Buffers, Called}
 use Rattle.optimizer.specs.declared.FoldAnswer.{FoldAnswer}
 use Rattle.clear.specs.Clear as clearing
-use Rattle.turniploom.specs.Answers.{By, filledTold, truthTold, keptTold, foldTold, TargetsTold, LoopsTold, DeadTold, GenTold, KeptTold, FoldTold, clearTold, ClearTold, MadeTold, EnterTold, LeaveTold, ReplayTold}
+use Rattle.turniploom.specs.Answers.{By, filledTold, truthTold, keptTold, foldTold, TargetsTold, LoopsTold, DeadTold, GenTold, NeededTold, KeptTold, FoldTold, clearTold, ClearTold, MadeTold, EnterTold, LeaveTold, ReplayTold}
 use Rattle.saver.specs.Saver.{Saver, Back, Ends}
 use Rattle.saver.specs.Answers.{saverTold}
 use Rattle.day.specs.Answers.{dayTold}
@@ -50,6 +53,13 @@ one-dead w k q seen todo r r′ a a′ b b′ x y =
 pub one-gen : (w seen todo : List ℕ) (r r′ : Answer) (a a′ b b′ : List ℕ) → GenTold w seen todo r a b → GenTold w seen todo r′ a′ b′ → (r ≡ r′) × (a ≡ a′) × (b ≡ b′)
 one-gen w seen todo r r′ a a′ b b′ x y =
     let (e, z, t) = one-answer (roomBoth (checkOf w) w seen todo) (GenPure w) (count w + 1) seen todo (x .told) (y .told) a a′ b b′ (x .allowed) (y .allowed) in
+    (by-one truthTold x y e, z, t)
+
+pub one-needed : (w : List ℕ) (regs k q : ℕ) (seen todo : List ℕ) (r r′ : Answer) (a a′ b b′ : List ℕ) → NeededTold w regs k q seen todo r a b → NeededTold w regs k q seen todo r′ a′ b′
+    → (r ≡ r′) × (a ≡ a′) × (b ≡ b′)
+one-needed w regs k q seen todo r r′ a a′ b b′ x y =
+    let (e, z, t) = one-answer (roomBoth (uptoOf (registersOf (checkOf w) regs) k) w seen todo) (Needs (flow regs w) q k) (count w + 1) seen todo
+    (x .told) (y .told) a a′ b b′ (x .allowed) (y .allowed) in
     (by-one truthTold x y e, z, t)
 
 -- the scratch is words of so many bits, as every lent u64 or u32 is

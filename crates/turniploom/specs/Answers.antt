@@ -1,5 +1,5 @@
 -- What the exported calls answer for each case of a call's own answer. Assumes nothing.
-use Prim.Native.Nat.{ℕ}
+use Prim.Native.Nat.{ℕ, _/_}
 use mathlib.Core.Path.{_≡_}
 use mathlib.Core.Bool.{Bool}
 use mathlib.Core.List.{List}
@@ -14,12 +14,15 @@ use Rattle.roles.specs.declared.RoleAnswer.{RoleAnswer}
 use Rattle.roles.specs.declared.RoleAnswer.the-variants as role
 use Rattle.roles.specs.declared.FieldAnswer.{FieldAnswer}
 use Rattle.roles.specs.declared.FieldAnswer.the-variants as field
+use Rattle.roles.specs.declared.TouchAnswer.{TouchAnswer}
+use Rattle.roles.specs.declared.TouchAnswer.the-variants as touch
 use Rattle.surveys.specs.declared.Bits.{Bits}
 use Rattle.surveys.specs.declared.Bits.the-variants as bits
 use Rattle.surveys.specs.declared.Filled.{Filled}
 use Rattle.surveys.specs.declared.Filled.the-variants as filled
 use Rattle.surveys.specs.Answers.{Targets, LoopsAround}
 use Rattle.phis.specs.Answers as phis
+use Rattle.needed.specs.Answers as needed
 use Rattle.callee.specs.declared.GlobalAnswer.{GlobalAnswer}
 use Rattle.callee.specs.declared.GlobalAnswer.the-variants as global
 use Rattle.callee.specs.declared.PushAnswer.{PushAnswer}
@@ -63,6 +66,11 @@ abbrev pub fieldTold : FieldAnswer → Answer
 fieldTold (field.Is x) = answerOf x 0 0 0
 fieldTold (field.No r) = refusedOf r
 
+-- the fields used, given up and written (bit 0 a, 1 b, 2 c), and how many registers from b on are given up and written besides
+abbrev pub touchTold : TouchAnswer → Answer
+touchTold (touch.Is t) = answerOf (t .used / 2) (t .given / 2) (t .written / 2) (t .run)
+touchTold (touch.No r) = refusedOf r
+
 -- the bits
 abbrev pub bitsTold : Bits → Answer
 bitsTold (bits.Is m) = answerOf m 0 0 0
@@ -90,6 +98,9 @@ DeadTold w k q seen todo r seen′ todo′ = By truthTold (λ v. phis.DeadPhi w 
 
 abbrev pub GenTold : List ℕ → List ℕ → List ℕ → Answer → List ℕ → List ℕ → Type 0
 GenTold w seen todo r seen′ todo′ = By truthTold (λ v. phis.GenTold w seen todo v seen′ todo′) r
+
+abbrev pub NeededTold : List ℕ → ℕ → ℕ → ℕ → List ℕ → List ℕ → Answer → List ℕ → List ℕ → Type 0
+NeededTold w regs k q seen todo r seen′ todo′ = By truthTold (λ v. needed.NeededTold w regs k q seen todo v seen′ todo′) r
 
 -- 1, binding; or 0
 abbrev pub globalTold : GlobalAnswer → Answer

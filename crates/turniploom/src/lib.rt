@@ -1,10 +1,10 @@
 // The exported calls: for Rust and C, each answers one `Answer` by value, 0 and its values or a refusal's number and what it also returns.
 ghost use mathlib.Core.Path.{_≡_};
-ghost use Rattle.roles.specs.Answers.{kindsAnswer, roleAnswer, fieldAnswer, writesAnswer};
+ghost use Rattle.roles.specs.Answers.{kindsAnswer, roleAnswer, fieldAnswer, writesAnswer, touchAnswer};
 ghost use Rattle.walks.specs.Answers.{pureAnswer, flatAnswer, guardedAnswer, returnsAnswer};
 ghost use Rattle.surveys.specs.Answers.{writtenAnswer, passedAnswer};
 ghost use Rattle.callee.specs.Answers.{globalAnswer, pushAnswer, stackAnswer};
-ghost use Rattle.turniploom.specs.Answers.{truthTold, kindsTold, roleTold, fieldTold, bitsTold, filledTold, TargetsTold, LoopsTold, DeadTold, GenTold, globalTold, pushTold, stackTold, keptTold as keptAnswered, KeptTold, foldTold, FoldTold, clearTold, ClearTold};
+ghost use Rattle.turniploom.specs.Answers.{truthTold, kindsTold, roleTold, fieldTold, touchTold, bitsTold, filledTold, TargetsTold, LoopsTold, DeadTold, GenTold, NeededTold, globalTold, pushTold, stackTold, keptTold as keptAnswered, KeptTold, foldTold, FoldTold, clearTold, ClearTold};
 ghost use Rattle.optimizer.specs.Fold.{buffers};
 ghost use Rattle.clear.specs.Clear.{buffers as clearable};
 ghost use Rattle.levels.specs.Answers.{levelAnswer};
@@ -23,6 +23,7 @@ use optimizer::FoldAnswer;
 use roles::FieldAnswer;
 use roles::KindsAnswer;
 use roles::RoleAnswer;
+use roles::TouchAnswer;
 use surveys::Bits;
 use surveys::Filled;
 
@@ -135,6 +136,21 @@ pub extern "C" fn turniploom_writes(code: &[u16], at: usize, r: u16) -> Answer
 }
 
 #[no_mangle]
+pub extern "C" fn turniploom_touched(code: &[u16], at: usize) -> Answer
+    ensures { λ r. ⌜ r ≡ touchTold (touchAnswer (now (code .entry)) at) ⌝ }
+{
+    match roles::touched(code, at) {
+        TouchAnswer::Is(t) => code::tell(
+            (t.used / 2) as u64,
+            (t.given / 2) as u64,
+            (t.written / 2) as u64,
+            t.run as u64,
+        ),
+        TouchAnswer::No(r) => code::refused(r),
+    }
+}
+
+#[no_mangle]
 pub extern "C" fn turniploom_pure(code: &[u16]) -> Answer
     ensures { λ r. ⌜ r ≡ truthTold (pureAnswer (now (code .entry))) ⌝ }
 {
@@ -241,6 +257,20 @@ pub extern "C" fn turniploom_stack_callee(code: &[u16], at: usize, count: u16) -
         StackAnswer::Nothing => code::tell(0, 0, 0, 0),
         StackAnswer::No(r) => code::refused(r),
     }
+}
+
+#[no_mangle]
+pub extern "C" fn turniploom_needed(
+    code: &[u16],
+    regs: usize,
+    at: usize,
+    r: u16,
+    seen: &mut [u8],
+    todo: &mut [u32],
+) -> Answer
+    ensures { λ a. ⌜ NeededTold (now (code .entry)) regs at r (now (seen .entry)) (now (todo .entry)) a (now (seen .exit)) (now (todo .exit)) ⌝ }
+{
+    truth(needed::needed(code, regs, at, r, seen, todo))
 }
 
 #[no_mangle]

@@ -2,7 +2,7 @@
 
 use crate::{and, count, notation::{Body, ins_text}};
 use model::{code::is_call, roles, rows};
-use turniploom::{Ins, Kept, Refusal, abi, op};
+use turniploom::{Ins, Kept, Refusal, Touched, abi, op};
 
 /// A body with all that is known of it.
 pub struct View {
@@ -13,12 +13,16 @@ pub struct View {
     pub lines: Vec<Line>,
     pub tries: Vec<(usize, usize)>,
     pub remarks: Vec<String>,
+    /// The registers that no step of a replayed trace read; none if there is no trace.
+    pub unread: Vec<u16>,
 }
 
 pub struct Line {
     pub text: String,
     pub used: Vec<u16>,
     pub given_up: Vec<u16>,
+    /// The positions whose rows it reads.
+    pub after: Vec<usize>,
     /// The registers needed before the instruction.
     pub row: Vec<u16>,
     pub level: Option<Level>,
@@ -51,14 +55,38 @@ impl View {
             let level = found.levels[k].map(|(resume, result)| {
                 Level { resume, result, callee: callee(code, k), kept: parts(&found, k, resume, result, &tries) }
             });
-            Line { text: ins_text(code, k), used, given_up, row: found.row(k), level, notes: notes(code, k, &tries) }
+            Line { text: ins_text(code, k), used, given_up, after: after(code, k), row: found.row(k), level, notes: notes(code, k, &tries) }
         }).collect();
-        lines.push(Line { text: "end".into(), used: vec![], given_up: vec![], row: found.row(n), level: None, notes: notes(code, n, &tries) });
+        lines.push(Line { text: "end".into(), used: vec![], given_up: vec![], after: vec![], row: found.row(n), level: None, notes: notes(code, n, &tries) });
         let columns = columns(&lines, body.registers);
         let width = if body.rows32 { ", rows of 32 bits" } else { "" };
         let heading = format!("{}, {}, {}{width}", count(n, "instruction"), count(body.registers, "register"), count(tries.len(), "try"));
         let remarks = remarks(body, &lines, &found);
-        Ok(View { heading, columns, lines, tries, remarks })
+        Ok(View { heading, columns, lines, tries, remarks, unread: vec![] })
+    }
+
+    /// Lays a recorded day beside the rows: how often each position was visited, and how often each register was read.
+    pub fn replay(&mut self, body: &Body, trace: &[u8]) -> Result<(), Refusal> {
+        let day = turniploom::replay(&body.words(), body.registers, &self.tries, trace)?;
+        let mut visits = vec![0; body.code.len()];
+        for k in turniploom::positions(trace) { visits[k as usize] += 1 }
+        for (line, &visits) in self.lines.iter_mut().zip(&visits) { line.notes.insert(0, visited(visits)) }
+        self.unread = (0..).zip(&day.reads).filter(|r| *r.1 == 0).map(|r| r.0).collect();
+        let reads: Vec<String> = (0..).zip(&day.reads).filter(|r| *r.1 != 0).map(|(r, reads): (u16, _)| format!("r{r} {reads}")).collect();
+        let reads = if reads.is_empty() { "no register".into() } else { reads.join(", ") };
+        self.remarks.insert(0, format!("Replayed: {}, {} met. Read: {reads}.", count(day.steps as usize, "step"), count(day.levels as usize, "level")));
+        let lost: Vec<String> = self.unread.iter().filter(|r| self.lines.iter().any(|l| l.row.contains(r))).map(|r| format!("r{r}")).collect();
+        if !lost.is_empty() { self.remarks.insert(1, format!("Needed by a row and never read on that day: {}.", and(&lost))) }
+        Ok(())
+    }
+}
+
+/// How often a position was visited.
+fn visited(times: u64) -> String {
+    match times {
+        0 => "never visited".into(),
+        1 => "visited once".into(),
+        _ => format!("visited {times} times"),
     }
 }
 
@@ -104,10 +132,13 @@ pub fn tries(body: &Body) -> Result<Vec<(usize, usize)>, Refusal> {
     Ok(body.tries.chunks_exact(2).map(|t| (t[0] as usize, t[1] as usize)).collect())
 }
 
+/// What an instruction by itself touches, as the archive tells it: asked about in a code of its own, since every call tests all that it is lent.
+fn touched(i: &Ins) -> Touched { turniploom::touched(&[Ins::default(), *i, Ins { op: op::ArgsR, ..Ins::default() }], 1).expect("good code") }
+
 /// The registers used and given up, as the row equations have them.
 fn sets(code: &[Ins], k: usize, registers: usize) -> (Vec<u16>, Vec<u16>) {
     if rows::pending(code, k) { return (vec![], vec![]) }
-    let (used, given_up) = rows::touched(&code[k], turniploom::kinds(code, k).expect("good code"));
+    let Touched { used, given_up, .. } = touched(&code[k]);
     let inside = |mut set: Vec<u16>| {
         set.retain(|&r| (r as usize) < registers);
         set.sort();
@@ -151,6 +182,9 @@ fn notes(code: &[Ins], k: usize, tries: &[(usize, usize)]) -> Vec<String> {
     let jumps = |k: usize| roles::jumps(&code[k]);
     let mut notes = vec![];
     if k < n && rows::pending(code, k) { notes.push("pending under the call".into()) }
+    if k < n && let Touched { given_up, written, .. } = touched(&code[k]) && written != given_up {
+        notes.push(if written.is_empty() { "writes nothing".into() } else { format!("writes {}", registers(&written)) });
+    }
     if k < n && jumps(k) {
         let to = code[k].a as usize;
         notes.push(if to > n { format!("to {to}, past the end") } else { format!("to {to}") });
@@ -189,23 +223,26 @@ fn remarks(body: &Body, lines: &[Line], found: &Found) -> Vec<String> {
     let outside = outside(body);
     if !outside.is_empty() { remarks.push(format!("Not below the register count, so never kept: {}.", and(&outside))) }
     remarks.extend(section(&body.code));
-    remarks.push("Uses and gives up: roles by the archive, laid out by the row equations of document 01.".into());
+    remarks.push("Uses and gives up: by the archive, nothing where a value is pending under a call.".into());
     remarks
+}
+
+/// What comes after an instruction.
+fn after(code: &[Ins], k: usize) -> Vec<usize> {
+    let (i, to) = (&code[k], (code[k].a as usize).min(code.len()));
+    match i.op {
+        op::ReturnR => vec![],
+        op::Jump => vec![to],
+        _ if roles::jumps(i) => vec![k + 1, to],
+        _ => vec![k + 1],
+    }
 }
 
 /// The rows of the archive that are not what the sets on their lines make of the rows after.
 fn untrue(body: &Body, lines: &[Line], start: usize) -> Vec<usize> {
     let n = body.code.len();
     (start..n).filter(|&k| {
-        let i = body.code[k];
-        let to = (i.a as usize).min(n);
-        let after: &[usize] = match i.op {
-            op::ReturnR => &[],
-            op::Jump => &[to],
-            _ if roles::jumps(&i) => &[k + 1, to],
-            _ => &[k + 1],
-        };
-        let live = after.iter().flat_map(|&k| &lines[k].row).filter(|r| !lines[k].given_up.contains(r));
+        let live = lines[k].after.iter().flat_map(|&k| &lines[k].row).filter(|r| !lines[k].given_up.contains(r));
         let mut row: Vec<u16> = live.chain(&lines[k].used).copied().collect();
         row.sort();
         row.dedup();

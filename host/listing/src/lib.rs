@@ -7,6 +7,7 @@ pub mod notation;
 pub mod page;
 pub mod refused;
 pub mod text;
+pub mod why;
 
 /// Words joined as in a sentence.
 pub fn and<T: ToString>(words: &[T]) -> String {

@@ -1,24 +1,31 @@
 //! The command of the listing.
 
-use listing::{body, chunk, figures, notation::{self, Text}, page, refused, text};
+use listing::{body, chunk, figures, notation::{self, Text}, page, refused, text, why};
 use std::{env, fs, process::ExitCode};
 
-const USE: &str = "listing FILE [--html PAGE] [--strict] [--wide] [--rows 32]
+const USE: &str = "listing FILE [--html PAGE] [--strict] [--wide] [--rows 32] [--replay TRACE] [--why K R]
 listing --figures FILE.. [--html PAGE]
 FILE has a body or a chunk in the notation of document 01's examples (host/README.md); - is the standard input.
 --figures     tells of many bodies how long their lists are, and which save area a recursion needs
 --html PAGE   writes one self-contained page as well
 --strict      folds a chunk in strict mode
 --wide        takes the wide route, which looks for rows from 0 on
---rows 32     has rows of 32 bits, where more than 32 registers take the wide route";
+--rows 32     has rows of 32 bits, where more than 32 registers take the wide route
+--replay TRACE  lays a recorded day beside the rows: visited positions, and how often each register was read
+--why K R     says whether register R is needed at position K, and by which path";
+
+/// A number, or a register as the listing writes it.
+fn number(word: Option<String>) -> Option<usize> { word?.trim_start_matches('r').parse().ok() }
 
 fn run() -> Result<(), String> {
-    let (mut files, mut html, mut strict, mut wide, mut rows32, mut in_figures) = (vec![], None, false, false, None, false);
+    let (mut files, mut html, mut strict, mut wide, mut rows32, mut in_figures, mut trace, mut asked) =
+        (vec![], None, false, false, None, false, None, None);
     let mut args = env::args().skip(1);
     while let Some(word) = args.next() {
         match word.as_str() {
             "--html" => html = Some(args.next().ok_or("--html wants the name of the page")?),
             "--figures" => in_figures = true,
+            "--replay" => trace = Some(args.next().ok_or("--replay wants the name of the trace")?),
             "--strict" => strict = true,
             "--wide" => wide = true,
             "--rows" => rows32 = Some(match args.next().as_deref() {
@@ -26,6 +33,7 @@ fn run() -> Result<(), String> {
                 Some("64") => false,
                 _ => return Err("--rows wants 32 or 64".into()),
             }),
+            "--why" => asked = Some(number(args.next()).zip(number(args.next())).ok_or("--why wants a position and a register")?),
             _ if word.starts_with("--") => return Err(format!("no option {word}\n{USE}")),
             _ => files.push(word),
         }
@@ -49,9 +57,19 @@ fn run() -> Result<(), String> {
         Text::Body(mut b) => {
             b.wide |= wide;
             b.rows32 = rows32.unwrap_or(b.rows32);
-            let view = body::View::of(&b).map_err(|r| format!("{file}: {}", refused::body(r, &b)))?;
-            (view.heading.clone(), text::body(&view), page::body(&view))
+            let mut view = body::View::of(&b).map_err(|r| format!("{file}: {}", refused::body(r, &b)))?;
+            if let Some(trace) = trace {
+                let bytes = fs::read(&trace).map_err(|e| format!("{trace}: {e}"))?;
+                view.replay(&b, &bytes).map_err(|r| format!("{trace}: {}", refused::body(r, &b)))?;
+            }
+            let mut told = text::body(&view);
+            if let Some((k, r)) = asked {
+                let r = u16::try_from(r).map_err(|_| format!("no register {r}"))?;
+                told += &format!("{}\n", why::why(&b, &view, k, r).map_err(|r| format!("{file}: {}", refused::body(r, &b)))?);
+            }
+            (view.heading.clone(), told, page::body(&view))
         }
+        Text::Chunk(_) if trace.is_some() => return Err(format!("{file}: --replay is for a body, and this is a chunk")),
         Text::Chunk(mut c) => {
             c.strict |= strict;
             let view = chunk::View::of(&c).map_err(|r| format!("{file}: {}", refused::chunk(r, &c)))?;

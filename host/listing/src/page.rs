@@ -1,6 +1,6 @@
 //! The listing as one self-contained page.
 
-use crate::{body::{self, registers}, chunk};
+use crate::{body::{self, registers}, chunk, why};
 use std::fmt::Write;
 
 pub fn escaped(text: &str) -> String { text.replace('&', "&amp;").replace('<', "&lt;").replace('>', "&gt;").replace('"', "&quot;") }
@@ -57,12 +57,17 @@ pub fn body(view: &body::View) -> String {
     }
     out += "</table>\n";
     if drawn && !view.columns.is_empty() { out += LEGEND }
+    if drawn && !view.unread.is_empty() { out += UNREAD }
     out + &remarks(&view.remarks)
 }
 
 const LEGEND: &str = "<p class=\"legend\"><span class=\"cell row\"></span> in the row: needed before the instruction \
 <span class=\"cell\"><i class=\"used\"></i></span> used <span class=\"cell\"><i class=\"given\"></i></span> given up \
 <span class=\"cell kept\"></span> kept for the resume point <span class=\"cell kept handler\"></span> kept for a handler</p>\n";
+
+const UNREAD: &str = "<p class=\"legend\"><span class=\"cell row unread\"></span> needed and never read on that day</p>\n";
+/// How many positions are looked at for what a register is needed for.
+const FAR: usize = 1_000;
 
 /// The cell of a register at a position: in the row or not, used, given up, kept.
 fn cell(view: &body::View, k: usize, r: u16) -> String {
@@ -71,7 +76,11 @@ fn cell(view: &body::View, k: usize, r: u16) -> String {
     let part = l.level.iter().flat_map(|v| &v.kept).find(|p| p.registers.contains(&r));
     let mut class = String::from("cell");
     let mut says = vec![];
-    if row { class += " row"; says.push("needed before it".to_string()) }
+    if row {
+        class += " row";
+        says.push(why::because(view, k, r, FAR).map_or("needed before it".into(), |path| format!("needed before it: {path}")));
+    }
+    if row && view.unread.contains(&r) { class += " unread"; says.push("never read on that day".into()) }
     if used { says.push("used".into()) }
     if given { says.push("given up".into()) }
     if let Some(p) = part {

@@ -57,7 +57,7 @@ pub fn body(view: &body::View) -> String {
         let mut notes = l.notes.clone();
         if let Some(v) = &l.level { notes.insert(0, v.says()) }
         if !drawn { notes.insert(0, format!("[{}]", registers(&l.row))) }
-        let row = if drawn { picture(&view.columns, |r| if l.row.contains(&r) { '●' } else { '·' }) } else { String::new() };
+        let row = if drawn { picture(&view.columns, |r| if !l.row.contains(&r) { '·' } else if view.unread.contains(&r) { '○' } else { '●' }) } else { String::new() };
         line(&k.to_string(), &gutter(view, k, false), [&told[k][0], &told[k][1], &told[k][2]], &row, &notes.join("; "));
         let Some(v) = &l.level else { continue };
         let row = if drawn { picture(&view.columns, |r| kept_mark(v, r)) } else { String::new() };
@@ -72,6 +72,7 @@ pub fn body(view: &body::View) -> String {
 fn legend(view: &body::View) -> String {
     let parts = || view.lines.iter().flat_map(|l| &l.level).flat_map(|v| &v.kept);
     let mut text = String::from("● needed before the instruction");
+    if view.lines.iter().any(|l| l.row.iter().any(|r| view.unread.contains(r))) { text += ", ○ needed and never read on that day" }
     if parts().any(|p| p.handler.is_none()) { text += ", ▲ kept for the resume point" }
     if parts().any(|p| p.handler.is_some() && !p.registers.is_empty()) { text += ", △ kept for a handler" }
     text + "."

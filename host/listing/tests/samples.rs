@@ -1,6 +1,6 @@
 //! The samples: each is listed, and K's listing is README's.
 
-use listing::{body, chunk, figures, notation::{Text, read}, page, text};
+use listing::{body, chunk, figures, notation::{Text, read}, page, text, why};
 use std::{fs, path::Path};
 
 fn source(name: &str) -> String { fs::read_to_string(Path::new(env!("CARGO_MANIFEST_DIR")).join("../../samples").join(name)).unwrap() }
@@ -130,4 +130,27 @@ fn figures_of_many_bodies() {
     let tags = |tag: String| page.matches(&tag).count();
     for tag in ["table", "tr", "td", "i", "p"] { assert_eq!(tags(format!("<{tag}")), tags(format!("</{tag}>")), "{tag}: {page}") }
     assert!(page.contains("title=\"4 levels with a list of 3\"><i style=\"width: 26.00rem\"></i>4</td>"), "{page}");
+}
+
+#[test]
+fn why_a_register_is_needed() {
+    let Text::Body(b) = read(&source("K.txt")).unwrap() else { panic!("a body") };
+    let view = body::View::of(&b).unwrap();
+    let why = |k, r| why::why(&b, &view, k, r).map_err(|r| r.number());
+    assert_eq!(why(1, 0), Ok("r0 is needed at 1: 4 uses it, by way of 2 and 3.".into()));
+    assert_eq!(why(3, 0), Ok("r0 is needed at 3: 4 uses it.".into()));
+    assert_eq!(why(4, 2), Ok("r2 is needed at 4: it uses it.".into()));
+    assert_eq!(why(3, 2), Ok("r2 is not needed at 3.".into()));
+    assert_eq!(why(6, 0), Ok("r0 is not needed at 6.".into()));
+    assert_eq!(why(7, 0), Err(6));
+    assert!(page::body(&view).contains("title=\"r0 at 2: needed before it: 4 uses it, by way of 3, kept\""));
+}
+
+#[test]
+fn what_is_written_stands_where_it_differs() {
+    let (text, _) = shown("registers 4; StoreTopR a1 x1; ForIterR a0 b2; Move a0 b1; ReturnR b0");
+    let line = |start: &str| text.lines().find(|l| l.starts_with(start)).unwrap();
+    assert!(line("0 StoreTopR").contains("writes nothing"), "{text}");
+    assert!(line("1 ForIterR").contains("writes r2"), "{text}");
+    assert!(!line("2 Move").contains("writes"), "{text}");
 }

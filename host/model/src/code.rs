@@ -56,6 +56,9 @@ pub fn tries(words: &[u32], n: usize) -> Checked<Vec<(usize, usize)>> {
 /// Refusal 6.
 pub fn inside(code: &[Ins], at: u64) -> Checked<usize> { holds(at < code.len() as u64, No(6, at, 0)).map(|()| at as usize) }
 
+/// Refusal 6 as `needed` gives it: the end may be asked about.
+pub fn up_to(code: &[Ins], at: u64) -> Checked<usize> { holds(at <= code.len() as u64, No(6, at, 0)).map(|()| at as usize) }
+
 /// Refusal 6 as `passed` gives it.
 pub fn at_call(code: &[Ins], at: u64) -> Checked<usize> {
     let k = inside(code, at)?;

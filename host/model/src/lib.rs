@@ -88,8 +88,18 @@ fn over_code(q: &Question, lent: &mut Lent) -> Checked<[u64; 4]> {
             let (resume, result) = rows::resume(&code, k);
             if rows::level(&code[k]) { [1, resume as u64, result.map_or(65_536, u64::from), 0] } else { [0; 4] }
         }
-        Replay => day::replay(q, &code, lent)?,
         FiguresAdd => figures::add(&code, q.u32("offsets"), q.u16("list").len(), lent.u64("report"))?,
+        Replay => day::replay(q, &code, lent)?,
+        Touched => {
+            let t = roles::touch(&code[at()?]);
+            [t.used.into(), t.given_up.into(), t.written.into(), t.run.into()]
+        }
+        Needed => {
+            let regs = code::registers(q.n("regs"))?;
+            let k = code::up_to(&code, q.n("at"))?;
+            waiting(lent, n)?;
+            yes(rows::needed(&code, regs, k, q.n("r") as u16))
+        }
         call => unreachable!("{call:?} takes no code of block.rs"),
     })
 }

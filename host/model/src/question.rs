@@ -17,7 +17,7 @@ macro_rules! calls {
 
 calls! {
     Kinds, Role, Field, Writes, Pure, Flat, Guarded, Returns, ParamsWritten, Passed, GenPure, DeadPhi, LoopsAround, Targets, GlobalOf, PushedBack,
-    StackCallee, Kept, Fold, Clear, Kept32, Level, SaverMake, SaverEnter, SaverReturn, SaverException, FiguresAdd, FiguresJoin, Replay
+    StackCallee, Kept, Fold, Clear, Kept32, Level, SaverMake, SaverEnter, SaverReturn, SaverException, FiguresAdd, FiguresJoin, Replay, Touched, Needed
 }
 
 pub use Call::*;
@@ -173,6 +173,7 @@ impl Reply {
             SaverEnter => !asked.u16("list").is_empty(),
             FiguresJoin => self.answer.fourth != 0,
             SaverReturn | SaverException => self.lent.buffers[1] != *asked.arg("file"),
+            Touched => self.values()[1..].iter().any(|&v| v != 0),
             _ => first != 0,
         }
     }

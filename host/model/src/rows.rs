@@ -27,20 +27,6 @@ pub fn pending(code: &[Ins], k: usize) -> bool {
     }
 }
 
-/// The registers used and given up by an instruction by itself, whose role is `kinds`.
-pub fn touched(i: &Ins, kinds: u8) -> (Vec<u16>, Vec<u16>) {
-    match i.op {
-        op::ReturnR => (vec![i.b], vec![]),
-        op::StoreTopR => (vec![], vec![i.a]),
-        op::UnpackR => (vec![], unpacked(i)),
-        op::WithEnter if i.x == 2 => (vec![i.c], with(i)),
-        op::WithEnter | op::WithExit => (vec![], with(i)),
-        op::WithJudge if i.x == 1 => (vec![i.a], vec![]),
-        // No role has none of these bits.
-        _ => (fields(i, kinds), if kinds & DEST != 0 { vec![i.a] } else { vec![] }),
-    }
-}
-
 pub fn equation(code: &[Ins], k: usize, regs: usize) -> Equation {
     let i = &code[k];
     let to = (i.a as usize).min(code.len());
@@ -50,7 +36,8 @@ pub fn equation(code: &[Ins], k: usize, regs: usize) -> Equation {
         _ if jumps(i) => vec![k + 1, to],
         _ => vec![k + 1],
     };
-    let (mut used, mut given_up) = if pending(code, k) { (vec![], vec![]) } else { touched(i, kinds(i)) };
+    let touch = touch(i);
+    let (mut used, mut given_up) = if pending(code, k) { (vec![], vec![]) } else { (touch.uses(i), touch.gives_up(i)) };
     used.retain(|&r| (r as usize) < regs);
     given_up.retain(|&r| (r as usize) < regs);
     Equation { used, given_up, after, jump: jumps(i).then_some(i.a as usize) }
@@ -170,3 +157,17 @@ pub fn kept(code: &[Ins], found: &Rows, tries: &[(usize, usize)], early: bool) -
 
 /// The jumps to their own position or back. There are at most two full sweeps more.
 pub fn jumps_back(code: &[Ins]) -> usize { code.iter().enumerate().filter(|(k, i)| jumps(i) && i.a as usize <= *k).count() }
+
+/// Whether some path from `k` uses `r` before it gives it up.
+pub fn needed(code: &[Ins], regs: usize, k: usize, r: u16) -> bool {
+    let mut reached = vec![false; code.len() + 1];
+    let mut next = vec![k];
+    while let Some(j) = next.pop() {
+        if j >= code.len() || reached[j] { continue }
+        reached[j] = true;
+        let e = equation(code, j, regs);
+        if e.used.contains(&r) { return true }
+        if !e.given_up.contains(&r) { next.extend(e.after) }
+    }
+    false
+}

@@ -90,11 +90,32 @@ fn over_code(q: &Question, reply: &mut Reply) -> Option<()> {
             let (resume, result) = rust::after(&code, at());
             if rust::level_at(&code[at()]) { [1, resume as u64, result.map_or(65_536, u64::from), 0] } else { [0; 4] }
         }
+        Touched => touched(&code[at()], reply),
+        // Its rows are one word each.
+        Needed if q.n("regs") > 64 => return None,
+        Needed => [u64::from(u64::from(r()) < q.n("regs")) & rust::live_rows(&code, q.n("regs") as usize, 0)[at()] >> (r() % 64), 0, 0, 0],
         call => unreachable!("{call:?} takes no code of block.rs"),
     };
     let a = &mut reply.answer;
     (a.first, a.second, a.third, a.fourth) = (values[0], values[1], values[2], values[3]);
     Some(())
+}
+
+/// What an instruction touches, read off its `writes` and its rows, with each field a register of its own. What it gives up and uses too, or gives up
+/// where nothing comes after it, does not show in a row.
+fn touched(i: &lower::Ins, reply: &Reply) -> [u64; 4] {
+    let i = lower::Ins { a: if i.a == 0 { 0 } else { 40 }, b: 10, c: 20, ..*i };
+    let fields = |named: &dyn Fn(u16) -> bool| -> u64 { [i.a, i.b, i.c].iter().enumerate().map(|(f, &r)| u64::from(named(r)) << f).sum() };
+    let used = |r: u16| rust::live_rows(&[i], 64, 0)[0] >> r & 1 != 0;
+    let given_up = |r: u16| {
+        let reader = lower::Ins { op: opcode(op::PushRegs, 0), a: r, b: r, c: r, x: 1, wide: false };
+        rust::live_rows(&[i, reader], 64, 0)[0] >> r & 1 == 0
+    };
+    let run = if rust::writes(&i, i.b + 1) { (i.b..i.c).take_while(|&r| rust::writes(&i, r) && given_up(r)).count() as u64 } else { 0 };
+    let single = |r: u16| r != i.b || run == 0;
+    let hidden = if matches!(number(i.op), op::ReturnR | op::Jump) { 7 } else { fields(&used) };
+    let given = fields(&|r| single(r) && given_up(r)) & !hidden | reply.answer.second & hidden;
+    [fields(&used), given, fields(&|r| single(r) && rust::writes(&i, r)), run]
 }
 
 /// The lists, and for up to 64 registers the rows, in words of the call's width. The Rust counts no sweeps.

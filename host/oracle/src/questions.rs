@@ -25,6 +25,7 @@ fn registers(rng: &mut Rng, call: Call) -> usize {
         Kept32 => rng.weighted(&[
             (1, 0), (1, 1), (4, 4), (8, 8), (2, 31), (3, 32), (3, 33), (2, 34), (2, 63), (3, 64), (2, 65), (1, 96), (1, 97), (1, 500), (1, 1_024),
         ]),
+        Needed => rng.weighted(&[(1, 0), (1, 1), (6, 4), (6, 8), (2, 64), (2, 65), (1, 1_024)]),
         GlobalOf | PushedBack | DeadPhi => 3,
         _ => rng.pick(&[3, 6, 6, 12, 70]),
     }
@@ -197,7 +198,7 @@ fn short_codes(rng: &mut Rng, call: Call, take: &mut dyn FnMut(Question)) {
         for at in 0..positions {
             let regs = rng.pick(&[3, 3, call.row_bits(), call.row_bits() + 1]);
             let mut q = ask(rng, call, &code, words.clone(), regs);
-            if positions > 1 { q.args[1] = Arg::N(at as u64) }
+            if let Some(k) = call.params().iter().position(|p| p.name == "at") { q.args[k] = Arg::N(at as u64) }
             take(q);
         }
     }
@@ -232,7 +233,7 @@ pub fn systematic(rng: &mut Rng, call: Call, take: &mut dyn FnMut(Question)) {
         _ if call.saves() => return saver::systematic(rng, call, take),
         _ => {}
     }
-    if matches!(call, Kinds | Role | Field | Writes | Level) { every_opcode(rng, call, take) }
+    if matches!(call, Kinds | Role | Field | Writes | Level | Touched) { every_opcode(rng, call, take) }
     if call == StackCallee { many_pushed(take) }
     if call == Replay { traces::systematic(take) }
     short_codes(rng, call, take);

@@ -54,11 +54,10 @@ fn wanted(rng: &mut Rng, call: Call, kind: Shows) -> String {
 }
 
 /// The record of a small question, if the Rust answers it as the model does, or if the model alone decides it: a refusal, and
-/// what the Rust does not have, strict mode and calls of the port alone.
+/// what the Rust does not have, strict mode and some calls.
 fn record(q: &Question) -> Option<(String, Shows)> {
     let params = q.call.params();
-    let most = |a: &Arg| if matches!(a, Arg::U8(_)) { 64 + BLOCK } else { 64 };
-    let long = |(p, a): (&Param, &Arg)| p.kind.fixed().is_none() && a.numbers().len() > most(a);
+    let long = |(p, a): (&Param, &Arg)| p.kind.fixed().is_none() && a.numbers().len() > if p.name == "trace" { 64 + BLOCK } else { 64 };
     if q.code().len() > INSTRUCTIONS * q.call.stride() || params.iter().zip(&q.args).any(long) { return None }
     let reply = model::ask(q);
     let shows = if reply.answer.refusal != 0 { Refused } else if reply.telling(q) { Telling } else { Plain };

@@ -41,10 +41,8 @@ impl Shrink<'_> {
         let stride = self.best.call.stride();
         let mut whole = self.best.clone();
         let tail = whole.code().len() % stride;
-        if tail != 0 {
-            shorten(&mut whole.args[0], tail);
-            self.offer(whole);
-        }
+        if tail != 0 { shorten(&mut whole.args[0], tail) }
+        self.offer(whole);
         let mut run = (self.best.code().len() / stride).max(1);
         loop {
             let mut k = 0;

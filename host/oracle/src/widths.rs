@@ -1,5 +1,5 @@
-//! What must hold of a kept-register reply, whoever gave it: the call of the other width tells the same lists, and there are no more sweeps
-//! than the host is told before the call.
+//! What must hold of a reply, whoever gave it. Of a kept-register call: the call of the other width tells the same lists, and there are no more
+//! sweeps than the host is told before the call. Of `needed`: the rows say the same.
 
 use crate::{compare::{Ask, shown}, model::{code, rows}, question::*};
 use turniploom::most_sweeps;
@@ -22,8 +22,22 @@ fn lists(reply: &Reply) -> (u8, u64, u64, &[Arg]) {
     (a.refusal, a.first, needed, &reply.lent.buffers[1..])
 }
 
+/// The forced wide route's row at the position, if it says otherwise of the register. The list has no room, so the call stops once the rows are found.
+fn unlike_row(q: &Question, reply: &Reply, ask: Ask) -> Option<(&'static str, String)> {
+    if reply.answer.refusal != 0 { return None }
+    let (ends, words) = (q.u16("code").len() / 6 + 1, rows::words(q.n("regs") as usize, 64));
+    let mut kept = ask(&Question::of(Kept, [
+        ("code", q.arg("code").clone()), ("regs", q.arg("regs").clone()), ("wide", Arg::N(1)),
+        ("rows", Arg::U64(vec![0; ends * words])), ("offsets", Arg::U32(vec![0; ends])),
+    ]));
+    let (k, r) = (q.n("at") as usize, q.n("r") as usize);
+    let bit = kept.lent.u64("rows")[k * words..][..words].get(r / 64).map_or(0, |w| w >> (r % 64) & 1);
+    (bit != reply.answer.first).then(|| ("the row", format!("{bit} in the row of {k}")))
+}
+
 /// Who says otherwise, and what.
 pub fn broken(q: &Question, reply: &Reply, ask: Ask) -> Option<(&'static str, String)> {
+    if q.call == Needed { return unlike_row(q, reply, ask) }
     if !q.call.keeps() { return None }
     let other = ask(&other(q));
     if lists(&other) != lists(reply) { return Some(("the other width", shown(&other))) }

@@ -176,6 +176,74 @@ pub fn stack_callee(ins: &(impl Code + ?Sized), j: usize, n: u16) -> Result<Opti
     Ok((found.first != 0).then_some((found.second as usize, found.third as u16)))
 }
 
+/// The registers that an instruction by itself touches.
+#[derive(Clone, Debug, PartialEq, Eq)]
+#[non_exhaustive]
+pub struct Touched {
+    /// Those it uses, as the rows have it.
+    pub used: Vec<u16>,
+    /// Those it gives up, as the rows have it: what they held is not needed before it, unless it is used too.
+    pub given_up: Vec<u16>,
+    /// Those it writes, as [`writes`] has it.
+    pub written: Vec<u16>,
+}
+
+/// What the instruction at `k` by itself uses, gives up and writes. A push or a restore of a value that is pending under a call touches no
+/// register in the rows; that hangs on what stands around it, and is not told here.
+///
+/// A StoreTopR with `x` not 0 gives up its register and writes none:
+///
+/// ```
+/// use turniploom::{Lowered, marked, op::*, touched};
+/// let code = marked(&[Lowered::new(StoreTopR, 3, 0, 0, 1), Lowered::new(WithEnter, 0, 5, 2, 2)], |_| false);
+/// let store = touched(&code, 0)?;
+/// assert_eq!((&store.used[..], &store.given_up[..], &store.written[..]), (&[][..], &[3][..], &[][..]));
+/// let enter = touched(&code, 1)?;
+/// assert_eq!((&enter.used[..], &enter.given_up[..], &enter.written[..]), (&[2][..], &[5, 6][..], &[5, 6][..]));
+/// # Ok::<(), turniploom::Refusal>(())
+/// ```
+///
+/// # Errors
+///
+/// [`Refusal::Code`] or [`Refusal::Record`] for bad code, [`Refusal::Position`] for a position at its end or beyond.
+pub fn touched(ins: &(impl Code + ?Sized), k: usize) -> Result<Touched, Refusal> {
+    let told = abi::touched(ins.words(), k).granted()?;
+    let fields: [u16; 3] = [0, 1, 2].map(|f| ins.words()[6 * k + 2 + f]);
+    let named = |bits: u64| fields.into_iter().enumerate().filter(move |(f, _)| bits >> f & 1 != 0).map(|(_, r)| r);
+    let run = || (0..told.fourth as u16).map(|j| fields[1] + j);
+    Ok(Touched { used: named(told.first).collect(), given_up: named(told.second).chain(run()).collect(), written: named(told.third).chain(run()).collect() })
+}
+
+/// Whether register `r` of a code with `regs` registers is needed at `k`: some path from there uses it before it gives it up. It is what the
+/// finished rows have there, found without them. The end may be asked about; no register is needed there, and none that is not below `regs`.
+///
+/// Code K of document 01: register 0 is needed until the sum reads it.
+///
+/// ```
+/// use turniploom::{Lowered, Refusal, marked, needed, op::*};
+/// let k = [
+///     Lowered::new(LoadGlobalR, 0, 7, 0, 0),
+///     Lowered::new(LoadGlobalR, 1, 9, 0, 0),
+///     Lowered::new(CallR, 1, 0, 0, 0),
+///     Lowered::new(StoreTopR, 2, 0, 0, 0),
+///     Lowered::new(AddR, 3, 0, 2, 0),
+///     Lowered::new(ReturnR, 0, 3, 0, 0),
+/// ];
+/// let k = marked(&k, |_| false);
+/// let at: Vec<bool> = (0..=6).map(|p| needed(&k, 4, p, 0)).collect::<Result<_, _>>()?;
+/// assert_eq!(at, [false, true, true, true, true, false, false]);
+/// assert_eq!(needed(&k, 4, 7, 0), Err(Refusal::Position { position: 7 }));
+/// # Ok::<(), Refusal>(())
+/// ```
+///
+/// # Errors
+///
+/// [`Refusal::Code`] or [`Refusal::Record`] for bad code, [`Refusal::Registers`] for more than 1,024 registers, [`Refusal::Position`] for a position
+/// beyond the end.
+pub fn needed(ins: &(impl Code + ?Sized), regs: usize, k: usize, r: u16) -> Result<bool, Refusal> {
+    truth(abi::needed(ins.words(), regs, k, r, &mut vec![0; length(ins)], &mut vec![0; length(ins)]))
+}
+
 /// The rows of a code, the registers kept at each level, and the sweeps that found them. A word of a row is a `u64`, or for [`kept32`] a `u32`.
 #[derive(Clone, Debug, PartialEq, Eq)]
 #[non_exhaustive]

@@ -38,6 +38,12 @@ pub fn replay(ins: &(impl Code + ?Sized), regs: usize, tries: &[(usize, usize)],
     Ok(Day { steps: told.first, levels: told.second, reads })
 }
 
+/// The positions of a trace, up to its first filler. [`replay`] says whether they are a run.
+pub fn positions(trace: &[u8]) -> impl Iterator<Item = u32> {
+    let entries = trace.chunks_exact(512).flat_map(|block| block[..4 * POSITIONS].chunks_exact(4));
+    entries.map(|e| u32::from_le_bytes([e[0], e[1], e[2], e[3]])).take_while(|&position| position != u32::MAX)
+}
+
 /// The positions of a block.
 const POSITIONS: usize = 127;
 

@@ -34,7 +34,7 @@ mod trace;
 
 pub use calls::*;
 pub use chunk::*;
-pub use day::{Block, Day, replay};
+pub use day::{Block, Day, positions, replay};
 pub use figures::{Figures, Longest};
 pub use ins::{Code, DUNDER, Ins, Lowered, REGISTER, WIDE, marked};
 pub use level::{Level, level};

@@ -55,16 +55,6 @@ pub enum Refusal {
     },
     /// 9: a call is left, and none is entered.
     Nothing,
-    /// 13: a total would pass 64 bits.
-    Total {
-        /// The first such: 1 bodies, 2 levels, 3 kept registers, 4 the number of the body with the longest list, moved up.
-        total: u64,
-    },
-    /// 14: a list has a register that is not in the file, or that stands in it before.
-    Listed {
-        /// Its place in the list, the first such.
-        place: u64,
-    },
     /// 10: a block of a trace is cut short, or its check is wrong.
     Check {
         /// The first such block.
@@ -79,6 +69,16 @@ pub enum Refusal {
     Move {
         /// The first such step.
         step: u64,
+    },
+    /// 13: a total would pass 64 bits.
+    Total {
+        /// The first such: 1 bodies, 2 levels, 3 kept registers, 4 the number of the body with the longest list, moved up.
+        total: u64,
+    },
+    /// 14: a list has a register that is not in the file, or that stands in it before.
+    Listed {
+        /// Its place in the list, the first such.
+        place: u64,
     },
     /// 15: the offsets do not begin at 0, fall, give a list to a place that is no level, or do not end at the list's length.
     Offsets {
@@ -100,11 +100,11 @@ impl Refusal {
             Refusal::Table { .. } => 7,
             Refusal::Room { .. } => 8,
             Refusal::Nothing => 9,
-            Refusal::Total { .. } => 13,
-            Refusal::Listed { .. } => 14,
             Refusal::Check { .. } => 10,
             Refusal::Filler { .. } => 11,
             Refusal::Move { .. } => 12,
+            Refusal::Total { .. } => 13,
+            Refusal::Listed { .. } => 14,
             Refusal::Offsets { .. } => 15,
         }
     }
@@ -121,11 +121,11 @@ impl Refusal {
             Refusal::Table { .. } => "a table of the chunk breaks its rule",
             Refusal::Room { .. } => "the save area has no room for the entry",
             Refusal::Nothing => "nothing is saved: no call is entered that could be left",
-            Refusal::Total { .. } => "a total would pass 64 bits",
-            Refusal::Listed { .. } => "a listed register is not in the file, or is listed twice",
             Refusal::Check { .. } => "a block of the trace is cut short, or its check is wrong",
             Refusal::Filler { .. } => "the trace has a filler before a position",
             Refusal::Move { .. } => "the trace does not begin at 0, or takes a step that the code does not allow",
+            Refusal::Total { .. } => "a total would pass 64 bits",
+            Refusal::Listed { .. } => "a listed register is not in the file, or is listed twice",
             Refusal::Offsets { .. } => "the offsets are not those of this code and its list",
         }
     }
@@ -229,11 +229,11 @@ impl Answer {
             7 => Refusal::Table { table: first },
             8 => Refusal::Room { free: first },
             9 => Refusal::Nothing,
-            13 => Refusal::Total { total: first },
-            14 => Refusal::Listed { place: first },
             10 => Refusal::Check { block: first },
             11 => Refusal::Filler { block: first },
             12 => Refusal::Move { step: first },
+            13 => Refusal::Total { total: first },
+            14 => Refusal::Listed { place: first },
             15 => Refusal::Offsets { place: first },
             other => panic!("no refusal has the number {other}: the archive is of another version"),
         })
@@ -253,6 +253,9 @@ impl fmt::Display for Refusal {
             Refusal::Table { table } => write!(f, "table {table} of the chunk breaks its rule"),
             Refusal::Room { free } => write!(f, "the save area has {free} free words, fewer than twice the list plus two"),
             Refusal::Nothing => f.write_str(self.rule()),
+            Refusal::Check { block } => write!(f, "block {block} of the trace is cut short, or its check is wrong"),
+            Refusal::Filler { block } => write!(f, "block {block} of the trace has a position after a filler"),
+            Refusal::Move { step } => write!(f, "step {step} of the trace is none that the code allows"),
             Refusal::Total { total } => {
                 let what = match total {
                     1 => "bodies",
@@ -264,9 +267,6 @@ impl fmt::Display for Refusal {
             }
             Refusal::Offsets { place } => write!(f, "at {place} the offsets fall, do not run from 0 to the list's length, or give a list to what is no level"),
             Refusal::Listed { place } => write!(f, "the register at place {place} of the list is not in the file, or stands before it too"),
-            Refusal::Check { block } => write!(f, "block {block} of the trace is cut short, or its check is wrong"),
-            Refusal::Filler { block } => write!(f, "block {block} of the trace has a position after a filler"),
-            Refusal::Move { step } => write!(f, "step {step} of the trace is none that the code allows"),
         }
     }
 }

@@ -85,4 +85,12 @@ calls! {
     /// the end alone, and the sum of the 508 bytes, each times its place from 1. reads needs an entry for each register, and then holds how
     /// many steps used it. A trace that is no run of the code is refused, and nothing is written.
     replay(code: &[u16], regs: usize, tries: &[u32], trace: &[u8], reads: &mut [u64]) -> { first: "steps", second: "levels met" };
+    /// What an instruction by itself touches: registers used and given up as the rows have them, and written as writes has them.
+    touched(code: &[u16], at: usize) -> {
+        first: "the fields it uses, bit 0 a, 1 b, 2 c", second: "the fields it gives up", third: "the fields it writes",
+        fourth: "how many registers from b on it gives up and writes besides: 0, 2 or 5"
+    };
+    /// Whether register r is needed at a position: some path from there uses it before it gives it up. The end may be asked about, where none is.
+    /// seen and todo are n + 1 long, and 0 after an answer.
+    needed(code: &[u16], regs: usize, at: usize, r: u16, seen: &mut [u8], todo: &mut [u32]) -> { first: "1 if so, else 0" };
 }

@@ -37,6 +37,9 @@ fn no_call_allocates() {
     assert_eq!(abi::kinds(code, 4).first, 13);
     assert_eq!(abi::role(code, 4).third, 6);
     assert_eq!(abi::global_of(code, 2).second, 9);
+    let touched = abi::touched(code, 3);
+    assert_eq!((touched.first, touched.second, touched.third, touched.fourth), (0, 1, 1, 0));
+    assert_eq!((abi::needed(code, 4, 2, 0, &mut seen, &mut todo).first, seen, todo), (1, [0; 7], [0; 7]));
     assert_eq!((abi::gen_pure(code, &mut seen, &mut todo).first, seen, todo), (1, [0; 7], [0; 7]));
     assert_eq!((abi::loops_around(code, &mut depths).refusal, depths), (0, [0; 7]));
     assert_eq!(abi::kept(code, 4, &[1, 5], false, &mut rows, &mut offsets, &mut list).first, 2);

@@ -51,7 +51,9 @@ impl Stacks {
         self.make("passed", || abi::passed(code, at, 64));
         self.make("global_of", || abi::global_of(code, at));
         self.make("level", || abi::level(code, at));
+        self.make("touched", || abi::touched(code, at));
         for r in [0, 1, 1_023] {
+            for regs in [2, 1_024] { self.make("needed", || abi::needed(code, regs, at, r, &mut seen, &mut todo)); }
             self.make("writes", || abi::writes(code, at, r));
             self.make("pushed_back", || abi::pushed_back(code, at, r));
             self.make("stack_callee", || abi::stack_callee(code, at, r));

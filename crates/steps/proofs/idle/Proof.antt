@@ -1,6 +1,6 @@
 -- `steps::idle` meets its contract: a push, a restore, or neither. Assumes nothing.
 use borrow.Author.Needs.{needs}
-use Rattle.steps.proofs.After.{pending}
+use Rattle.steps.proofs.Follows.{pending}
 use Rattle.steps.proofs.idle.Statement.{statement}
 use Rattle.steps.proofs.idle.Tie as tie
 

@@ -1,6 +1,6 @@
 -- `steps::over_pending` meets its contract. Assumes nothing.
 use borrow.Author.Needs.{needs}
-use Rattle.steps.proofs.After.{none-before, one-before}
+use Rattle.steps.proofs.Follows.{none-before, one-before}
 use Rattle.steps.proofs.over_pending.Statement.{statement}
 use Rattle.steps.proofs.over_pending.Tie as tie
 

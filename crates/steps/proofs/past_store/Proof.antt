@@ -1,7 +1,7 @@
 -- `steps::past_store` meets its contract. Assumes nothing.
 use borrow.Author.Needs.{needs}
 use native.Mathlib.Omega.{arith}
-use Rattle.steps.proofs.After.{store-le, past-is}
+use Rattle.steps.proofs.Follows.{store-le, past-is}
 use Rattle.steps.proofs.past_store.Statement.{statement}
 use Rattle.steps.proofs.past_store.Tie as tie
 

@@ -1,6 +1,6 @@
 -- `steps::step_at` meets its contract. Assumes nothing.
 use borrow.Author.Needs.{needs}
-use Rattle.steps.proofs.After.{step-is}
+use Rattle.steps.proofs.Follows.{step-is}
 use Rattle.steps.proofs.step_at.Statement.{statement}
 use Rattle.steps.proofs.step_at.Tie as tie
 
@@ -10,8 +10,8 @@ ins-in-requires c κs = search needs
 kinds-of-requires : tie.Need-kinds-of-requires
 kinds-of-requires c κs = search needs
 
-effect-at-requires : tie.Need-effect-at-requires
-effect-at-requires c κs = search needs
+touch-at-requires : tie.Need-touch-at-requires
+touch-at-requires c κs = search needs
 
 cast-least : tie.Need-cast-least
 cast-least c = search needs
@@ -28,7 +28,7 @@ step-at-spec =
     (tie.spec
     ins-in-requires
     kinds-of-requires
-    effect-at-requires
+    touch-at-requires
     cast-least
     least-requires
     returns)

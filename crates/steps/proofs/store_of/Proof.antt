@@ -1,6 +1,6 @@
 -- `steps::store_of` meets its contract. Assumes nothing.
 use borrow.Author.Needs.{needs}
-use Rattle.steps.proofs.After.{wide-store, next-store}
+use Rattle.steps.proofs.Follows.{wide-store, next-store}
 use Rattle.steps.proofs.store_of.Statement.{statement}
 use Rattle.steps.proofs.store_of.Tie as tie
 

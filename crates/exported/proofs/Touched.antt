@@ -1,0 +1,57 @@
+-- What an instruction touches, from an answer with refusal 0: the bits name the three sets. Assumes nothing.
+use mathlib.Core.Path.{_≡_, refl, sym, ap, _∙_}
+use mathlib.Core.Bool.{Bool}
+use mathlib.Core.List.{List, _++_}
+use Prim.Native.Nat.{ℕ, _*_, _/_, _%_}
+use native.Mathlib.Omega.{arith}
+use lib.Dec.{eqb}
+use Rattle.code.specs.Ins.{insAt}
+use Rattle.code.specs.Check.{checkOf, insideOf}
+use Rattle.code.specs.Answers.{asked}
+use Rattle.code.specs.declared.Answer.{Answer}
+use Rattle.code.specs.declared.Checked.{Checked}
+use Rattle.code.specs.declared.Checked.the-variants.{Count, No}
+use Rattle.code.specs.declared.Ins.{Ins}
+use Rattle.roles.specs.Answers.{touchAnswer}
+use Rattle.roles.specs.Kinds.{a, b, c, has}
+use Rattle.roles.specs.Sets.{only, from}
+use Rattle.roles.specs.Touch.{named, touchOf, Touches}
+use Rattle.roles.specs.declared.Touch.{Touch}
+use Rattle.roles.specs.declared.TouchAnswer.{TouchAnswer}
+use Rattle.roles.specs.declared.TouchAnswer.the-variants as touch
+use Rattle.roles.proofs.Cases.{touches}
+use Rattle.turniploom.specs.Answers.{touchTold}
+use Rattle.exported.specs.Told.{fieldsOf, TouchedHolds}
+use Rattle.exported.proofs.Answered.{refused-not}
+
+-- a mask's bits from the second on are those of its half, doubled
+halved : (m x y z : ℕ) → named (2 * (m / 2)) x y z ≡ named m x y z
+halved m x y z = rw (bit-a, bit-b, bit-c)
+  where
+    bit-a : 2 * (m / 2) / 2 ≡ m / 2
+    bit-a = omega arith
+
+    bit-b : 2 * (m / 2) / 4 ≡ m / 4
+    bit-b = omega arith
+
+    bit-c : 2 * (m / 2) / 8 ≡ m / 8
+    bit-c = omega arith
+
+holds : (i : Ins) (t : Touch) → Touches i t → TouchedHolds i (touchTold (touch.Is t))
+holds i t x =
+    record {
+      used = halved (t .used) (i .a) (i .b) (i .c) ∙ x .used;
+      given = ap (λ (l : List ℕ). l ++ from (i .b) (t .run)) (halved (t .given) (i .a) (i .b) (i .c)) ∙ x .given;
+      written = ap (λ (l : List ℕ). l ++ from (i .b) (t .run)) (halved (t .written) (i .a) (i .b) (i .c)) ∙ x .written;
+    }
+
+pub touched-holds : (w : List ℕ) (at : ℕ) (r : Answer) → r ≡ touchTold (touchAnswer w at) → r .refusal ≡ 0 → TouchedHolds (insAt w at) r
+unfolding touchAnswer
+touched-holds w at r e z = go (insideOf (checkOf w) at) refl
+  where
+    told : Checked → Answer
+    told v = touchTold (asked v touch.No (touch.Is (touchOf (insAt w at))))
+
+    go : (v : Checked) → insideOf (checkOf w) at ≡ v → TouchedHolds (insAt w at) r
+    go (No q) h = absurd (refused-not q (sym (ap (λ (s : Answer). s .refusal) (e ∙ ap told h)) ∙ z))
+    go (Count n) h = rw (e ∙ ap told h) (holds (insAt w at) (touchOf (insAt w at)) (touches (insAt w at)))

@@ -1,0 +1,5 @@
+pub mod Rows
+pub mod Loop
+pub mod Given
+pub mod Answer
+pub mod Telling

@@ -1,0 +1,23 @@
+-- `needed::gives` meets its contract. Assumes nothing.
+use borrow.Author.Needs.{needs}
+use Rattle.needed.proofs.Given.{given-is}
+use Rattle.needed.proofs.gives.Statement.{statement}
+use Rattle.needed.proofs.gives.Tie as tie
+
+names-requires : tie.Need-names-requires
+names-requires c κs = search needs
+
+cast-b : tie.Need-cast-b
+cast-b c = search needs
+
+cast-run : tie.Need-cast-run
+cast-run c = search needs
+
+add-result : tie.Need-add-result
+add-result c = search needs
+
+returns : tie.Need-returns
+returns c = search given-is
+
+pub gives-spec : {M : Type 1} → statement M
+gives-spec = tie.close (tie.spec names-requires cast-b cast-run add-result returns)

@@ -1,0 +1,10 @@
+-- `needed::names` meets its contract. Assumes nothing.
+use Rattle.roles.proofs.Written.{among-named}
+use Rattle.needed.proofs.names.Statement.{statement}
+use Rattle.needed.proofs.names.Tie as tie
+
+returns : tie.Need-returns
+returns c = search among-named
+
+pub names-spec : {M : Type 1} → statement M
+names-spec = tie.close (tie.spec returns)

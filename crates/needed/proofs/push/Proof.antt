@@ -1,0 +1,50 @@
+-- `needed::push` meets its contract. Assumes nothing.
+use borrow.Author.Needs.{needs}
+use mathlib.Core.Path.{_≡_}
+use mathlib.Core.Bool.{Bool, true, false}
+use mathlib.Core.List.{List}
+use Prim.Native.Nat.{ℕ, _+_}
+use native.Mathlib.Omega.{arith}
+use lib.ListN.{set}
+use mir.Val.{boolByte}
+use Rattle.paths.specs.Search.{pushed}
+use Rattle.needed.proofs.push.Statement.{statement}
+use Rattle.needed.proofs.push.Tie as tie
+
+module _ (todo : List ℕ) (top t : ℕ) (y : Bool) where
+  on-top : y ≡ true → top + 1 ≡ top + boolByte y
+  on-top e = rw e
+
+  on-list : y ≡ true → set todo top t ≡ pushed todo top t y
+  unfolding pushed
+  on-list e = rw e
+
+  off-top : y ≡ false → top ≡ top + boolByte y
+  off-top e = rw e (omega arith)
+
+  off-list : y ≡ false → todo ≡ pushed todo top t y
+  unfolding pushed
+  off-list e = rw e
+
+ruleset cases = (on-top, on-list, off-top, off-list)
+
+mul-todo : tie.Need-mul-todo
+mul-todo c = search needs
+
+slice-write-todo : tie.Need-slice-write-todo
+slice-write-todo c = search needs
+
+add-result : tie.Need-add-result
+add-result c = search needs
+
+same-length : tie.Need-same-length
+same-length c = search needs
+
+returns : tie.Need-returns
+returns c = search cases
+
+returns-2 : tie.Need-returns-2
+returns-2 c = search cases
+
+pub push-spec : {M : Type 1} → statement M
+push-spec = tie.close (tie.spec mul-todo slice-write-todo add-result same-length returns returns-2)

@@ -1,0 +1,3 @@
+pub mod Path
+pub mod Asked
+pub mod Answers

@@ -1,4 +1,5 @@
 //! A recorded day through the crate: long traces, blocks at their edges, and readers that fail.
+#![cfg(feature = "std")]
 
 use std::{io, time::Instant};
 use turniploom::{Block, Ins, Recorder, Refusal, Unread, op::*, positions, replay, replay_from};

@@ -163,7 +163,7 @@ module _ (strict : Bool) (tries : List ℕ) (s t : Chunk) (n : ℕ) (c : n ≡ c
 
 -- ---- what the record rules say of an accepted chunk
 
-accepted-at : (n : ℕ) (w : List ℕ) → checkOf w ≡ Count n → (k : ℕ) → k < count w → rules (opAt w k) (markAt w k) ≡ true
+pub accepted-at : (n : ℕ) (w : List ℕ) → checkOf w ≡ Count n → (k : ℕ) → k < count w → rules (opAt w k) (markAt w k) ≡ true
 unfolding checkOf
 accepted-at n w e k h = go (uneven w) refl (ltb (firstBad w) (count w)) refl e
   where
@@ -193,10 +193,10 @@ module _ (o marks : ℕ) (e : rules o marks ≡ true) where
   unfolding rules
   kept = and-true (leb o last && leb marks 3 && jumpKept o jump) (namesKept o jump naming) e .1
 
-  rule-const : eqb o LoadConst ≡ true → naming ≡ true
+  pub rule-const : eqb o LoadConst ≡ true → naming ≡ true
   rule-const h = or-left (eqb o LoadConst) naming (and-true (not (eqb o LoadConst) || naming) (not naming || not (jump || eqb o Phi || folds o)) kept .0) h
 
-  rule-both : naming ≡ true → (jump ≡ false) × (eqb o Phi ≡ false)
+  pub rule-both : naming ≡ true → (jump ≡ false) × (eqb o Phi ≡ false)
   rule-both h =
       let d = or-left naming (not (jump || eqb o Phi || folds o)) (and-true (not (eqb o LoadConst) || naming) (not naming || not (jump || eqb o Phi || folds o)) kept .1) h in
       or-false jump (eqb o Phi) (not-or (jump || eqb o Phi) (folds o) d)

@@ -27,6 +27,7 @@ use Rattle.clear.specs.Clear as clearing
 use Rattle.refold.specs.Lending.{Lending}
 use Rattle.refold.specs.Lendable.{cutAt, countsLeft, clearable, clearedBuffers, withConstants, countsCleared}
 use Rattle.refold.specs.Refolded.{RefoldedAll}
+use Rattle.runs.specs.Rule.{Rule}
 use Rattle.runs.specs.Kept.{Same}
 use Rattle.exported.specs.Calls.{Lists, FoldCall, ClearCall}
 
@@ -139,6 +140,19 @@ abbrev pub RunsKept : Lending → Answer → Lending → Type 0
 RunsKept b r a =
     Same (b .buffers .code) (b .buffers .kinds) (b .buffers .words) (chunk.count (b .buffers .code))
     (a .buffers .code) (a .buffers .kinds) (a .buffers .words) (r .first)
+
+-- the same of clearing by itself, which leaves such a chunk again
+pub record ClearsKept (b : clearing.Buffers) (r : Answer) (a : clearing.Buffers) : Type 0 where
+  pub same : Same (b .code) (b .kinds) (b .words) (chunk.count (b .code)) (a .code) (a .kinds) (a .words) (chunk.count (b .code))
+  pub rule : Rule (a .code) (r .first)
+
+-- what a fold left is cleared, the code cut at the answered count and the constants as answered: it ends as b did; and so does what a strict fold of
+-- that leaves
+abbrev pub RunsCleared : Lending → Counts → Answer → Lending → Type 0
+RunsCleared b c r a =
+    (scratch : List ℕ) (s : Answer) (x : clearing.Buffers) → ClearCall (r .second) (clearable (foldedOf r) a scratch) s x → s .refusal ≡ 0
+    → Same (b .buffers .code) (b .buffers .kinds) (b .buffers .words) (chunk.count (b .buffers .code)) (x .code) (x .kinds) (x .words) (r .first)
+    × ((t : Answer) (y : Lending) → FoldCall true (countsCleared (foldedOf r) c (s .first)) (clearedBuffers a x) t y → t .refusal ≡ 0 → RunsKept b t y)
 
 -- ---- clear
 

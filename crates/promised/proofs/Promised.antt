@@ -25,7 +25,7 @@ use Rattle.exported.proofs.Touched.{touched-holds}
 use Rattle.exported.proofs.Needed.{needed-settles, needed-truth, needed-bit, wide-zero}
 use Rattle.exported.proofs.Folded.{fold-settles, pool-kept, tables-kept, tries-kept, landings-true, code-again, none-died}
 use Rattle.exported.proofs.Folded.{folds-next, clears-next, folds-cleared, folds-same}
-use Rattle.exported.proofs.Ran.{runs-kept}
+use Rattle.exported.proofs.Ran.{runs-kept, rule-left, clears-kept, runs-cleared}
 use Rattle.exported.proofs.Cleared.{clear-settles, clear-holds, cleared-twice}
 use Rattle.levels.specs.Answers.{levelAnswer}
 use Rattle.turniploom.proofs.Alone.{one-make, one-enter, one-leave, one-replay}
@@ -113,6 +113,9 @@ promised =
       fold-landings = landings-true;
       fold-tries = tries-kept;
       runs-kept = runs-kept;
+      rule-left = rule-left;
+      clears-kept = clears-kept;
+      runs-cleared = runs-cleared;
       one-end = λ code n k s e e′ x y. one-end x y;
       plain-breaks = plain-breaks;
       named-by = λ w i k x. named-by w i k (x .there) (x .mark) (x .is);

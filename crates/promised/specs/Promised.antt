@@ -4,7 +4,7 @@ use mathlib.Core.Path.{_≡_}
 use mathlib.Core.Bool.{Bool, true, false, not}
 use mathlib.Core.Logic.{_⊎_, _≢_}
 use mathlib.Core.List.{List, [], _∷_, _++_, List·Memᴰ}
-use lib.ListN.{length, replicate}
+use lib.ListN.{length, replicate, take}
 use lib.IntN.{ℤ, pos, natAbs, _*ℤ_}
 use lib.Signed.{ltZ, leZ}
 use lib.Ieee.{nan, fin, binary64, ofBits, toBits, ofInt, up, down, lt, le, eq, ne}
@@ -50,7 +50,8 @@ use Rattle.exported.specs.Settles.{One, Settles}
 use Rattle.exported.specs.Calls.{TargetsCall, LoopsCall, EntriesBeyond, Marks, DeadCall, GenCall, NeededCall, MarksBeyond, Lists, KeptCall, KeptSettles}
 use Rattle.exported.specs.Calls.{FoldCall, ClearCall, ClearBeyond}
 use Rattle.exported.specs.Told.{TouchedHolds, startAt, rowLeft}
-use Rattle.exported.specs.Told.{Truth, listLeft, KeptHolds, SameLists, foldedOf, FoldsNext, ClearsNext, FoldsCleared, FoldsSame, RunsKept, ClearHolds, ClearedTwice}
+use Rattle.exported.specs.Told.{Truth, listLeft, KeptHolds, SameLists, foldedOf, FoldsNext, ClearsNext, FoldsCleared, FoldsSame, ClearHolds, ClearedTwice}
+use Rattle.exported.specs.Told.{RunsKept, ClearsKept, RunsCleared}
 use Rattle.promised.specs.Marked.{Marked}
 use Rattle.promised.specs.Late.{Late}
 use Rattle.promised.specs.Breaks.{Breaks}
@@ -263,6 +264,15 @@ pub record Promised : Type 0 where
   -- of a chunk as wish 14 has it: in strict mode a run ends before folding exactly when it ends after it, with the same stack or the same stop
   pub runs-kept : (c : Counts) (b : Lending) (r : Answer) (a : Lending) → FoldCall true c b r a → r .refusal ≡ 0
       → Rule (b .buffers .code) (c .constants) → RunsKept b r a
+  -- what is left, its code cut at the answered count, is such a chunk again
+  pub rule-left : (c : Counts) (b : Lending) (r : Answer) (a : Lending) → FoldCall true c b r a → r .refusal ≡ 0
+      → Rule (b .buffers .code) (c .constants) → Rule (take (chunk.stride * r .first) (a .buffers .code)) (r .second)
+  -- clearing does the same: a run ends before it exactly when it ends after it, alike, and what is left is such a chunk
+  pub clears-kept : (m : ℕ) (b : clearing.Buffers) (r : Answer) (a : clearing.Buffers) → ClearCall m b r a → r .refusal ≡ 0
+      → Rule (b .code) m → ClearsKept b r a
+  -- folded, then cleared, and then folded again: each time a run ends exactly when it ended before all of it, alike
+  pub runs-cleared : (c : Counts) (b : Lending) (r : Answer) (a : Lending) → FoldCall true c b r a → r .refusal ≡ 0
+      → Rule (b .buffers .code) (c .constants) → RunsCleared b c r a
   -- a run has one end
   pub one-end : (code : ℕ → Ins) (n k : ℕ) (s : Stack) (e e′ : End) → Run code n k s e → Run code n k s e′ → e ≡ e′
   -- why strict: P13's code is such a chunk, and its run, which ends, never ends after the plain fold

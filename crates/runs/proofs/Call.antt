@@ -1,26 +1,18 @@
--- The folding call keeps what a rule computes: document 02, wish 14. Assumes nothing.
-use Prim.Native.Nat.{ℕ, zero, suc, _+_, _*_, _/_, _≤_, _<_}
+-- The folding call keeps what a rule computes, and leaves a rule: document 02, wish 14. Assumes nothing.
+use Prim.Native.Nat.{ℕ, _*_, _≤_, _<_}
 use native.Mathlib.Omega.{arith}
-use mathlib.Core.Path.{_≡_, refl, sym, ap, _∙_, subst}
-use mathlib.Core.Logic.{⊎-elim}
-use mathlib.Core.Bool.{Bool, true, false, cond, _&&_}
+use mathlib.Core.Path.{_≡_, refl, sym, _∙_, subst}
+use mathlib.Core.Bool.{Bool, true, false, cond}
 use mathlib.Core.List.{List, [], _∷_}
-use native.Mathlib.Nat.{eq-or-lt-of-le}
-use lib.Dec.{eqb, ltb}
+use lib.Dec.{eqb}
 use lib.ListN.{length, getD, take, replicate, length-replicate}
 use lib.Seq.{length-take-le, ext-getD}
-use mir.Val.{boolByte}
-use borrow.Author.Tests.{eqb-true, eqb-false, eq-eqb, ne-eqb, ltb-true, ltb-false}
-use Rattle.laws.specs.All.{every, many}
+use borrow.Author.Tests.{eqb-true}
+use Rattle.laws.specs.All.{every}
 use Rattle.laws.specs.Each.{each}
-use Rattle.laws.proofs.Branch.{and-true}
 use Rattle.laws.proofs.Each.{each-word, each-at}
 use Rattle.code.specs.Op.{Phi}
-use Rattle.code.specs.Answers.{asked}
-use Rattle.code.specs.declared.Checked.{Checked}
-use Rattle.code.specs.declared.Checked.the-variants.{Count, No as Refused}
 use Rattle.lent.specs.Chunk.{stride, count, opAt, isPhi, folds}
-use Rattle.lent.specs.Check.{readyOf}
 use Rattle.lent.specs.declared.Counts.{Counts}
 use Rattle.lent.proofs.Counting.{every-at, zeros-at}
 use Rattle.fold.specs.Plan.{Chunk, chunk}
@@ -30,15 +22,15 @@ use Rattle.compact.specs.Remap.{alive, live}
 use Rattle.compact.specs.Tables.{compacted}
 use Rattle.phi_pass.specs.Phi.{paired, noop, markAt, marked}
 use Rattle.finish.specs.Finish.{Tables, tables, mapOf, sourcesOf, renewed, finished}
-use Rattle.optimizer.specs.Fold.{Buffers, buffers, lensOf, needed, Outcome, outcome, foldPass, constantFold, joined, settled, foldLent, called, rejoined}
-use Rattle.optimizer.specs.Fold.{foldCall, Held, Exact}
+use Rattle.optimizer.specs.Fold.{Buffers, needed, foldPass, constantFold, joined, foldLent, rejoined}
+use Rattle.optimizer.specs.Fold.{foldCall, Exact}
 use Rattle.optimizer.specs.declared.Folded.{Folded}
-use Rattle.optimizer.specs.declared.FoldAnswer.{FoldAnswer}
-use Rattle.optimizer.specs.declared.FoldAnswer.the-variants.{Is, No}
+use Rattle.optimizer.specs.declared.FoldAnswer.the-variants.{Is}
 use Rattle.optimizer.proofs.Answered.{answered}
-use Rattle.runs.specs.Kept.{Same, Strict, Fresh}
+use Rattle.runs.specs.Kept.{Same, Keeps, Strict, Fresh}
 use Rattle.runs.specs.Rule.{known, Rule}
-use Rattle.runs.proofs.Same.{scan-strict, folded-same, idle-same}
+use Rattle.runs.proofs.Same.{scan-strict, folded-same, idle-same, folded-ruled, idle-ruled}
+use Rattle.runs.proofs.Cut.{cut-rule}
 
 -- a rule has no Phi
 no-phi : (o : ℕ) → known o ≡ true → eqb o Phi ≡ false
@@ -95,26 +87,36 @@ module _ (bars : Bars) (strict : Strict bars) (code kinds words map sources stmt
       let a = all-passed bars s fits in
       a .phis k ∙ no-phi (opAt code k) (rule .only k (omega (arith, a .dead-long, long)))
 
-  ends-alike : Same code kinds words n (finished tabs .code) (t .kinds) (t .words) (finished tabs .left .instructions)
+  only : (k : ℕ) → k < length (s .dead) → known (opAt code k) ≡ true
+  only k h = rule .only k (omega (arith, long))
+
+  ends-alike : Keeps code kinds words n (finished tabs .code) (t .kinds) (t .words) (t .constants) (finished tabs .left .instructions)
   unfolding finished renewed
   ends-alike =
       rw (none-marked (t .code) (mapOf tabs) (sourcesOf tabs) (t .dead) philess) (go (every (alive (t .dead)) (length (t .dead))) refl)
     where
       go : (u : Bool) → every (alive (t .dead)) (length (t .dead)) ≡ u
-          → Same code kinds words n (cond u tabs (renewed tabs) .code) (t .kinds) (t .words) (cond u tabs (renewed tabs) .left .instructions)
+          → Keeps code kinds words n (cond u tabs (renewed tabs) .code) (t .kinds) (t .words) (t .constants) (cond u tabs (renewed tabs) .left .instructions)
       go true e =
-          rw long at
-          (idle-same bars strict s fresh (λ k h. eqb-true (getD (t .dead) k 0) 0 (every-at (alive (t .dead))
-          (length (t .dead)) k e (omega (arith, all-passed bars s fits .dead-long)))))
-      go false e = subst (λ (x : ℕ). Same code kinds words x (compacted (t .dead) (t .code)) (t .kinds) (t .words) (live (t .dead)
-          (length (t .dead)))) long (folded-same bars strict s fresh)
+          record {
+            same =
+                rw long at
+                (idle-same bars strict s fresh (λ k h. eqb-true (getD (t .dead) k 0) 0 (every-at (alive (t .dead))
+                (length (t .dead)) k e (omega (arith, all-passed bars s fits .dead-long)))));
+            rule = rw long at (idle-ruled bars strict s fresh only);
+          }
+      go false e =
+          record {
+            same = subst (λ (x : ℕ). Same code kinds words x (compacted (t .dead) (t .code)) (t .kinds) (t .words) (live (t .dead)
+                (length (t .dead)))) long (folded-same bars strict s fresh);
+            rule = folded-ruled bars strict s fresh only;
+          }
 
 -- ---- the call
 
 module _ (b : Buffers) (c : Counts) (x : Exact b c) (rule : Rule (b .code) (c .constants)) (bars : Bars) (strict : Strict bars) where
-  fold-same : Same (b .code) (b .kinds) (b .words) (length (b .dead)) (constantFold bars b c .after .code) (constantFold bars b c .after .kinds)
-      (constantFold bars b c .after .words)
-      (constantFold bars b c .answer .instructions)
+  fold-same : Keeps (b .code) (b .kinds) (b .words) (length (b .dead)) (constantFold bars b c .after .code) (constantFold bars b c .after .kinds)
+      (constantFold bars b c .after .words) (constantFold bars b c .answer .constants) (constantFold bars b c .answer .instructions)
   unfolding constantFold foldPass
   fold-same =
       ends-alike bars strict (b .code) (b .kinds) (b .words) (b .map) (b .sources) (b .stmts) (b .calls) (b .remap) (c .constants) (c .map) (c .sources)
@@ -127,18 +129,30 @@ module _ (b : Buffers) (c : Counts) (x : Exact b c) (rule : Rule (b .code) (c .c
       })
       rule
 
--- Every run from an empty stack that ends before folding ends after it with the same stack or the same stop, and back.
-pub keeps-runs : (b : Buffers) (tries landings : List ℕ) (c : Counts) → Rule (b .code) (c .constants) → (f : Folded)
-    → foldCall true b tries landings c .result .answer ≡ Is f
-    → Same (b .code) (b .kinds) (b .words) (count (b .code)) (foldCall true b tries landings c .result .after .code)
-    (foldCall true b tries landings c .result .after .kinds) (foldCall true b tries landings c .result .after .words) (f .instructions)
-unfolding rejoined joined foldLent
-keeps-runs b tries landings c rule f e =
-    let a = answered true b tries landings c f e in
-    let o = constantFold (byScan true tries) (needed b c) c in
-    let l : length (take (count (b .code)) (b .dead)) ≡ count (b .code) = length-take-le (count (b .code)) (b .dead) (a .held .dead) in
-    let y = fold-same (needed b c) c (a .exact) rule (byScan true tries) (scan-strict tries) in
-    rw (a .is)
-    (subst (λ (g : Folded). Same (b .code) (b .kinds) (b .words) (count (b .code)) (o .after .code) (o .after .kinds) (o .after .words) (g .instructions))
-    (a .counts)
-    (subst (λ (k : ℕ). Same (b .code) (b .kinds) (b .words) k (o .after .code) (o .after .kinds) (o .after .words) (o .answer .instructions)) l y))
+module _ (b : Buffers) (tries landings : List ℕ) (c : Counts) (rule : Rule (b .code) (c .constants)) (f : Folded)
+    (e : foldCall true b tries landings c .result .answer ≡ Is f) where
+  keeps-all : Keeps (b .code) (b .kinds) (b .words) (count (b .code)) (foldCall true b tries landings c .result .after .code)
+      (foldCall true b tries landings c .result .after .kinds) (foldCall true b tries landings c .result .after .words) (f .constants) (f .instructions)
+  unfolding rejoined joined foldLent
+  keeps-all =
+      let a = answered true b tries landings c f e in
+      let o = constantFold (byScan true tries) (needed b c) c in
+      let l : length (take (count (b .code)) (b .dead)) ≡ count (b .code) = length-take-le (count (b .code)) (b .dead) (a .held .dead) in
+      let y = fold-same (needed b c) c (a .exact) rule (byScan true tries) (scan-strict tries) in
+      rw (a .is)
+      (subst
+      (λ (g : Folded).
+      Keeps (b .code) (b .kinds) (b .words) (count (b .code)) (o .after .code) (o .after .kinds) (o .after .words) (g .constants) (g .instructions))
+      (a .counts)
+      (subst
+      (λ (k : ℕ). Keeps (b .code) (b .kinds) (b .words) k (o .after .code) (o .after .kinds) (o .after .words) (o .answer .constants) (o .answer .instructions))
+      l y))
+
+  -- Every run from an empty stack that ends before folding ends after it with the same stack or the same stop, and back.
+  pub keeps-runs : Same (b .code) (b .kinds) (b .words) (count (b .code)) (foldCall true b tries landings c .result .after .code)
+      (foldCall true b tries landings c .result .after .kinds) (foldCall true b tries landings c .result .after .words) (f .instructions)
+  keeps-runs = keeps-all .same
+
+  -- What is left, cut at the answered count, is such a chunk again.
+  pub keeps-rule : Rule (take (stride * f .instructions) (foldCall true b tries landings c .result .after .code)) (f .constants)
+  keeps-rule = cut-rule (foldCall true b tries landings c .result .after .code) (f .instructions) (f .constants) (keeps-all .rule)

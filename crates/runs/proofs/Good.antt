@@ -1,12 +1,11 @@
 -- Values that a constant can hold: what folds give. Assumes nothing.
-use Prim.Native.Nat.{ℕ, zero, suc, _^_, _<_}
-use native.Mathlib.Omega.{arith}
+use Prim.Native.Nat.{ℕ, _^_, _<_}
 use mathlib.Core.Path.{_≡_, refl, subst}
 use mathlib.Core.Bool.{Bool, true, false, not, cond}
 use lib.Dec.{T, ltb, eqb}
 use lib.IntN.{ℤ, pos, negsuc, negℤ, _+ℤ_, _-ℤ_, _*ℤ_}
 use lib.Signed.{mag}
-use lib.Ieee.{Float, binary64, fits, ofInt, div, eq, ofBits}
+use lib.Ieee.{Float, binary64, fits, ofInt, div, ofBits}
 use lib.Ieee.Fits.{add-fits, sub-fits, mul-fits, div-fits, neg-fits}
 use lib.Ieee.Bits.{ofBits-fits}
 use borrow.Author.Tests.{ltb-true}

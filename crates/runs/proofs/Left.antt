@@ -1,4 +1,4 @@
--- What compaction leaves is the chunk without its dead instructions. Assumes nothing.
+-- What compaction leaves is the chunk without its dead instructions, and such a chunk again. Assumes nothing.
 use Prim.Native.Nat.{ℕ, suc, _<_}
 use native.Mathlib.Numerals.{add-one}
 use native.Mathlib.Omega.{arith}
@@ -9,7 +9,7 @@ use lib.Dec.{eqb}
 use lib.ListN.{length, getD}
 use borrow.Author.Tests.{eqb-true, eqb-false}
 use Rattle.code.specs.Op as op
-use Rattle.lent.specs.Chunk.{opAt, operandAt}
+use Rattle.lent.specs.Chunk.{opAt, operandAt, jumps}
 use Rattle.values.specs.declared.Val.the-variants.{Bool as Truth}
 use Rattle.values.specs.declared.Maybe.{Maybe}
 use Rattle.values.specs.declared.Maybe.the-variants.{Is, Nothing}
@@ -20,9 +20,10 @@ use Rattle.fold.specs.Plan.{kindOf}
 use Rattle.compact.specs.Remap.{live, mapped}
 use Rattle.compact.specs.Tables.{operandOf, compacted}
 use Rattle.compact.proofs.Moves.{live-on, live-off}
-use Rattle.compact.proofs.Left.{live-less, op-left, operand-left}
+use Rattle.compact.proofs.Left.{live-less, from, op-left, mark-left, operand-left}
 use Rattle.compact.proofs.Mapped.{map-in, map-past}
 use Rattle.runs.specs.Machine.{Value, Known, Ins, Push, Apply, Jump, JumpIfFalse, pushOf, plain, read, ins, Plain}
+use Rattle.runs.specs.Rule.{known, Ruled}
 use Rattle.runs.proofs.Pack.{turn, Moved, gone, kept as stays, Packed}
 use Rattle.runs.proofs.Step.{living, living-on, living-off}
 
@@ -86,3 +87,29 @@ module _ (code dead kinds words : List ℕ) (constants : ℕ) (plains : (k : ℕ
       go k h false e =
           let d = eqb-false (getD dead k 0) 0 e in
           gone (living-off code dead kinds words k d) (rw (map-in dead (suc k) h, map-in dead k (omega arith), ← (add-one k)) (live-off dead k d))
+
+  -- ---- a LoadConst is no jump, so its operand stays
+
+  load-still : (k : ℕ) → k < length dead → opAt code k ≡ op.LoadConst → jumps code k ≡ false
+  load-still k h e = plains k h .marks ∙ rw e refl
+
+  plain-left : (k : ℕ) → k < length dead → getD dead k 0 ≡ 0 → Plain (compacted dead code) constants (live dead k)
+  unfolding operandOf
+  plain-left k h d =
+      record {
+        marks = rw (mark-left dead code k h d, op-left dead code k h d) (plains k h .marks);
+        there = λ e.
+            let o = sym (op-left dead code k h d) ∙ e in
+            rw (operand-left dead code k h d, load-still k h o) (plains k h .there o);
+      }
+
+  pub ruled-left : ((k : ℕ) → k < length dead → known (opAt code k) ≡ true) → Ruled (compacted dead code) constants (live dead (length dead))
+  ruled-left only =
+      record {
+        only = λ j h.
+            let f = from dead (length dead) j h in
+            rw (← (f .is), op-left dead code (f .place) (f .below) (f .lives)) (only (f .place) (f .below));
+        plain = λ j h.
+            let f = from dead (length dead) j h in
+            rw (← (f .is)) (plain-left (f .place) (f .below) (f .lives));
+      }

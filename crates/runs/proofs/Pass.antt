@@ -1,15 +1,14 @@
 -- The pass keeps how runs end. Assumes nothing.
-use Prim.Native.Nat.{ℕ, zero, suc, _*_, _/_, _≤_, _<_, zero-le}
+use Prim.Native.Nat.{ℕ, zero, suc, _/_, _≤_, _<_}
 use native.Mathlib.Omega.{arith}
 use native.Mathlib.Numerals.{add-one}
 use mathlib.Core.Path.{_≡_, refl, sym, ap, _∙_}
 use mathlib.Core.Bool.{Bool, true, false, cond}
 use mathlib.Core.List.{List, [], _∷_, _++_}
-use mathlib.Core.Logic.{inl, _↔_}
 use lib.Dec.{ltb, leb, eqb}
-use lib.ListN.{length, getD}
+use lib.ListN.{getD}
 use borrow.Author.Tests.{ltb-true, ltb-false, eqb-true, le-leb, lt-leb}
-use Rattle.lent.specs.Chunk.{stride, count, opAt, operandAt, folds}
+use Rattle.lent.specs.Chunk.{stride, count, opAt, operandAt}
 use Rattle.landings.specs.Landings.{landsAny}
 use Rattle.values.specs.declared.Val.{Val}
 use Rattle.values.specs.declared.Op.{Op}
@@ -23,12 +22,12 @@ use Rattle.fold.specs.declared.Plan.the-variants.{Stay, Put}
 use Rattle.fold.specs.declared.Loaded.{Loaded}
 use Rattle.fold.specs.declared.Loaded.the-variants.{As, No}
 use Rattle.fold.specs.Plan.{Chunk, chunk, kindOf, foldUnary, planAt}
-use Rattle.fold.specs.Pass.{constLoad, put, landed, applied, tryFold, Bars, folded, foldAll, Ready, Lent}
-use Rattle.fold.proofs.Planned.{Planned, planned}
+use Rattle.fold.specs.Pass.{constLoad, put, landed, applied, tryFold, Bars, folded, Ready, Lent}
+use Rattle.fold.proofs.Planned.{planned}
 use Rattle.fold.proofs.Grown.{Held, held-none, held-ready, held-more}
 use Rattle.compact.specs.Remap.{alive}
 use Rattle.runs.specs.Machine.{Known, Stack, Ins, Apply, Pass, End, At, act, Run, ends, stops, goes, read, ins}
-use Rattle.runs.specs.Kept.{Strict, Fresh}
+use Rattle.runs.specs.Kept.{Strict}
 use Rattle.runs.proofs.Good.{Good, good-of, binop-good}
 use Rattle.runs.proofs.Pool.{Loads, load-back, load-grows}
 use Rattle.runs.proofs.Told.{Near, Told, two, one, told}
@@ -138,10 +137,23 @@ module _ {n i : ℕ} {code dead kinds words : List ℕ} {constants : ℕ} (fine 
 
 -- ---- one attempt
 
+-- one that changes nothing
+kept-same : {n : ℕ} (s : Chunk) → Fine n s → Kept n s s
+kept-same s fine =
+    record {
+      fine = fine;
+      runs = λ o. (λ run. run, λ run. run);
+      listed = λ k e. e;
+      code-long = refl;
+      dead-long = refl;
+      kinds-long = refl;
+      words-long = refl;
+    }
+
 module _ {n i : ℕ} (s : Chunk) (fine : Fine n s) (whole : n ≡ count (s .code)) (hi : i < n) (ready : Ready s i)
     (bars : ℕ → Bool) (strict : (p : ℕ) → bars p ≡ false → landsAny (s .code) p i ≡ false) where
   stay : Kept n s s
-  stay = record { fine = fine; runs = λ o. (λ run. run, λ run. run); code-long = refl; dead-long = refl; kinds-long = refl; words-long = refl }
+  stay = kept-same s fine
 
   -- a result with no room in the pool
   full : (v : Val) → Kept n s (chunk (s .code) (s .dead) (constLoad v (s .kinds) (s .words) (s .constants) .kinds) (constLoad v (s .kinds) (s .words)
@@ -151,6 +163,7 @@ module _ {n i : ℕ} (s : Chunk) (fine : Fine n s) (whole : n ≡ count (s .code
       record {
         fine = record { long = fine .long; marks = fine .marks; each = fine .each };
         runs = λ o. (λ run. alike same run, λ run. alike (λ k h. sym (same k h)) run);
+        listed = λ k e. e;
         code-long = refl;
         dead-long = refl;
         kinds-long = load-grows v (s .kinds) (s .words) (s .constants) .kinds-long;
@@ -202,6 +215,7 @@ both p q =
     record {
       fine = q .fine;
       runs = λ o. (λ run. q .runs o .0 (p .runs o .0 run), λ run. p .runs o .1 (q .runs o .1 run));
+      listed = λ k e. q .listed k (p .listed k e);
       code-long = q .code-long ∙ p .code-long;
       dead-long = q .dead-long ∙ p .dead-long;
       kinds-long = q .kinds-long ∙ p .kinds-long;
@@ -215,11 +229,7 @@ pub record Passed (bars : Bars) (n : ℕ) (s : Chunk) (k : ℕ) : Type 0 where
 module _ (bars : Bars) (strict : Strict bars) (n : ℕ) (s : Chunk) (fine : Fine n s) (whole : n ≡ count (s .code)) (lent : Lent s) where
   pub pass : (k : ℕ) → k ≤ n → Passed bars n s k
   unfolding folded
-  pass zero h =
-      record {
-        held = held-none bars s;
-        kept = record { fine = fine; runs = λ o. (λ run. run, λ run. run); code-long = refl; dead-long = refl; kinds-long = refl; words-long = refl };
-      }
+  pass zero h = record { held = held-none bars s; kept = kept-same s fine }
   pass (suc k) h = go (pass k (omega arith))
     where
       go : Passed bars n s k → Passed bars n s (suc k)

@@ -2,8 +2,8 @@
 use Prim.Native.Nat.{ℕ, zero, suc, _+_, _-_, _^_, _≤_, _<_}
 use native.Mathlib.Omega.{arith}
 use native.Mathlib.Nat.{le-refl}
-use mathlib.Core.Path.{_≡_, refl, sym, ap, _∙_}
-use mathlib.Core.Bool.{Bool, true, false, cond, _&&_, _||_}
+use mathlib.Core.Path.{_≡_, refl}
+use mathlib.Core.Bool.{Bool, true, false, cond, _||_}
 use mathlib.Core.List.{List}
 use lib.Dec.{ltb, eqb}
 use lib.ListN.{length, getD, set, length-set}
@@ -11,7 +11,7 @@ use lib.Seq.{getD-set-same, getD-set-other}
 use lib.Signed.{mag}
 use lib.Ieee.{binary64, toBits}
 use lib.Ieee.Bits.{ofBits-toBits}
-use borrow.Author.Tests.{ltb-true, lt-ltb, eqb-true, ne-eqb}
+use borrow.Author.Tests.{ltb-true, lt-ltb, eqb-true}
 use mir.Syntax.{w64}
 use mir.Val.{ofZ}
 use Rattle.laws.specs.Walk.{first}
@@ -26,10 +26,11 @@ use Rattle.chunk.specs.Pool.{toVal, equals, position, Room, Stored, stored, fin
 use Rattle.chunk.specs.declared.Kept.{Kept}
 use Rattle.chunk.specs.declared.Kept.the-variants.{At, Full}
 use Rattle.fold.specs.Plan.{page, kindOf}
-use Rattle.fold.specs.Pass.{Loading, loading, loadOf, fromPool, constLoad}
-use Rattle.fold.specs.declared.Loaded.{Loaded}
-use Rattle.fold.specs.declared.Loaded.the-variants.{As, No}
+use Rattle.fold.specs.Pass.{loadOf, constLoad}
+use Rattle.fold.specs.declared.Loaded.the-variants.{As}
+use Rattle.lent.specs.Chunk.{folds}
 use Rattle.runs.specs.Machine.{Known, Push, pushOf, plain, read}
+use Rattle.runs.specs.Rule.{known}
 use Rattle.runs.proofs.Good.{Good}
 
 -- the first that passes does
@@ -129,12 +130,13 @@ pub record Loads (v : Val) (count : ℕ) (kinds words : List ℕ) (o x m : ℕ) 
   pub reads : read (kindOf o) o x kinds words ≡ Push (Known v)
   pub there : o ≡ LoadConst → x < m
   pub calm : eqb o Jump || eqb o JumpIfFalse ≡ false
+  pub listed : known o ≡ true
   pub least : count ≤ m
 
 kept-loads : (s : Stored) (k w count : ℕ) (kinds words : List ℕ) (v : Val) → toVal k w ≡ Is v → ((i m : ℕ) → s .kept ≡ At i m
     → Placed k w count kinds words s i m)
     → (o x m : ℕ) → loadOf (s .kept) ≡ As o x m → Loads v count (s .kinds) (s .words) o x m
-unfolding read plain pushOf kindOf page
+unfolding read plain pushOf kindOf page known folds
 kept-loads s k w count kinds words v e h o x m q = go (s .kept) refl q
   where
     go : (y : Kept) → s .kept ≡ y → loadOf y ≡ As o x m → Loads v count (s .kinds) (s .words) o x m
@@ -144,12 +146,12 @@ kept-loads s k w count kinds words v e h o x m q = go (s .kept) refl q
         let ex : i ≡ x = cc in
         let em : j ≡ m = cc in
         rw (← eo, ← ex, ← em)
-        (record { reads = rw (p .kind, p .word, e) refl; there = λ _. p .below; calm = refl; least = p .least })
+        (record { reads = rw (p .kind, p .word, e) refl; there = λ _. p .below; calm = refl; listed = refl; least = p .least })
     go Full g q = absurd (let z : _≡_ {A = ℕ} 0 1 = cc in omega arith)
 
 pub load-back : (v : Val) → Good v → (count : ℕ) (kinds words : List ℕ) → Room kinds words count → (o x m : ℕ) → constLoad v kinds words count .load ≡ As o x m
     → Loads v count (constLoad v kinds words count .kinds) (constLoad v kinds words count .words) o x m
-unfolding constLoad findOrPushConst toVal inRange read plain kindOf page
+unfolding constLoad findOrPushConst toVal inRange read plain kindOf page known folds
 load-back (Int z) g count kinds words r o x m e =
     kept-loads (findOrPush kinds words count 1 (ofZ w64 z)) 1 (ofZ w64 z) count kinds words (Int z) (rw (
       back-ok z (omega arith),
@@ -163,8 +165,8 @@ load-back (Real y) g count kinds words r o x m e =
 load-back (Truth true) g count kinds words r o x m e =
     let eo : LoadTrue ≡ o = cc in
     let em : count ≡ m = cc in
-    rw (← eo, ← em) (record { reads = refl; there = λ q. absurd (omega arith); calm = refl; least = le-refl _ })
+    rw (← eo, ← em) (record { reads = refl; there = λ q. absurd (omega arith); calm = refl; listed = refl; least = le-refl _ })
 load-back (Truth false) g count kinds words r o x m e =
     let eo : LoadFalse ≡ o = cc in
     let em : count ≡ m = cc in
-    rw (← eo, ← em) (record { reads = refl; there = λ q. absurd (omega arith); calm = refl; least = le-refl _ })
+    rw (← eo, ← em) (record { reads = refl; there = λ q. absurd (omega arith); calm = refl; listed = refl; least = le-refl _ })

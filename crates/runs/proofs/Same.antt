@@ -1,26 +1,33 @@
 -- A run that ends before strict folding ends alike after it, and back: document 02, wish 14. Assumes nothing.
-use Prim.Native.Nat.{ℕ, zero, suc, _*_, _/_, _≤_, _<_, zero-le}
+use Prim.Native.Nat.{ℕ, _<_, zero-le}
 use native.Mathlib.Omega.{arith}
-use mathlib.Core.Path.{_≡_, refl, sym, ap, _∙_, subst}
+use mathlib.Core.Path.{_≡_, sym, ap, subst}
 use mathlib.Core.Logic.{_↔_}
-use mathlib.Core.Bool.{Bool, true, false, _||_}
+use mathlib.Core.Bool.{true}
 use mathlib.Core.List.{List, []}
 use lib.ListN.{length, getD}
 use Rattle.laws.proofs.Branch.{or-false}
 use Rattle.laws.specs.All.{many}
-use Rattle.lent.specs.Chunk.{stride, count}
+use Rattle.lent.specs.Chunk.{count, opAt}
 use Rattle.landings.specs.Landings.{landsAny, handlesAny, barred}
 use Rattle.fold.specs.Plan.{Chunk}
-use Rattle.fold.specs.Pass.{Bars, byScan, folded, foldAll, Lent}
+use Rattle.fold.specs.Pass.{Bars, byScan, folded, foldAll}
 use Rattle.compact.specs.Remap.{live, mapped}
 use Rattle.compact.specs.Tables.{compacted}
-use Rattle.runs.specs.Machine.{End, Run, ins}
+use Rattle.runs.specs.Machine.{End, Run}
+use Rattle.runs.specs.Rule.{known, Ruled}
 use Rattle.runs.specs.Kept.{Ends, Same, Strict, Fresh}
 use Rattle.runs.proofs.Step.{living, living-on, codeOf, Fine}
 use Rattle.runs.proofs.Pass.{alike, Passed, pass}
 use Rattle.runs.proofs.Pack.{pack, unpack}
 use Rattle.compact.proofs.Mapped.{map-in}
-use Rattle.runs.proofs.Left.{packed}
+use Rattle.runs.proofs.Left.{packed, ruled-left}
+
+-- alike, and alike again
+module _ {code kinds words code′ kinds′ words′ code″ kinds″ words″ : List ℕ} {n n′ n″ : ℕ} where
+  pub same-on : Same code kinds words n code′ kinds′ words′ n′ → Same code′ kinds′ words′ n′ code″ kinds″ words″ n″
+      → Same code kinds words n code″ kinds″ words″ n″
+  same-on x y = record { ends = λ e run. y .ends e (x .ends e run); back = λ e run. x .back e (y .back e run) }
 
 -- strict mode is, whatever the tries
 pub scan-strict : (tries : List ℕ) → Strict (byScan true tries)
@@ -100,3 +107,18 @@ module _ (bars : Bars) (strict : Strict bars) (s : Chunk) (fresh : Fresh s) wher
             blank (s .code) (s .dead) (s .kinds) (s .words) n (λ k h. fresh .blank k) e .1 (all .kept .runs e .1 (blank (t .code) (t .dead) (t .kinds)
             (t .words) n d e .0 run));
       })
+
+  -- ---- and what is left is of the wish's instructions
+
+  module _ (only : (k : ℕ) → k < length (s .dead) → known (opAt (s .code) k) ≡ true) where
+    still : Ruled (t .code) (t .constants) n
+    still = record { only = λ k h. all .kept .listed k (only k h); plain = all .kept .fine .each }
+
+    pub idle-ruled : Ruled (foldAll bars s .code) (foldAll bars s .constants) (length (s .dead))
+    idle-ruled = rw (← is-all) still
+
+    pub folded-ruled : Ruled (compacted (foldAll bars s .dead) (foldAll bars s .code)) (foldAll bars s .constants)
+        (live (foldAll bars s .dead) (length (foldAll bars s .dead)))
+    folded-ruled =
+        rw (← is-all)
+        (ruled-left (t .code) (t .dead) (t .kinds) (t .words) (t .constants) (λ k h. still .plain k (rw long at h)) (λ k h. still .only k (rw long at h)))

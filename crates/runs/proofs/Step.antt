@@ -1,5 +1,5 @@
 -- One attempt keeps how runs end. Assumes nothing.
-use Prim.Native.Nat.{ℕ, suc, _+_, _*_, _%_, _≤_, _<_, zero-le}
+use Prim.Native.Nat.{ℕ, suc, _+_, _*_, _≤_, _<_, zero-le}
 use native.Mathlib.Omega.{arith}
 use mathlib.Core.Path.{_≡_, refl, sym, ap, _∙_}
 use mathlib.Core.Bool.{Bool, true, false, not, cond, _&&_, _||_, false≢true}
@@ -8,12 +8,10 @@ use mathlib.Core.Logic.{inl, inr, _↔_}
 use lib.Dec.{ltb, leb, eqb}
 use lib.ListN.{length, getD, set, length-set}
 use lib.Seq.{getD-set-same, getD-set-other}
-use mir.Val.{boolByte}
 use borrow.Author.Tests.{ltb-false, leb-false, eqb-true, eqb-false, eq-eqb, ne-eqb}
-use Rattle.laws.specs.Some.{some}
 use Rattle.laws.proofs.Some.{passes-at}
 use Rattle.code.specs.Op as op
-use Rattle.lent.specs.Chunk.{stride, count, opAt, markAt, operandAt, jumps}
+use Rattle.lent.specs.Chunk.{stride, count, opAt, operandAt, jumps}
 use Rattle.landings.specs.Landings.{lands, landsAny}
 use Rattle.values.specs.declared.Val.{Val}
 use Rattle.values.specs.declared.Val.the-variants.{Int, Float as Real, Bool as Truth}
@@ -30,7 +28,9 @@ use Rattle.fold.proofs.Put.{put-long, put-other, operand-other, jump-other, put
 use Rattle.compact.specs.Remap.{alive}
 use Rattle.runs.specs.Machine.{Value, Known, Stack, truth, Ins, Push, Apply, Jump, JumpIfFalse, Pass, At, answer, apply, act, binopV, negV, pushOf}
 use Rattle.runs.specs.Machine.{plain, read, ins, Plain, End, Run}
-use Rattle.runs.proofs.Lock.{Outside, Clear, Group, Same, out, lock, unlock}
+use Rattle.runs.specs.Rule.{known}
+use Rattle.runs.proofs.Alike.{read-both}
+use Rattle.runs.proofs.Lock.{Outside, Clear, Group, out, lock, unlock}
 use Rattle.runs.proofs.Good.{Good, good-of, not-good, neg-good, val-good}
 use Rattle.runs.proofs.Pool.{Loads, Grows}
 
@@ -57,22 +57,9 @@ module _ (code dead kinds words : List ℕ) (k : ℕ) where
 -- ---- a pool that keeps its entries
 
 module _ (n : ℕ) (kinds words kinds′ words′ : List ℕ) (g : Grows n kinds words kinds′ words′) where
-  plain-same : (o x : ℕ) → (o ≡ op.LoadConst → x < n) → plain o x kinds′ words′ ≡ plain o x kinds words
-  unfolding plain
-  plain-same o x h = ap (λ (l : Ins). cond (eqb o op.Jump) (Jump x) (cond (eqb o op.JumpIfFalse) (JumpIfFalse x) l)) (go (eqb o op.LoadConst) refl _)
-    where
-      go : (t : Bool) → eqb o op.LoadConst ≡ t → (l : Ins)
-          → cond t (pushOf (toVal (getD kinds′ x 0) (getD words′ x 0)) (getD kinds′ x 0) (getD words′ x 0)) l
-          ≡ cond t (pushOf (toVal (getD kinds x 0) (getD words x 0)) (getD kinds x 0) (getD words x 0)) l
-      go true e l = let b = h (eqb-true o op.LoadConst e) in rw (g .kinds-old x b, g .words-old x b) refl
-      go false e l = refl
-
   pub read-same : (kind : Kind) (o x : ℕ) → (o ≡ op.LoadConst → x < n) → read kind o x kinds′ words′ ≡ read kind o x kinds words
-  unfolding read
-  read-same (Binop b) o x h = refl
-  read-same Not o x h = refl
-  read-same Minus o x h = refl
-  read-same Other o x h = plain-same o x h
+  read-same kind o x h =
+      read-both o x x kinds words kinds′ words′ (λ e. refl) (λ e. record { kind = g .kinds-old x (h e); word = g .words-old x (h e) }) kind
 
 -- ---- q and i dead
 
@@ -212,6 +199,7 @@ one-good false a v h e = good-of e (not-good a)
 pub record Kept (n : ℕ) (s t : Chunk) : Type 0 where
   pub fine : Fine n t
   pub runs : (o : End) → Run (codeOf s) n 0 [] o ↔ Run (codeOf t) n 0 [] o
+  pub listed : (k : ℕ) → known (opAt (s .code) k) ≡ true → known (opAt (t .code) k) ≡ true
   pub code-long : length (t .code) ≡ length (s .code)
   pub dead-long : length (t .dead) ≡ length (s .dead)
   pub kinds-long : length (t .kinds) ≡ length (s .kinds)
@@ -309,8 +297,13 @@ module _ {n i : ℕ} {code dead kinds words : List ℕ} {constants : ℕ} (fine 
       record {
         fine = fold-fine;
         runs = λ o. (λ run. lock u run start, λ run. unlock u run start);
+        listed = λ k e. still k e (eqb k p) refl;
         code-long = put-long code p c x;
         dead-long = kill-long dead q i;
         kinds-long = grows .kinds-long;
         words-long = grows .words-long;
       }
+    where
+      still : (k : ℕ) → known (opAt code k) ≡ true → (b : Bool) → eqb k p ≡ b → known (opAt (put code p c x) k) ≡ true
+      still k e true q = rw (eqb-true k p q, put-here code p c x fits) (load .listed)
+      still k e false q = rw (put-other code p c x k (eqb-false k p q)) e

@@ -9,6 +9,7 @@ use Rattle.landings.specs.Landings.{landsAny}
 use Rattle.fold.specs.Plan.{Chunk}
 use Rattle.fold.specs.Pass.{Bars, Lent}
 use Rattle.runs.specs.Machine.{End, Run, ins, Plain}
+use Rattle.runs.specs.Rule.{Ruled}
 
 -- a run from an empty stack over n instructions ends so
 abbrev pub Ends : (code kinds words : List ℕ) → ℕ → End → Type 0
@@ -18,6 +19,11 @@ Ends code kinds words n e = Run (ins code kinds words) n 0 [] e
 pub record Same (code kinds words : List ℕ) (n : ℕ) (code′ kinds′ words′ : List ℕ) (n′ : ℕ) : Type 0 where
   pub ends : (e : End) → Ends code kinds words n e → Ends code′ kinds′ words′ n′ e
   pub back : (e : End) → Ends code′ kinds′ words′ n′ e → Ends code kinds words n e
+
+-- and the second is n′ instructions as the wish has them, over so many constants
+pub record Keeps (code kinds words : List ℕ) (n : ℕ) (code′ kinds′ words′ : List ℕ) (constants′ n′ : ℕ) : Type 0 where
+  pub same : Same code kinds words n code′ kinds′ words′ n′
+  pub rule : Ruled code′ constants′ n′
 
 -- no fold over a jump's landing
 abbrev pub Strict : Bars → Type 0

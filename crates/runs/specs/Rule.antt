@@ -12,7 +12,11 @@ use Rattle.runs.specs.Machine.{Plain}
 unfoldable pub known : ℕ → Bool
 known o = eqb o LoadConst || eqb o LoadTrue || eqb o LoadFalse || eqb o LoadNone || eqb o Jump || eqb o JumpIfFalse || folds o
 
--- of these only, the jump mark on just the last two and every LoadConst naming a constant that is there
-pub record Rule (code : List ℕ) (constants : ℕ) : Type 0 where
-  pub only : (k : ℕ) → k < count code → known (opAt code k) ≡ true
-  pub plain : (k : ℕ) → k < count code → Plain code constants k
+-- n instructions of these only, the jump mark on just the last two and every LoadConst naming a constant that is there
+pub record Ruled (code : List ℕ) (constants n : ℕ) : Type 0 where
+  pub only : (k : ℕ) → k < n → known (opAt code k) ≡ true
+  pub plain : (k : ℕ) → k < n → Plain code constants k
+
+-- all of the code
+abbrev pub Rule : List ℕ → ℕ → Type 0
+Rule code constants = Ruled code constants (count code)

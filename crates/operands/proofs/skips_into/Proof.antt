@@ -1,8 +1,8 @@
--- `fold::skips_into` meets its contract: the instruction before, where there is one. Assumes nothing.
+-- `operands::skips_into` meets its contract: the instruction before, where there is one. Assumes nothing.
 use borrow.Author.Needs.{needs}
-use Rattle.fold.proofs.Parts.{at-start, past-start}
-use Rattle.fold.proofs.skips_into.Statement.{statement}
-use Rattle.fold.proofs.skips_into.Tie as tie
+use Rattle.operands.proofs.Parts.{at-start, past-start}
+use Rattle.operands.proofs.skips_into.Statement.{statement}
+use Rattle.operands.proofs.skips_into.Tie as tie
 
 returns : tie.Need-returns
 returns c = search at-start

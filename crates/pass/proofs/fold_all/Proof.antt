@@ -1,12 +1,12 @@
--- `fold::fold_all` meets its contract: after ip attempts the chunk is the definition's. Assumes nothing.
+-- `pass::fold_all` meets its contract: after ip attempts the chunk is the definition's. Assumes nothing.
 use borrow.Author.Needs.{needs}
 use mathlib.Core.Path.{_≡_}
 use Prim.Native.Nat.{_≤_, _-_}
 use Rattle.lent.specs.Chunk.{count}
 use Rattle.fold.specs.Plan.{chunk}
 use Rattle.fold.proofs.Grown.{Asked, asked-none, asked-ready, asked-more, asked-all}
-use Rattle.fold.proofs.fold_all.Statement.{statement}
-use Rattle.fold.proofs.fold_all.Tie as tie
+use Rattle.pass.proofs.fold_all.Statement.{statement}
+use Rattle.pass.proofs.fold_all.Tie as tie
 
 abbrev Inv-loop : tie.InvT-loop
 Inv-loop code₀ dead₀ kinds₀ words₀ constants landings strict n held₀ last₀ ip₀ code dead kinds words held last ip =

@@ -1,8 +1,8 @@
--- `fold::apply` meets its contract: written, or no room. Assumes nothing.
+-- `pass::apply` meets its contract: written, or no room. Assumes nothing.
 use borrow.Author.Needs.{needs}
 use Rattle.fold.proofs.Ways.{no-write, a-write}
-use Rattle.fold.proofs.apply.Statement.{statement}
-use Rattle.fold.proofs.apply.Tie as tie
+use Rattle.pass.proofs.apply.Statement.{statement}
+use Rattle.pass.proofs.apply.Tie as tie
 
 const-load-requires : tie.Need-const-load-requires
 const-load-requires c κs = search needs

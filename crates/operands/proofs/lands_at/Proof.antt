@@ -1,8 +1,8 @@
--- `fold::lands_at` meets its contract: by its mark and its operand. Assumes nothing.
+-- `operands::lands_at` meets its contract: by its mark and its operand. Assumes nothing.
 use borrow.Author.Needs.{needs}
-use Rattle.fold.proofs.Parts.{lands-is}
-use Rattle.fold.proofs.lands_at.Statement.{statement}
-use Rattle.fold.proofs.lands_at.Tie as tie
+use Rattle.operands.proofs.Parts.{lands-is}
+use Rattle.operands.proofs.lands_at.Statement.{statement}
+use Rattle.operands.proofs.lands_at.Tie as tie
 
 operand-at-requires : tie.Need-operand-at-requires
 operand-at-requires c κs = search needs

@@ -1,9 +1,9 @@
--- `fold::marks_of` meets its contract: bit 1 on LoadConst alone. Assumes nothing.
+-- `pass::marks_of` meets its contract: bit 1 on LoadConst alone. Assumes nothing.
 use borrow.Author.Needs.{needs}
 use Rattle.laws.proofs.Branch.{branch}
 use Rattle.fold.specs.Pass.{markOf}
-use Rattle.fold.proofs.marks_of.Statement.{statement}
-use Rattle.fold.proofs.marks_of.Tie as tie
+use Rattle.pass.proofs.marks_of.Statement.{statement}
+use Rattle.pass.proofs.marks_of.Tie as tie
 
 returns : tie.Need-returns
 unfolding markOf

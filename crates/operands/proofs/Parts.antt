@@ -16,9 +16,9 @@ use Rattle.values.specs.declared.Maybe.the-variants.{Is, Nothing}
 use Rattle.chunk.specs.Pool.{toVal, constToVal}
 use Rattle.chunk.proofs.Store.{val-sound}
 use Rattle.landings.specs.Landings.{lands}
-use Rattle.fold.specs.Plan.{prevLive, operandOf, skipsInto, blocked, after}
-use Rattle.fold.specs.declared.Found.{Found}
-use Rattle.fold.specs.declared.Found.the-variants.{At, Nowhere}
+use Rattle.operands.specs.Operands.{prevLive, operandOf, skipsInto, blocked, after}
+use Rattle.operands.specs.declared.Found.{Found}
+use Rattle.operands.specs.declared.Found.the-variants.{At, Nowhere}
 
 -- ---- the nearest live instruction
 

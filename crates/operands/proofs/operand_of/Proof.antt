@@ -1,8 +1,8 @@
--- `fold::operand_of` meets its contract: by its opcode. Assumes nothing.
+-- `operands::operand_of` meets its contract: by its opcode. Assumes nothing.
 use borrow.Author.Needs.{needs}
-use Rattle.fold.proofs.Parts.{no-load, a-load}
-use Rattle.fold.proofs.operand_of.Statement.{statement}
-use Rattle.fold.proofs.operand_of.Tie as tie
+use Rattle.operands.proofs.Parts.{no-load, a-load}
+use Rattle.operands.proofs.operand_of.Statement.{statement}
+use Rattle.operands.proofs.operand_of.Tie as tie
 
 op-at-requires : tie.Need-op-at-requires
 op-at-requires c κs = search needs

@@ -1,8 +1,8 @@
--- `fold::const_load` meets its contract: one law for each kind. Assumes nothing.
+-- `pass::const_load` meets its contract: one law for each kind. Assumes nothing.
 use borrow.Author.Needs.{needs}
 use Rattle.fold.proofs.Ways.{true-load, false-load, int-load, float-load}
-use Rattle.fold.proofs.const_load.Statement.{statement}
-use Rattle.fold.proofs.const_load.Tie as tie
+use Rattle.pass.proofs.const_load.Statement.{statement}
+use Rattle.pass.proofs.const_load.Tie as tie
 
 enum-known-v : tie.Need-enum-known-v
 enum-known-v c = search needs

@@ -1,8 +1,8 @@
--- `fold::pool_load` meets its contract: kept, or no room. Assumes nothing.
+-- `pass::pool_load` meets its contract: kept, or no room. Assumes nothing.
 use borrow.Author.Needs.{needs}
 use Rattle.fold.proofs.Ways.{kept-load, full-load}
-use Rattle.fold.proofs.pool_load.Statement.{statement}
-use Rattle.fold.proofs.pool_load.Tie as tie
+use Rattle.pass.proofs.pool_load.Statement.{statement}
+use Rattle.pass.proofs.pool_load.Tie as tie
 
 find-or-push-const-requires : tie.Need-find-or-push-const-requires
 find-or-push-const-requires c κs = search needs

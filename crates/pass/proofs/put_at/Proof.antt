@@ -1,4 +1,4 @@
--- `fold::put_at` meets its contract: three words. Assumes nothing.
+-- `pass::put_at` meets its contract: three words. Assumes nothing.
 use borrow.Author.Needs.{needs}
 use native.Mathlib.Omega.{arith}
 use mathlib.Core.Path.{_≡_}
@@ -6,9 +6,9 @@ use mathlib.Core.List.{List}
 use Prim.Native.Nat.{ℕ, _+_, _*_}
 use lib.ListN.{set, length-set}
 use Rattle.lent.specs.Chunk.{stride}
 use Rattle.fold.specs.Pass.{markOf, put}
-use Rattle.fold.proofs.put_at.Statement.{statement}
-use Rattle.fold.proofs.put_at.Tie as tie
+use Rattle.pass.proofs.put_at.Statement.{statement}
+use Rattle.pass.proofs.put_at.Tie as tie
 
 three : (w : List ℕ) (p o x m : ℕ) → m ≡ markOf o → set (set (set w (stride * p) o) (stride * p + 1) m) (stride * p + 2) x ≡ put w p o x
 unfolding put

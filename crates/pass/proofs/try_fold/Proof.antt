@@ -1,9 +1,9 @@
--- `fold::try_fold` meets its contract: a plan, then the write. Assumes nothing.
+-- `pass::try_fold` meets its contract: a plan, then the write. Assumes nothing.
 use borrow.Author.Needs.{needs}
 use Rattle.fold.proofs.Planned.{first-there, second-there, room-there}
 use Rattle.fold.proofs.Ways.{is-dead, stays, is-put}
-use Rattle.fold.proofs.try_fold.Statement.{statement}
-use Rattle.fold.proofs.try_fold.Tie as tie
+use Rattle.pass.proofs.try_fold.Statement.{statement}
+use Rattle.pass.proofs.try_fold.Tie as tie
 
 slice-read-if1 : tie.Need-slice-read-if1
 slice-read-if1 c = search needs

@@ -1,11 +1,11 @@
--- `fold::prev_live` meets its contract: what is left to search has the answer of the whole. Assumes nothing.
+-- `operands::prev_live` meets its contract: what is left to search has the answer of the whole. Assumes nothing.
 use borrow.Author.Needs.{needs}
 use Prim.Native.Nat.{_≤_}
 use mathlib.Core.Path.{_≡_}
-use Rattle.fold.specs.Plan.{prevLive}
-use Rattle.fold.proofs.Parts.{live-here, dead-here, none-left}
-use Rattle.fold.proofs.prev_live.Statement.{statement}
-use Rattle.fold.proofs.prev_live.Tie as tie
+use Rattle.operands.specs.Operands.{prevLive}
+use Rattle.operands.proofs.Parts.{live-here, dead-here, none-left}
+use Rattle.operands.proofs.prev_live.Statement.{statement}
+use Rattle.operands.proofs.prev_live.Tie as tie
 
 abbrev Inv-loop : tie.InvT-loop
 Inv-loop dead from i₀ i = (i ≤ from) × (prevLive dead i ≡ prevLive dead from)

@@ -1,8 +1,8 @@
--- `fold::blocks` meets its contract: the jump before, then the last landing. Assumes nothing.
+-- `operands::blocks` meets its contract: the jump before, then the last landing. Assumes nothing.
 use borrow.Author.Needs.{needs}
-use Rattle.fold.proofs.Parts.{skip-blocks, last-blocks}
-use Rattle.fold.proofs.blocks.Statement.{statement}
-use Rattle.fold.proofs.blocks.Tie as tie
+use Rattle.operands.proofs.Parts.{skip-blocks, last-blocks}
+use Rattle.operands.proofs.blocks.Statement.{statement}
+use Rattle.operands.proofs.blocks.Tie as tie
 
 skips-into-requires : tie.Need-skips-into-requires
 skips-into-requires c κs = search needs

@@ -20,8 +20,10 @@ use Rattle.surveys.specs.Answers.{writtenAnswer, passedAnswer}
 use Rattle.callee.specs.Answers.{globalAnswer, pushAnswer, stackAnswer}
 use Rattle.callee.specs.Trace.{stepAt, heard, tracedBy, traced}
 use Rattle.phis.specs.Phi.{Dead}
-use Rattle.phis.specs.Generator.{GenPure}
+use Rattle.generators.specs.Generator.{GenPure}
 use Rattle.needed.specs.Path.{Needs}
+use Rattle.needed.specs.Asked.{jumpsIn}
+use Rattle.paths.specs.Search.{Turns}
 use Rattle.flow.specs.Set.{bit}
 use Rattle.flow.specs.Flow.{Flow, Least}
 use Rattle.values.specs.Python.{Divides, floorDiv, floorMod, Digitwise, both, some, one, andZ, orZ, xorZ, eqZ, signed, sign}
@@ -70,7 +72,8 @@ use Rattle.figures.specs.Month as figured
 use Rattle.laws.specs.Page.{among}
 use Rattle.laws.specs.Table.{filledTo}
 use Rattle.steps.specs.Code.{afterAt}
-use Rattle.day.specs.Trace.{slotAt, stepsOf, Recorded}
+use Rattle.blocks.specs.Blocks.{slotAt, stepsOf}
+use Rattle.trace.specs.Trace.{Recorded}
 use Rattle.day.specs.Count.{readsIn, levelsIn}
 use Rattle.day.specs.Day.{stagesOf}
 use Rattle.replays.specs.Positions.{slotsFrom, visited}
@@ -173,6 +176,8 @@ pub record Promised : Type 0 where
       → (k q : ℕ) (m : Marks) (s : Answer) (m′ : Marks) → NeededCall w regs k q m s m′ → s .refusal ≡ 0 → bit (rowLeft bits regs w a k) q ≡ s .first
   -- as the forced wide route does
   pub wide-zero : (bits regs : ℕ) (w : List ℕ) → startAt bits true regs w ≡ 0
+  -- its search, in k turns from the asked position on, makes at most as many as there are instructions and jumps, and the first
+  pub needed-few : (w seen seen′ : List ℕ) (k top : ℕ) → Turns (count w) (afterAt w) seen 1 k seen′ top → k ≤ 1 + (count w + jumpsIn w)
   -- ---- Python's numbers
 
   -- quotient and remainder are as Python's law asks

@@ -63,7 +63,8 @@ use Rattle.flow.specs.Kept.{handlersOf}
 use Rattle.flow.specs.Demand.{Alike}
 use Rattle.steps.specs.Code.{flow}
 use Rattle.levels.specs.Answers.{levelAnswer}
-use Rattle.saver.specs.Saver.{Saver, Back, returned, thrown, usedOf, freeOf, putIn}
+use Rattle.area.specs.Area.{freeOf, putIn}
+use Rattle.saver.specs.Saver.{Saver, Back, returned, thrown, usedOf}
 use Rattle.saver.specs.Frames.{fileOf, Open}
 use Rattle.figures.specs.Figures.{bodyFigures}
 use Rattle.figures.specs.Answers.{reports, addCall, joinCall}
@@ -176,7 +177,7 @@ pub record Promised : Type 0 where
       → (k q : ℕ) (m : Marks) (s : Answer) (m′ : Marks) → NeededCall w regs k q m s m′ → s .refusal ≡ 0 → bit (rowLeft bits regs w a k) q ≡ s .first
   -- as the forced wide route does
   pub wide-zero : (bits regs : ℕ) (w : List ℕ) → startAt bits true regs w ≡ 0
-  -- its search, in k turns from the asked position on, makes at most as many as there are instructions and jumps, and the first
+  -- the turns of its search from the asked position on are at most as many as instructions and jumps, and the first
   pub needed-few : (w seen seen′ : List ℕ) (k top : ℕ) → Turns (count w) (afterAt w) seen 1 k seen′ top → k ≤ 1 + (count w + jumpsIn w)
   -- ---- Python's numbers
 

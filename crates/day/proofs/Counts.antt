@@ -27,7 +27,7 @@ use Rattle.steps.specs.Code.{usedAt}
 use Rattle.steps.specs.Level.{isLevel}
 use Rattle.steps.specs.Step.{StepAt, named}
 use Rattle.steps.specs.declared.Step.{Step}
-use Rattle.day.specs.Trace.{slotAt}
+use Rattle.blocks.specs.Blocks.{slotAt}
 use Rattle.day.specs.Count.{Low, Lower, Once, Thrice, Stepped, Zeros, readsIn, levelsIn, Counted, Walkable}
 
 and-false : (t : Bool) → t && false ≡ false

@@ -15,14 +15,15 @@ use Rattle.code.specs.declared.Checked.the-variants as stage
 use Rattle.code.specs.declared.Refusal.{Refusal}
 use Rattle.code.proofs.Checks.{counted, checked}
 use Rattle.code.proofs.Stages.{regs-before, tries-before, room-before, room-there}
-use Rattle.day.specs.Trace.{slotAt, fillerAt, verdictOf, stepsOf, Recorded}
+use Rattle.blocks.specs.Blocks.{slotAt, fillerAt, stepsOf}
+use Rattle.trace.specs.Trace.{verdictOf, Recorded}
 use Rattle.day.specs.Count.{readsIn, levelsIn, Counted, Walkable}
 use Rattle.day.specs.Day.{stagesOf, Day, refused, check, filler, move, told}
-use Rattle.day.specs.declared.Verdict.{Verdict}
-use Rattle.day.specs.declared.Verdict.the-variants as found
+use Rattle.trace.specs.declared.Verdict.{Verdict}
+use Rattle.trace.specs.declared.Verdict.the-variants as found
 use Rattle.day.specs.declared.DayAnswer.{DayAnswer}
 use Rattle.day.specs.declared.DayAnswer.the-variants.{Is, No, Check, Filler, Move}
-use Rattle.day.proofs.Runs.{fine-recorded}
+use Rattle.trace.proofs.Runs.{fine-recorded}
 
 -- ---- the first filler
 

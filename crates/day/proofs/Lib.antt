@@ -1,5 +1,3 @@
-pub mod Calls
 pub mod Counts
-pub mod Runs
 pub mod Days
 pub mod Alone

@@ -13,7 +13,7 @@ use Rattle.code.specs.Ins.{insAt, count}
 use Rattle.code.specs.Check.{Whole}
 use Rattle.steps.specs.Code.{usedAt}
 use Rattle.steps.specs.Level.{isLevel}
-use Rattle.day.specs.Trace.{slotAt}
+use Rattle.blocks.specs.Blocks.{slotAt}
 
 -- the counts of the first registers can still rise
 pub record Low (regs : ℕ) (reads : List ℕ) : Type 0 where

@@ -1,4 +1,3 @@
-pub mod Trace
 pub mod Count
 pub mod Day
 pub mod Answers

@@ -22,9 +22,9 @@ use Rattle.surveys.specs.declared.Filled.{Filled}
 use Rattle.surveys.specs.declared.Filled.the-variants as filled
 use Rattle.surveys.specs.Answers.{Fills, targetMark}
 use Rattle.loops.specs.Loops.{depth}
-use Rattle.phis.specs.Phi as phi
+use Rattle.paths.specs.Search as paths
 use Rattle.phis.specs.Phi.{Dead}
-use Rattle.phis.specs.Generator.{GenPure}
+use Rattle.generators.specs.Generator.{GenPure}
 use Rattle.phis.specs.Answers.{Tells, roomBoth}
 use Rattle.turniploom.specs.Answers.{By, filledTold, truthTold}
 use Rattle.turniploom.proofs.Alone.{one-targets, one-loops, one-dead, one-gen}
@@ -128,7 +128,7 @@ module _ (w : List ℕ) (v : Checked) (P : Type 0) (b : Marks) (r : Answer) (a :
   pub told-truth : r .refusal ≡ 0 → Truth P r
   told-truth z = go tests (x .allowed)
     where
-      say : (c : Bool) → r ≡ truthTold (told.Is c) → phi.Says P c → Truth P r
+      say : (c : Bool) → r ≡ truthTold (told.Is c) → paths.Says P c → Truth P r
       say true e p = inl (ap (λ (s : Answer). s .first) e, p)
       say false e p = inr (ap (λ (s : Answer). s .first) e, p)
 

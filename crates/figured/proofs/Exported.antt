@@ -12,12 +12,13 @@ use lib.Seq.{sets, sets-eq, length-sets}
 use Rattle.code.specs.Ins.{insAt, count}
 use Rattle.code.specs.Answers.{answerOf, refusalOf, refusedOf}
 use Rattle.code.specs.declared.Answer.{Answer}
-use Rattle.figures.specs.Figures.{figuresOf, longestOf, sumOf, firstAt, sumsOf, bodyOf, bodyFigures, wrong, firstWrong, Right}
+use Rattle.groups.specs.Groups.{figuresOf, longestOf, sumOf, firstAt, sumsOf}
+use Rattle.figures.specs.Figures.{bodyOf, bodyFigures, wrong, firstWrong, Right}
 use Rattle.figures.specs.Answers.{figuresIn, wordsOf, wrote, Reports, reports, reportedOf, addedOf, addCall, joinCall}
 use Rattle.figures.specs.Month.{Body, metFrom, reportOf, Holds}
-use Rattle.figures.specs.declared.Figures.{Figures}
-use Rattle.figures.specs.declared.FiguresAnswer.{FiguresAnswer}
-use Rattle.figures.specs.declared.FiguresAnswer.the-variants.{Is, No, Offsets, Over}
+use Rattle.groups.specs.declared.Figures.{Figures}
+use Rattle.groups.specs.declared.FiguresAnswer.{FiguresAnswer}
+use Rattle.groups.specs.declared.FiguresAnswer.the-variants.{Is, No, Offsets, Over}
 use Rattle.figures.proofs.Month.{months, added, body-is}
 use Rattle.turniploom.proofs.Answered.{never-0}
 

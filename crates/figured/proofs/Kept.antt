@@ -26,11 +26,12 @@ use Rattle.kept.specs.Answers.{scratchFor, stagesOf, Outcome, refused, short, t
 use Rattle.kept.specs.declared.KeptAnswer.{KeptAnswer}
 use Rattle.kept.proofs.Parts.{offset-at}
 use Rattle.kept.proofs.Passes.{offsets-long}
-use Rattle.figures.specs.Figures.{bodyFigures, bodyOf, placedOf, Right, most, joinOf, sumsOf}
+use Rattle.groups.specs.Groups.{most, joinOf, sumsOf}
+use Rattle.figures.specs.Figures.{bodyFigures, bodyOf, placedOf, Right}
 use Rattle.figures.specs.Answers.{figuresIn, Reports, reports, reportedOf, addedOf, addCall}
-use Rattle.figures.specs.declared.Figures.{Figures}
-use Rattle.figures.specs.declared.FiguresAnswer.{FiguresAnswer}
-use Rattle.figures.specs.declared.FiguresAnswer.the-variants.{Is, No, Offsets, Over}
+use Rattle.groups.specs.declared.Figures.{Figures}
+use Rattle.groups.specs.declared.FiguresAnswer.{FiguresAnswer}
+use Rattle.groups.specs.declared.FiguresAnswer.the-variants.{Is, No, Offsets, Over}
 use Rattle.figures.proofs.Calls.{right-fine}
 use Rattle.figures.proofs.Month.{totals}
 use Rattle.turniploom.specs.Answers.{keptTold, KeptTold}

@@ -1,4 +1,4 @@
-pub mod Groups
+pub mod Bodies
 pub mod Calls
 pub mod Month
 pub mod Words

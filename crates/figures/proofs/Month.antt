@@ -12,14 +12,14 @@ use Rattle.code.specs.Check.{checkOf}
 use Rattle.code.specs.declared.Checked.{Checked}
 use Rattle.code.specs.declared.Checked.the-variants as stage
 use Rattle.steps.specs.Level.{isLevel}
-use Rattle.figures.specs.declared.Figures.{Figures}
-use Rattle.figures.specs.declared.FiguresAnswer.{FiguresAnswer}
-use Rattle.figures.specs.declared.FiguresAnswer.the-variants.{Is, No, Offsets, Over}
+use Rattle.groups.specs.declared.Figures.{Figures}
+use Rattle.groups.specs.declared.FiguresAnswer.{FiguresAnswer}
+use Rattle.groups.specs.declared.FiguresAnswer.the-variants.{Is, No, Offsets, Over}
 use Rattle.code.specs.declared.Refusal.the-variants.{Short}
-use Rattle.figures.specs.Figures.{Met, met, firstAt, longestOf, figuresOf, joinOf, most, sumsOf}
+use Rattle.groups.specs.Groups.{Met, met, firstAt, longestOf, figuresOf, joinOf, most, sumsOf, moved}
 use Rattle.figures.specs.Figures.{levelsTo, lenAt, bodyFigures, firstWrong, Right, placedOf, afterCheck, bodyOf}
-use Rattle.figures.specs.Month.{Body, moved, metFrom, reportOf}
-use Rattle.figures.proofs.Groups.{report-join, report-one}
+use Rattle.figures.specs.Month.{Body, metFrom, reportOf}
+use Rattle.figures.proofs.Bodies.{report-join, report-one}
 use Rattle.figures.proofs.Calls.{sum-is}
 
 -- an answer is the groups joined

@@ -5,11 +5,12 @@ use Prim.Native.Nat.{ℕ}
 use Rattle.code.specs.Answers.{answerOf, refusalOf, refusedOf}
 use Rattle.code.specs.declared.Answer.{Answer}
 use Rattle.code.specs.declared.Refusal.{Refusal}
-use Rattle.figures.specs.Figures.{sumsOf, bodyOf}
+use Rattle.groups.specs.Groups.{sumsOf}
+use Rattle.figures.specs.Figures.{bodyOf}
 use Rattle.figures.specs.Answers.{figuresIn, wrote, Reports, reports, reportedOf, addedOf, addCall, joinCall}
-use Rattle.figures.specs.declared.Figures.{Figures}
-use Rattle.figures.specs.declared.FiguresAnswer.{FiguresAnswer}
-use Rattle.figures.specs.declared.FiguresAnswer.the-variants.{Is, No, Offsets, Over}
+use Rattle.groups.specs.declared.Figures.{Figures}
+use Rattle.groups.specs.declared.FiguresAnswer.{FiguresAnswer}
+use Rattle.groups.specs.declared.FiguresAnswer.the-variants.{Is, No, Offsets, Over}
 
 module _ (a b : ℕ) (old : List ℕ) (v : FiguresAnswer) (r : Answer) where
   pub told-is : (f : Figures) (new : List ℕ) → v ≡ Is f → new ≡ wrote f old → r ≡ answerOf a b (f .kept) (f .levels) → reportedOf a b old v ≡ reports new r

@@ -8,10 +8,11 @@ use lib.ListN.{getD}
 use lib.Seq.{sets}
 use Rattle.code.specs.Answers.{answerOf, refusalOf, refusedOf}
 use Rattle.code.specs.declared.Answer.{Answer}
-use Rattle.figures.specs.Figures.{sumsOf, bodyOf}
-use Rattle.figures.specs.declared.Figures.{Figures}
-use Rattle.figures.specs.declared.FiguresAnswer.{FiguresAnswer}
-use Rattle.figures.specs.declared.FiguresAnswer.the-variants.{Is, No, Offsets, Over}
+use Rattle.groups.specs.Groups.{sumsOf}
+use Rattle.figures.specs.Figures.{bodyOf}
+use Rattle.groups.specs.declared.Figures.{Figures}
+use Rattle.groups.specs.declared.FiguresAnswer.{FiguresAnswer}
+use Rattle.groups.specs.declared.FiguresAnswer.the-variants.{Is, No, Offsets, Over}
 
 -- the words: bodies, levels, kept registers, longest list, whether there is a level, and body and position of the first so long
 abbrev pub figuresIn : List ℕ → Figures

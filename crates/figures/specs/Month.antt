@@ -1,21 +1,17 @@
 -- A group of bodies, each with its answer from the kept-register call, and its report. Assumes nothing.
-use Prim.Native.Nat.{ℕ, suc, _+_}
-use mathlib.Core.List.{List, [], _∷_, _++_, map}
+use Prim.Native.Nat.{ℕ, suc}
+use mathlib.Core.List.{List, [], _∷_, _++_}
 use mathlib.Core.Path.{_≡_}
 use lib.ListN.{length}
 use Rattle.code.specs.Ins.{count}
-use Rattle.figures.specs.declared.Figures.{Figures}
-use Rattle.figures.specs.Figures.{Met, met, levelsTo, figuresOf}
+use Rattle.groups.specs.declared.Figures.{Figures}
+use Rattle.groups.specs.Groups.{Met, moved, figuresOf}
+use Rattle.figures.specs.Figures.{levelsTo}
 use Rattle.figures.specs.Answers.{figuresIn}
 
 pub record Body : Type 0 where
   pub code : List ℕ
   pub offsets : List ℕ
-
--- body numbers moved up
-unfoldable pub moved : ℕ → List Met → List Met
-moved n [] = []
-moved n (m ∷ ms) = met (n + m .body) (m .at) (m .len) ∷ moved n ms
 
 -- every level of every body, in order; the first body has number b
 unfoldable pub metFrom : ℕ → List Body → List Met

@@ -4,32 +4,15 @@ ghost use Prim.Native.Nat.{_+_, _<_, _≤_};
 ghost use lib.ListN.{length};
 ghost use Rattle.code.specs.Ins.{count};
 ghost use Rattle.code.specs.Check.{Whole};
-ghost use Rattle.figures.specs.Figures.{figuresOf, levelsTo, Sums, joinOf, betterOf, bodyFigures, wrong, firstWrong, sumsOf, bodyOf, Right};
+ghost use Rattle.groups.specs.Groups.{figuresOf};
+ghost use Rattle.figures.specs.Figures.{levelsTo, bodyFigures, wrong, firstWrong, bodyOf, Right};
 ghost use Rattle.figures.specs.Answers.{figuresIn, wrote, reports, reportedOf, addedOf, addCall, joinCall};
 ghost use Rattle.code.specs.Answers.{refusalOf};
 use code::Answer;
 use code::Checked;
 use code::Refusal;
-
-// What is known of a group of bodies: how many, their levels, the registers that these keep, the longest list, and the body and position where
-// it first stands. `found` says that there is a level.
-pub struct Figures {
-    pub bodies: u64,
-    pub levels: u64,
-    pub kept: u64,
-    pub longest: u64,
-    pub found: bool,
-    pub body: u64,
-    pub at: u64,
-}
-
-// The figures after a call, or why it is refused.
-pub enum FiguresAnswer {
-    Is(Figures),
-    No(Refusal),
-    Offsets(usize),
-    Over(u8),
-}
+use groups::Figures;
+use groups::FiguresAnswer;
 
 // A body joins the group that the report is of: its levels and kept registers, then sum and levels of the mean.
 pub fn add(code: &[u16], offsets: &[u32], list: &[u16], report: &mut [u64; 7]) -> Answer
@@ -44,7 +27,7 @@ pub fn join(later: &[u64; 7], report: &mut [u64; 7]) -> Answer
 {
     let f = figures_in(report);
     let g = figures_in(later);
-    reported(report, 0, 0, sums(f, g))
+    reported(report, 0, 0, groups::sums(f, g))
 }
 
 // The figures in a report's words.
@@ -114,7 +97,7 @@ fn added(report: &mut [u64; 7], a: FiguresAnswer) -> Answer
             let levels = g.levels;
             let kept = g.kept;
             let f = figures_in(report);
-            reported(report, levels, kept, sums(f, g))
+            reported(report, levels, kept, groups::sums(f, g))
         }
         FiguresAnswer::No(r) => code::refused(r),
         FiguresAnswer::Offsets(k) => refuse(15, k as u64),
@@ -142,69 +125,6 @@ fn body(code: &[u16], offsets: &[u32], list: &[u16]) -> FiguresAnswer
             }
             FiguresAnswer::Is(body_figures(code, offsets))
         }
-    }
-}
-
-// Two groups as one: the second's body numbers move up by the first's bodies.
-fn sums(f: Figures, g: Figures) -> FiguresAnswer
-    ensures { λ r. ⌜ r ≡ sumsOf f g ⌝ }
-{
-    let room = 18446744073709551615 - f.bodies;
-    if room < g.bodies {
-        return FiguresAnswer::Over(1);
-    }
-    if 18446744073709551615 - f.levels < g.levels {
-        return FiguresAnswer::Over(2);
-    }
-    if 18446744073709551615 - f.kept < g.kept {
-        return FiguresAnswer::Over(3);
-    }
-    if room < g.body {
-        return FiguresAnswer::Over(4);
-    }
-    FiguresAnswer::Is(joined(f, g))
-}
-
-// Whether the second group's longest list is the one to report.
-fn better(f: Figures, g: Figures) -> bool
-    ensures { λ r. ⌜ r ≡ betterOf f g ⌝ }
-{
-    let earlier = f.found;
-    let later = g.found;
-    let longer = f.longest < g.longest;
-    later & (!earlier | longer)
-}
-
-fn joined(f: Figures, g: Figures) -> Figures
-    requires { ⌜ Sums f g ⌝ }
-    ensures { λ r. ⌜ r ≡ joinOf f g ⌝ }
-{
-    let bodies = f.bodies + g.bodies;
-    let levels = f.levels + g.levels;
-    let kept = f.kept + g.kept;
-    let body = f.bodies + g.body;
-    let earlier = f.found;
-    let later = g.found;
-    let found = earlier | later;
-    if better(f, g) {
-        return Figures {
-            bodies,
-            levels,
-            kept,
-            longest: g.longest,
-            found,
-            body,
-            at: g.at,
-        };
-    }
-    Figures {
-        bodies,
-        levels,
-        kept,
-        longest: f.longest,
-        found,
-        body: f.body,
-        at: f.at,
     }
 }
 
@@ -285,7 +205,7 @@ fn with_place(f: Figures, code: &[u16], offsets: &[u32], k: usize) -> Figures
         let here = wide(offsets[k]);
         let next = wide(offsets[k + 1]);
         let len = (next - here) as u64;
-        return joined(
+        return groups::joined(
             f,
             Figures {
                 bodies: 0,

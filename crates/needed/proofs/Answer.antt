@@ -19,8 +19,7 @@ use Rattle.flow.proofs.Answer.{found-least}
 use Rattle.steps.specs.Code.{usedAt, givenAt, afterAt, setOf, flow}
 use Rattle.needed.specs.Path.{Needs}
 use Rattle.needed.specs.Path as path
-use Rattle.phis.specs.Phi.{Says}
-use Rattle.paths.specs.Search.{Reach, here, later}
+use Rattle.paths.specs.Search.{Reach, here, later, Says}
 use Rattle.needed.specs.Asked.{usesAt, givesAt, Asked}
 use Rattle.needed.proofs.Rows.{row-needs, needs-row}
 

@@ -1,14 +1,14 @@
 -- The call tells by its tests, and its answer is settled. Assumes nothing.
 use mathlib.Core.Path.{_≡_, refl, sym, ap, _∙_}
 use mathlib.Core.Bool.{Bool, true, false, cond, _&&_}
-use mathlib.Core.List.{List, _++_}
+use mathlib.Core.List.{List}
 use Prim.Native.Nat.{ℕ, _+_, _/_, _<_, _≤_}
 use native.Mathlib.Omega.{arith}
 use borrow.Author.Tests.{lt-ltb, ltb-true, ltb-false}
 use lib.Dec.{ltb}
-use lib.ListN.{length, getD, replicate}
+use lib.ListN.{length}
 use Rattle.laws.specs.Table.{clearedTo}
-use Rattle.laws.proofs.Table.{cleared-tail, cleared-length, cleared-at}
+use Rattle.laws.proofs.Table.{cleared-length}
 use Rattle.code.specs.Check.{checkOf, registersOf, roomOf, Valid}
 use Rattle.code.specs.declared.Refusal.{Refusal}
 use Rattle.code.specs.declared.Refusal.the-variants.{Position}
@@ -20,8 +20,9 @@ use Rattle.code.proofs.Checks.{counted, checked}
 use Rattle.code.proofs.Stages.{regs-before, room-before, room-there}
 use Rattle.steps.specs.Code.{flow}
 use Rattle.needed.specs.Path.{Needs}
-use Rattle.phis.specs.Phi.{Says, Settles}
-use Rattle.needed.specs.Asked.{Asked, Room, Searched}
+use Rattle.paths.specs.Search.{Says, Searched, Settles}
+use Rattle.paths.proofs.Between.{settles}
+use Rattle.needed.specs.Asked.{Asked, Room}
 use Rattle.needed.specs.Answers.{uptoOf}
 use Rattle.needed.proofs.Answer.{asked-needs, needs-asked, never-past}
 
@@ -92,9 +93,6 @@ module _ (w seen seen₁ todo : List ℕ) (room : Room w seen todo) (c : seen₁
   pub ready : Room w seen₁ todo
   ready = record { valid = room .valid; marks = rw (c, cleared-length (length w / 6 + 1) seen (room .marks)) (room .marks); waiting = room .waiting }
 
-  pub none : (j : ℕ) → j < length w / 6 → getD seen₁ j 0 ≡ 0
-  none j h = rw c (cleared-at (length w / 6 + 1) seen j (omega arith))
-
 -- what was asked, and whether there is such a register
 both : (w : List ℕ) (regs r k : ℕ) (b : Bool) → Says (Asked w r k) b → Says (Needs (flow regs w) r k) (b && ltb r regs)
 both w regs r k b s = go b s (ltb r regs) refl
@@ -107,12 +105,9 @@ both w regs r k b s = go b s (ltb r regs) refl
 
 pub done : (w seen seen₁ seen₂ seen₃ todo todo₁ todo₂ : List ℕ) (regs k r : ℕ) (b : Bool)
     → seen₁ ≡ clearedTo (length w / 6 + 1) seen
-    → Searched w seen₁ todo r k b seen₂ todo₁
+    → Searched (Asked w r k) (length w / 6) seen₁ todo b seen₂ todo₁
     → seen₃ ≡ clearedTo (length w / 6 + 1) seen₂
     → todo₂ ≡ clearedTo (length w / 6 + 1) todo₁
     → Settles (Needs (flow regs w) r k) (length w / 6 + 1) seen todo (b && ltb r regs) seen₃ todo₂
-done w seen seen₁ seen₂ seen₃ todo todo₁ todo₂ regs k r b c s d e = record {
-  says = both w regs r k b (s .answer);
-  marks = d ∙ ap (λ (l : List ℕ). replicate (length w / 6 + 1) 0 ++ l) (s .marks .tail ∙ rw c (cleared-tail (length w / 6 + 1) seen));
-  waiting = e ∙ ap (λ (l : List ℕ). replicate (length w / 6 + 1) 0 ++ l) (s .waiting .tail);
-}
+done w seen seen₁ seen₂ seen₃ todo todo₁ todo₂ regs k r b c s d e =
+    settles (Asked w r k) (Needs (flow regs w) r k) (length w / 6) seen seen₁ seen₂ seen₃ todo todo₁ todo₂ b (b && ltb r regs) c s d e (both w regs r k b)

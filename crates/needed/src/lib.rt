@@ -8,9 +8,8 @@ ghost use Rattle.steps.specs.Code.{flow};
 ghost use Rattle.steps.specs.Step.{named, usedOf, givenOf};
 ghost use Rattle.needed.specs.Path.{Needs};
 ghost use Rattle.needed.specs.Answers.{uptoOf, NeededTold};
-ghost use Rattle.phis.specs.Phi.{Settles};
-ghost use Rattle.paths.specs.Search.{pushed};
-ghost use Rattle.needed.specs.Asked.{Room, Searched};
+ghost use Rattle.paths.specs.Search.{pushed, Searched, Settles};
+ghost use Rattle.needed.specs.Asked.{Asked, Room};
 use code::Checked;
 use code::Refusal;
 use code::Told;
@@ -102,7 +101,7 @@ fn push(todo: &mut [u32], top: usize, at: u32, yes: bool) -> usize
 // Whether a path from `start` uses r before it gives it up; no mark is set at entry.
 fn search(code: &[u16], r: u16, start: u32, seen: &mut [u8], todo: &mut [u32]) -> bool
     requires { ⌜ Room (now code) (now seen) (now todo) × ((j : ℕ) → j < length (now code) / 6 → getD (now seen) j 0 ≡ 0) ⌝ }
-    ensures { λ b. ⌜ Searched (now (code .entry)) (now (seen .entry)) (now (todo .entry)) r start b (now (seen .exit)) (now (todo .exit)) ⌝ }
+    ensures { λ b. ⌜ Searched (Asked (now (code .entry)) r start) (length (now (code .entry)) / 6) (now (seen .entry)) (now (todo .entry)) b (now (seen .exit)) (now (todo .exit)) ⌝ }
 {
     let n = code.len() / 6;
     todo[0] = start;

@@ -12,7 +12,8 @@ use Rattle.code.specs.declared.Told.{Told}
 use Rattle.code.specs.declared.Told.the-variants as told
 use Rattle.code.proofs.Checks.{valid-of}
 use Rattle.walks.proofs.Rooms.{before-inside, within, before-room, roomy}
-use Rattle.phis.specs.Phi.{Says, Room, Settles}
+use Rattle.paths.specs.Search.{Says, Settles}
+use Rattle.phis.specs.Phi.{Room}
 use Rattle.phis.specs.Answers.{Tells}
 
 module _ (v s : Checked) (e : v ≡ s) (P : Type 0) (m : ℕ) (seen todo : List ℕ) where
@@ -57,7 +58,7 @@ says-once P true false x y = absurd (y x)
 says-once P false true x y = absurd (x y)
 says-once P false false x y = refl
 
--- any two results that the contract of `dead_phi` or `gen_pure` allows are equal, with every lent word
+-- any two results that a contract of this form allows are equal, with every lent word
 pub one-answer : (v : Checked) (P : Type 0) (m : ℕ) (seen todo : List ℕ) (r r′ : Told) (a a′ b b′ : List ℕ) → Tells v P m seen todo r a b → Tells v P m seen todo r′ a′ b′ → (r ≡ r′) × (a ≡ a′) × (b ≡ b′)
 one-answer (No q) P m seen todo r r′ a a′ b b′ x y = (x .0 ∙ sym (y .0), x .1 ∙ sym (y .1), x .2 ∙ sym (y .2))
 one-answer (Count n) P m seen todo r r′ a a′ b b′ (c, x, s) (d, y, t) =

@@ -1,4 +1,4 @@
--- What the public calls answer: refusals 1, 2, at a position 6, and 5 for the marks, then for the waiting positions; else a truth. Assumes nothing.
+-- What `dead_phi` answers: refusals 1, 2, 6, and 5 for the marks, then for the waiting positions; else a truth. Assumes nothing.
 use Prim.Native.Nat.{ℕ, _+_}
 use mathlib.Core.Path.{_≡_}
 use mathlib.Core.Bool.{Bool}
@@ -10,8 +10,8 @@ use Rattle.code.specs.declared.Checked.{Checked}
 use Rattle.code.specs.declared.Checked.the-variants.{Count, No}
 use Rattle.code.specs.declared.Told.{Told}
 use Rattle.code.specs.declared.Told.the-variants as told
-use Rattle.phis.specs.Phi.{Dead, Settles}
-use Rattle.phis.specs.Generator.{GenPure}
+use Rattle.paths.specs.Search.{Settles}
+use Rattle.phis.specs.Phi.{Dead}
 
 -- both buffers have n + 1 words
 abbrev pub roomBoth : Checked → List ℕ → List ℕ → List ℕ → Checked
@@ -25,7 +25,3 @@ Tells (Count n) P m seen todo v seen′ todo′ = (b : Bool) × (v ≡ told.Is b
 -- 1, 2, 6, 5
 abbrev pub DeadPhi : List ℕ → ℕ → ℕ → List ℕ → List ℕ → Told → List ℕ → List ℕ → Type 0
 DeadPhi w k r seen todo v seen′ todo′ = Tells (roomBoth (insideOf (checkOf w) k) w seen todo) (Dead w k r) (count w + 1) seen todo v seen′ todo′
-
--- 1, 2, 5
-abbrev pub GenTold : List ℕ → List ℕ → List ℕ → Told → List ℕ → List ℕ → Type 0
-GenTold w seen todo v seen′ todo′ = Tells (roomBoth (checkOf w) w seen todo) (GenPure w) (count w + 1) seen todo v seen′ todo′

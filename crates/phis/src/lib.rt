@@ -1,12 +1,11 @@
-// Walks that follow paths: whether a Phi's value is dead, and whether a generator's body may be laid (block.rs: `dead_phi`, `gen_pure`).
+// Whether a Phi's value is dead: paths are followed to the first read (block.rs: `dead_phi`).
 ghost use mathlib.Core.Path.{_≡_};
-ghost use Prim.Native.Nat.{ℕ, _+_, _%_, _/_, _<_, _≤_};
+ghost use Prim.Native.Nat.{ℕ, _+_, _/_, _<_};
 ghost use lib.ListN.{length, getD};
 ghost use mir.Val.{boolByte};
-ghost use Rattle.code.specs.Check.{Whole};
-ghost use Rattle.phis.specs.Phi.{reads, stops, pushed, Dead, Room, Searched, Settles};
-ghost use Rattle.phis.specs.Generator.{makes, made, opens, closes, leaves, returnsOutside, PhisDead, GenPure, Clear};
-ghost use Rattle.phis.specs.Answers.{DeadPhi, GenTold};
+ghost use Rattle.paths.specs.Search.{pushed, Searched, Settles};
+ghost use Rattle.phis.specs.Phi.{reads, stops, Read, Dead, Room};
+ghost use Rattle.phis.specs.Answers.{DeadPhi};
 use code::Checked;
 use code::Ins;
 use code::Told;
@@ -25,22 +24,6 @@ pub fn dead_phi(code: &[u16], at: usize, r: u16, seen: &mut [u8], todo: &mut [u3
     ) {
         Checked::No(q) => Told::No(q),
         Checked::Count(_) => Told::Is(dead(code, at, r, seen, todo)),
-    }
-}
-
-// `gen_pure`: refusals 1, 2, 5.
-pub fn gen_pure(code: &[u16], seen: &mut [u8], todo: &mut [u32]) -> Told
-    ensures { λ v. ⌜ GenTold (now (code .entry)) (now (seen .entry)) (now (todo .entry)) v (now (seen .exit)) (now (todo .exit)) ⌝ }
-{
-    let m = code.len() / 6 + 1;
-    match code::room(
-        code::room(code::check(code), 1, seen.len(), m),
-        2,
-        todo.len(),
-        m,
-    ) {
-        Checked::No(q) => Told::No(q),
-        Checked::Count(_) => Told::Is(generates(code, seen, todo)),
     }
 }
 
@@ -93,7 +76,7 @@ fn push(todo: &mut [u32], top: usize, at: u32, yes: bool) -> usize
 // Whether a path from `start` reads r; no mark is set at entry.
 fn search(code: &[u16], r: u16, start: u32, seen: &mut [u8], todo: &mut [u32]) -> bool
     requires { ⌜ Room (now code) (now seen) (now todo) × ((j : ℕ) → j < length (now code) / 6 → getD (now seen) j 0 ≡ 0) ⌝ }
-    ensures { λ b. ⌜ Searched (now (code .entry)) (now (seen .entry)) (now (todo .entry)) r start b (now (seen .exit)) (now (todo .exit)) ⌝ }
+    ensures { λ b. ⌜ Searched (Read (now (code .entry)) r start) (length (now (code .entry)) / 6) (now (seen .entry)) (now (todo .entry)) b (now (seen .exit)) (now (todo .exit)) ⌝ }
 {
     let n = code.len() / 6;
     todo[0] = start;
@@ -122,7 +105,7 @@ fn search(code: &[u16], r: u16, start: u32, seen: &mut [u8], todo: &mut [u32]) -
 }
 
 // `dead_phi` in accepted code.
-fn dead(code: &[u16], k: usize, r: u16, seen: &mut [u8], todo: &mut [u32]) -> bool
+pub fn dead(code: &[u16], k: usize, r: u16, seen: &mut [u8], todo: &mut [u32]) -> bool
     requires { ⌜ Room (now code) (now seen) (now todo) × (k < length (now code) / 6) ⌝ }
     ensures { λ b. ⌜ Settles (Dead (now (code .entry)) k r) (length (now (code .entry)) / 6 + 1) (now (seen .entry)) (now (todo .entry)) b (now (seen .exit)) (now (todo .exit)) ⌝ }
 {
@@ -132,111 +115,4 @@ fn dead(code: &[u16], k: usize, r: u16, seen: &mut [u8], todo: &mut [u32]) -> bo
     walks::clear_marks(seen, words);
     walks::clear_words(todo, words);
     !found
-}
-
-fn makes(i: Ins) -> bool
-    ensures { λ b. ⌜ b ≡ makes i ⌝ }
-{
-    (i.op == MakeFunction) | (i.op == MakeCoroutine)
-}
-
-// Whether some instruction makes a function.
-fn any_makes(code: &[u16]) -> bool
-    requires { ⌜ Whole (now code) ⌝ }
-    ensures { λ b. ⌜ b ≡ made (now (code .entry)) ⌝ }
-{
-    let n = code.len() / 6;
-    let mut k = 0;
-    while k < n {
-        if makes(code::ins_at(code, k)) {
-            return true;
-        }
-        k += 1;
-    }
-    false
-}
-
-fn opens(i: Ins) -> bool
-    ensures { λ b. ⌜ b ≡ opens i ⌝ }
-{
-    (i.op == SetupExcept) | (i.op == SetupFinally)
-}
-
-fn closes(i: Ins) -> bool
-    ensures { λ b. ⌜ b ≡ closes i ⌝ }
-{
-    (i.op == PopExcept) | (i.op == WithExit) & (i.x == 2)
-}
-
-fn leaves(i: Ins) -> bool
-    ensures { λ b. ⌜ b ≡ leaves i ⌝ }
-{
-    (i.op == ReturnR) | (i.op == ReturnValue)
-}
-
-// `returns_outside`, with what is opened and what is closed counted apart: the Rust's depth goes below 0.
-fn returns_outside(code: &[u16]) -> bool
-    requires { ⌜ Whole (now code) ⌝ }
-    ensures { λ b. ⌜ b ≡ returnsOutside (now (code .entry)) ⌝ }
-{
-    let n = code.len() / 6;
-    let mut opened: usize = 0;
-    let mut closed: usize = 0;
-    let mut k = 0;
-    while k < n {
-        let i = code::ins_at(code, k);
-        let leaves = leaves(i);
-        let pushed = walks::returns_at(code, k);
-        if (opened != closed) & (leaves | pushed) {
-            return false;
-        }
-        opened += opens(i) as usize;
-        closed += closes(i) as usize;
-        k += 1;
-    }
-    true
-}
-
-// Whether every Phi is dead; both buffers are clear, and stay so.
-fn walk_phis(code: &[u16], seen: &mut [u8], todo: &mut [u32]) -> bool
-    requires { ⌜ Clear (now code) (now seen) (now todo) ⌝ }
-    ensures { λ b. ⌜ Settles (PhisDead (now (code .entry)) (length (now (code .entry)) / 6)) (length (now (code .entry)) / 6 + 1) (now (seen .entry)) (now (todo .entry)) b (now (seen .exit)) (now (todo .exit)) ⌝ }
-{
-    let n = code.len() / 6;
-    let mut k = 0;
-    while k < n {
-        let i = code::ins_at(code, k);
-        if i.op != Phi {
-            k += 1;
-            continue;
-        }
-        if dead(code, k, i.a, seen, todo) {
-            k += 1;
-            continue;
-        }
-        return false;
-    }
-    true
-}
-
-fn phis_dead(code: &[u16], seen: &mut [u8], todo: &mut [u32]) -> bool
-    requires { ⌜ Room (now code) (now seen) (now todo) ⌝ }
-    ensures { λ b. ⌜ Settles (PhisDead (now (code .entry)) (length (now (code .entry)) / 6)) (length (now (code .entry)) / 6 + 1) (now (seen .entry)) (now (todo .entry)) b (now (seen .exit)) (now (todo .exit)) ⌝ }
-{
-    let m = code.len() / 6 + 1;
-    walks::clear_marks(seen, m);
-    walks::clear_words(todo, m);
-    walk_phis(code, seen, todo)
-}
-
-// `gen_pure` in accepted code.
-fn generates(code: &[u16], seen: &mut [u8], todo: &mut [u32]) -> bool
-    requires { ⌜ Room (now code) (now seen) (now todo) ⌝ }
-    ensures { λ b. ⌜ Settles (GenPure (now (code .entry))) (length (now (code .entry)) / 6 + 1) (now (seen .entry)) (now (todo .entry)) b (now (seen .exit)) (now (todo .exit)) ⌝ }
-{
-    let dead = phis_dead(code, seen, todo);
-    let laid = laid::all_laid(code, true);
-    let made = any_makes(code);
-    let outside = returns_outside(code);
-    laid & dead & !made & outside
 }

@@ -26,6 +26,7 @@ use Rattle.exported.proofs.Answered.{one}
 use Rattle.exported.proofs.Writing.{targets-settles, loops-settles, dead-settles, gen-settles, dead-truth, gen-truth}
 use Rattle.exported.proofs.Kept.{kept-settles, kept-holds, routes-same}
 use Rattle.exported.proofs.Touched.{touched-holds}
+use Rattle.needed.proofs.Loop.{few-turns}
 use Rattle.exported.proofs.Needed.{needed-settles, needed-truth, needed-bit, wide-zero}
 use Rattle.exported.proofs.Folded.{fold-settles, pool-kept, tables-kept, tries-kept, landings-true, code-again, none-died}
 use Rattle.exported.proofs.Folded.{folds-next, clears-next, folds-cleared, folds-same}
@@ -80,6 +81,7 @@ promised =
       touched-holds = touched-holds;
       needed-truth = needed-truth;
       needed-bit = needed-bit;
+      needed-few = few-turns;
       wide-zero = wide-zero;
       divides = divides;
       one-pair = one-pair;

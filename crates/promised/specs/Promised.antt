@@ -24,8 +24,10 @@ use Rattle.pushes.specs.Answers.{pushAnswer}
 use Rattle.stack.specs.Answers.{stackAnswer}
 use Rattle.callee.specs.Trace.{stepAt, heard, tracedBy, traced}
 use Rattle.phis.specs.Phi.{Dead}
-use Rattle.phis.specs.Generator.{GenPure}
+use Rattle.generators.specs.Generator.{GenPure}
 use Rattle.needed.specs.Path.{Needs}
+use Rattle.needed.specs.Asked.{jumpsIn}
+use Rattle.paths.specs.Search.{Turns}
 use Rattle.flow.specs.Set.{bit}
 use Rattle.flow.specs.Flow.{Flow, Least}
 use Rattle.values.specs.Python.{Divides, floorDiv, floorMod, Digitwise, both, some, one, andZ, orZ, xorZ, eqZ, signed, sign}
@@ -66,7 +68,8 @@ use Rattle.flow.specs.Kept.{handlersOf}
 use Rattle.flow.specs.Demand.{Alike}
 use Rattle.steps.specs.Code.{flow}
 use Rattle.levels.specs.Answers.{levelAnswer}
-use Rattle.saver.specs.Saver.{Saver, Back, returned, thrown, usedOf, freeOf, putIn}
+use Rattle.area.specs.Area.{freeOf, putIn}
+use Rattle.saver.specs.Saver.{Saver, Back, returned, thrown, usedOf}
 use Rattle.saver.specs.Frames.{fileOf, Open}
 use Rattle.figures.specs.Figures.{bodyFigures}
 use Rattle.figures.specs.Answers.{reports, addCall, joinCall}
@@ -75,7 +78,8 @@ use Rattle.figures.specs.Month as figured
 use Rattle.laws.specs.Page.{among}
 use Rattle.laws.specs.Table.{filledTo}
 use Rattle.steps.specs.Code.{afterAt}
-use Rattle.day.specs.Trace.{slotAt, stepsOf, Recorded}
+use Rattle.blocks.specs.Blocks.{slotAt, stepsOf}
+use Rattle.trace.specs.Trace.{Recorded}
 use Rattle.day.specs.Count.{readsIn, levelsIn}
 use Rattle.day.specs.Day.{stagesOf}
 use Rattle.replays.specs.Positions.{slotsFrom, visited}
@@ -178,6 +182,8 @@ pub record Promised : Type 0 where
       → (k q : ℕ) (m : Marks) (s : Answer) (m′ : Marks) → NeededCall w regs k q m s m′ → s .refusal ≡ 0 → bit (rowLeft bits regs w a k) q ≡ s .first
   -- as the forced wide route does
   pub wide-zero : (bits regs : ℕ) (w : List ℕ) → startAt bits true regs w ≡ 0
+  -- the turns of its search from the asked position on are at most as many as instructions and jumps, and the first
+  pub needed-few : (w seen seen′ : List ℕ) (k top : ℕ) → Turns (count w) (afterAt w) seen 1 k seen′ top → k ≤ 1 + (count w + jumpsIn w)
   -- ---- Python's numbers
 
   -- quotient and remainder are as Python's law asks

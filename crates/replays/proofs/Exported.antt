@@ -16,15 +16,16 @@ use Rattle.code.specs.declared.Checked.{Checked}
 use Rattle.code.specs.declared.Checked.the-variants as stage
 use Rattle.flow.specs.Flow.{Flow}
 use Rattle.steps.specs.Code.{afterAt, flow}
-use Rattle.day.specs.Trace.{slotAt, verdictOf, stepsOf, Recorded}
+use Rattle.blocks.specs.Blocks.{slotAt, stepsOf}
+use Rattle.trace.specs.Trace.{verdictOf, Recorded}
 use Rattle.day.specs.Count.{readsIn, levelsIn}
 use Rattle.day.specs.Day.{stagesOf, Day, refused, check, filler, move, told}
 use Rattle.day.specs.Answers.{dayTold}
-use Rattle.day.specs.declared.Verdict.{Verdict}
-use Rattle.day.specs.declared.Verdict.the-variants as found
+use Rattle.trace.specs.declared.Verdict.{Verdict}
+use Rattle.trace.specs.declared.Verdict.the-variants as found
 use Rattle.day.specs.declared.DayAnswer.{DayAnswer}
 use Rattle.day.specs.declared.DayAnswer.the-variants.{Is, No, Check, Filler, Move}
-use Rattle.day.proofs.Runs.{fine-recorded, recorded-fine}
+use Rattle.trace.proofs.Runs.{fine-recorded, recorded-fine}
 use Rattle.day.proofs.Days.{steps-below}
 use Rattle.turniploom.specs.Answers.{ReplayTold}
 use Rattle.turniploom.proofs.Answered.{never-0}

@@ -12,7 +12,7 @@ use Rattle.code.specs.Ins.{count}
 use Rattle.flow.specs.Flow.{Flow}
 use Rattle.flow.specs.Run.{run, valuesOf, chosen, fileAfter}
 use Rattle.steps.specs.Code.{afterAt, flow}
-use Rattle.day.specs.Trace.{slotAt}
+use Rattle.blocks.specs.Blocks.{slotAt}
 use Rattle.replays.specs.Positions.{slotsFrom, visited}
 
 -- what is among a list stands at some place of it

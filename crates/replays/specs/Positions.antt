@@ -3,7 +3,7 @@ use Prim.Native.Nat.{ℕ, zero, suc}
 use mathlib.Core.List.{List, [], _∷_, map}
 use Rattle.flow.specs.Flow.{Flow}
 use Rattle.flow.specs.Run.{run}
-use Rattle.day.specs.Trace.{slotAt}
+use Rattle.blocks.specs.Blocks.{slotAt}
 
 -- m slots from slot s on
 unfoldable pub slotsFrom : List ℕ → ℕ → ℕ → List ℕ

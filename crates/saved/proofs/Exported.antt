@@ -25,7 +25,8 @@ use Rattle.steps.specs.Code.{flow}
 use Rattle.kept.specs.Level.{resumeOf, resultAt}
 use Rattle.kept.specs.Lists.{partAt}
 use Rattle.levels.specs.Answers.{levelTold, levelAnswer}
-use Rattle.saver.specs.Saver.{Saver, saver, madeHead, Ends, ends, Back, returned, thrown, regsOf, usedOf, freeOf, putIn, entered, enterOf, leaveOf}
+use Rattle.area.specs.Area.{freeOf, putIn}
+use Rattle.saver.specs.Saver.{Saver, saver, madeHead, Ends, ends, Back, returned, thrown, regsOf, usedOf, entered, enterOf, leaveOf}
 use Rattle.saver.specs.Frames.{fileOf, Sound, Event, Play, Matched, Open, done, enter, write, leave}
 use Rattle.saver.specs.Answers.{saverTold}
 use Rattle.saver.specs.declared.SaverAnswer.{SaverAnswer}

@@ -19,7 +19,8 @@ use Rattle.kept.specs.Lists.{partAt}
 use Rattle.kept.specs.Answers.{Outcome}
 use Rattle.kept.specs.declared.KeptAnswer.the-variants.{Is}
 use Rattle.kept.proofs.Demand.{demand-3, kept-each-once}
-use Rattle.saver.specs.Saver.{Saver, ends, returned, thrown, regsOf, usedOf, freeOf, needOf, firstStrange, putIn, entered, enterOf, leaveOf}
+use Rattle.area.specs.Area.{freeOf, needOf, firstStrange, putIn}
+use Rattle.saver.specs.Saver.{Saver, ends, returned, thrown, regsOf, usedOf, entered, enterOf, leaveOf}
 use Rattle.saver.specs.Frames.{fileOf, Sound, Event, Play, Matched}
 use Rattle.saver.specs.declared.SaverAnswer.the-variants.{Used, Full}
 use Rattle.saver.proofs.Listed.{fine-list}

@@ -9,13 +9,15 @@ use borrow.Author.Tests.{lt-ltb, le-ltb, ltb-true, ltb-false}
 use lib.Dec.{ltb}
 use lib.ListN.{length, getD, take, drop, set, length-set, length-append, take-append-drop}
 use lib.Seq.{sets, sets-eq, length-sets, getD-set-same, getD-set-other, getD-at, take-at, take-take, length-take-le}
-use Rattle.saver.specs.Saver.{Saver, saver, Ends, ends, Back, regsOf, usedOf, freeOf, needOf}
-use Rattle.saver.specs.Saver.{firstStrange, pairsOf, entryOf, putBack, topOf, written, entered, enterOf, leftBy, leaveOf}
+use Rattle.area.specs.Area.{freeOf, needOf}
+use Rattle.saver.specs.Saver.{Saver, saver, Ends, ends, Back, regsOf, usedOf}
+use Rattle.area.specs.Area.{firstStrange, pairsOf, entryOf, putBack, topOf}
+use Rattle.saver.specs.Saver.{written, entered, enterOf, leftBy, leaveOf}
 use Rattle.saver.specs.Frames.{Sound, Event, enters, writes, leaves, restored, Play, done, enter, write, leave, Matched, none, over, frame, Same}
 use Rattle.saver.specs.declared.SaverAnswer.{SaverAnswer}
 use Rattle.saver.specs.declared.SaverAnswer.the-variants.{Used, Registers, Listed, Full}
-use Rattle.saver.specs.declared.Top.{Top}
-use Rattle.saver.specs.declared.Top.the-variants.{Entry, Bare}
+use Rattle.area.specs.declared.Top.{Top}
+use Rattle.area.specs.declared.Top.the-variants.{Entry, Bare}
 use Rattle.saver.proofs.Words.{pairs-length, entry-length, back-length, back-is, written-length}
 
 -- what an entry is that is not refused

@@ -7,12 +7,14 @@ use borrow.Author.Tests.{le-ltb}
 use lib.Dec.{ltb}
 use lib.ListN.{length, getD, take, set, length-set}
 use lib.Seq.{take-take, getD-set-same, getD-set-other}
-use Rattle.saver.specs.Saver.{Saver, saver, Ends, ends, Back, regsOf, usedOf, needOf}
-use Rattle.saver.specs.Saver.{entryOf, putIn, putBack, topOf, written, madeHead, enterOf, leftBy, leaveOf}
+use Rattle.area.specs.Area.{needOf}
+use Rattle.saver.specs.Saver.{Saver, saver, Ends, ends, Back, regsOf, usedOf}
+use Rattle.area.specs.Area.{entryOf, putIn, putBack, topOf}
+use Rattle.saver.specs.Saver.{written, madeHead, enterOf, leftBy, leaveOf}
 use Rattle.saver.specs.Frames.{Sound, Open, made, entered, overwritten, left}
 use Rattle.saver.specs.declared.SaverAnswer.the-variants.{Used, Nothing}
-use Rattle.saver.specs.declared.Top.{Top}
-use Rattle.saver.specs.declared.Top.the-variants.{Entry, Bare}
+use Rattle.area.specs.declared.Top.{Top}
+use Rattle.area.specs.declared.Top.the-variants.{Entry, Bare}
 use Rattle.saver.proofs.Words.{in-length, written-length}
 use Rattle.saver.proofs.Frames.{Accepted, accepted, entered-sound, entry-found, used₁, fits, stands₁, below₁}
 

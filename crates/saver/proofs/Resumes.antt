@@ -16,7 +16,8 @@ use Rattle.flow.specs.Flow.{Flow}
 use Rattle.flow.specs.Kept.{Level}
 use Rattle.flow.specs.Demand.{Agree, AgreeOn, Alike, Keeps}
 use Rattle.flow.proofs.Bits.{bit-zero, pow-other}
-use Rattle.saver.specs.Saver.{Saver, Ends, Back, returned, thrown, regsOf, usedOf, freeOf, putIn, written, enterOf, leaveOf}
+use Rattle.area.specs.Area.{freeOf, putIn}
+use Rattle.saver.specs.Saver.{Saver, Ends, Back, returned, thrown, regsOf, usedOf, written, enterOf, leaveOf}
 use Rattle.saver.specs.Frames.{fileOf, restored, Sound, Event, Play, Matched, Same}
 use Rattle.saver.specs.declared.SaverAnswer.the-variants.{Used}
 use Rattle.saver.proofs.Words.{in-length, in-same, in-other, back-length, back-kept, written-length}

@@ -10,7 +10,8 @@ use borrow.Author.Tests.{lt-ltb, le-ltb, ltb-true, ltb-false}
 use lib.Dec.{ltb}
 use lib.ListN.{length, getD, take, drop, set, length-set, length-append}
 use lib.Seq.{getD-set-same, getD-set-other, getD-at}
-use Rattle.saver.specs.Saver.{pairsOf, entryOf, putIn, putBack, Back, returned, thrown, written}
+use Rattle.area.specs.Area.{pairsOf, entryOf, putIn, putBack}
+use Rattle.saver.specs.Saver.{Back, returned, thrown, written}
 use Rattle.saver.specs.Frames.{restored}
 
 pub pairs-length : (file l : List ℕ) → length (pairsOf file l) ≡ 2 * length l

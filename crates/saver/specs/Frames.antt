@@ -3,7 +3,8 @@ use Prim.Native.Nat.{ℕ, suc, _≤_}
 use mathlib.Core.Path.{_≡_}
 use mathlib.Core.List.{List, [], _∷_, _++_}
 use lib.ListN.{length, getD, take}
-use Rattle.saver.specs.Saver.{Saver, saver, Back, regsOf, usedOf, putIn, enterOf, leaveOf}
+use Rattle.area.specs.Area.{putIn}
+use Rattle.saver.specs.Saver.{Saver, saver, Back, regsOf, usedOf, enterOf, leaveOf}
 use Rattle.saver.specs.declared.SaverAnswer.the-variants.{Used}
 
 -- the register file: as many entries as the saver was made for

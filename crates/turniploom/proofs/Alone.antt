@@ -13,7 +13,7 @@ use Rattle.surveys.specs.Answers.{targetMark}
 use Rattle.loops.specs.Loops.{depth}
 use Rattle.surveys.proofs.Filling.{one-filling}
 use Rattle.phis.specs.Phi.{Dead}
-use Rattle.phis.specs.Generator.{GenPure}
+use Rattle.generators.specs.Generator.{GenPure}
 use Rattle.phis.specs.Answers.{roomBoth}
 use Rattle.phis.proofs.Telling.{one-answer}
 use Rattle.steps.specs.Code.{flow}

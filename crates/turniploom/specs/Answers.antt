@@ -23,6 +23,7 @@ use Rattle.surveys.specs.declared.Filled.the-variants as filled
 use Rattle.surveys.specs.Answers.{Targets}
 use Rattle.loops.specs.Answers.{LoopsAround}
 use Rattle.phis.specs.Answers as phis
+use Rattle.generators.specs.Answers as generators
 use Rattle.needed.specs.Answers as needed
 use Rattle.callee.specs.declared.GlobalAnswer.{GlobalAnswer}
 use Rattle.callee.specs.declared.GlobalAnswer.the-variants as global
@@ -98,7 +99,7 @@ abbrev pub DeadTold : List ℕ → ℕ → ℕ → List ℕ → List ℕ → Ans
 DeadTold w k q seen todo r seen′ todo′ = By truthTold (λ v. phis.DeadPhi w k q seen todo v seen′ todo′) r
 
 abbrev pub GenTold : List ℕ → List ℕ → List ℕ → Answer → List ℕ → List ℕ → Type 0
-GenTold w seen todo r seen′ todo′ = By truthTold (λ v. phis.GenTold w seen todo v seen′ todo′) r
+GenTold w seen todo r seen′ todo′ = By truthTold (λ v. generators.GenTold w seen todo v seen′ todo′) r
 
 abbrev pub NeededTold : List ℕ → ℕ → ℕ → ℕ → List ℕ → List ℕ → Answer → List ℕ → List ℕ → Type 0
 NeededTold w regs k q seen todo r seen′ todo′ = By truthTold (λ v. needed.NeededTold w regs k q seen todo v seen′ todo′) r

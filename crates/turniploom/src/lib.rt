@@ -200,7 +200,7 @@ pub extern "C" fn turniploom_passed(code: &[u16], at: usize, arity: usize) -> An
 pub extern "C" fn turniploom_gen_pure(code: &[u16], seen: &mut [u8], todo: &mut [u32]) -> Answer
     ensures { λ r. ⌜ GenTold (now (code .entry)) (now (seen .entry)) (now (todo .entry)) r (now (seen .exit)) (now (todo .exit)) ⌝ }
 {
-    truth(phis::gen_pure(code, seen, todo))
+    truth(generators::gen_pure(code, seen, todo))
 }
 
 #[no_mangle]

@@ -3,7 +3,8 @@ use borrow.Author.Needs.{needs}
 use mathlib.Core.Path.{_≡_}
 use Prim.Native.Nat.{_≤_, _-_}
 use Rattle.code.specs.Ins.{count}
-use Rattle.figures.specs.Figures.{figuresOf, levelsTo}
+use Rattle.groups.specs.Groups.{figuresOf}
+use Rattle.figures.specs.Figures.{levelsTo}
 use Rattle.figures.proofs.Calls.{body-start, body-end}
 use Rattle.figures.proofs.body_figures.Statement.{statement}
 use Rattle.figures.proofs.body_figures.Tie as tie

@@ -1,6 +1,7 @@
 -- `needed::asks` meets its contract. Assumes nothing.
 use borrow.Author.Needs.{needs}
-use Rattle.needed.proofs.Telling.{ready, none, done}
+use Rattle.paths.proofs.Between.{none}
+use Rattle.needed.proofs.Telling.{ready, done}
 use Rattle.needed.proofs.asks.Statement.{statement}
 use Rattle.needed.proofs.asks.Tie as tie
 

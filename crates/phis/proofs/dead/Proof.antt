@@ -1,14 +1,15 @@
 -- `phis::dead` meets its contract. Assumes nothing.
 use borrow.Author.Needs.{needs}
-use mathlib.Core.Path.{_≡_, ap, _∙_}
+use mathlib.Core.Path.{_≡_}
 use mathlib.Core.Bool.{Bool, true, false, not}
-use mathlib.Core.List.{List, _++_}
-use Prim.Native.Nat.{ℕ, _+_, _/_, _<_}
-use native.Mathlib.Omega.{arith}
-use lib.ListN.{length, getD, replicate}
+use mathlib.Core.List.{List}
+use Prim.Native.Nat.{ℕ, _+_, _/_}
+use lib.ListN.{length}
 use Rattle.laws.specs.Table.{clearedTo}
-use Rattle.laws.proofs.Table.{cleared-tail, cleared-length, cleared-at}
-use Rattle.phis.specs.Phi.{Read, Dead, Says, Room, Searched, Settles}
+use Rattle.laws.proofs.Table.{cleared-length}
+use Rattle.paths.specs.Search.{Says, Searched, Settles}
+use Rattle.paths.proofs.Between.{none, settles}
+use Rattle.phis.specs.Phi.{Read, Dead, Room}
 use Rattle.phis.proofs.dead.Statement.{statement}
 use Rattle.phis.proofs.dead.Tie as tie
 
@@ -22,25 +23,18 @@ module _ (w seen seen₁ todo : List ℕ) (room : Room w seen todo) (c : seen₁
         waiting = room .waiting;
       }
 
-  none : (j : ℕ) → j < length w / 6 → getD seen₁ j 0 ≡ 0
-  none j h = rw c (cleared-at (length w / 6 + 1) seen j (omega arith))
-
 other : (P : Type 0) (b : Bool) → Says P b → Says (P → ⊥) (not b)
 other P true s = λ n. n s
 other P false s = s
 
 done : (w seen seen₁ seen₂ seen₃ todo todo₁ todo₂ : List ℕ) (k r : ℕ) (b : Bool)
     → seen₁ ≡ clearedTo (length w / 6 + 1) seen
-    → Searched w seen₁ todo r (k + 1) b seen₂ todo₁
+    → Searched (Read w r (k + 1)) (length w / 6) seen₁ todo b seen₂ todo₁
     → seen₃ ≡ clearedTo (length w / 6 + 1) seen₂
     → todo₂ ≡ clearedTo (length w / 6 + 1) todo₁
     → Settles (Dead w k r) (length w / 6 + 1) seen todo (not b) seen₃ todo₂
 done w seen seen₁ seen₂ seen₃ todo todo₁ todo₂ k r b c s d e =
-    record {
-      says = other (Read w r (k + 1)) b (s .answer);
-      marks = d ∙ ap (λ (l : List ℕ). replicate (length w / 6 + 1) 0 ++ l) (s .marks .tail ∙ rw c (cleared-tail (length w / 6 + 1) seen));
-      waiting = e ∙ ap (λ (l : List ℕ). replicate (length w / 6 + 1) 0 ++ l) (s .waiting .tail);
-    }
+    settles (Read w r (k + 1)) (Dead w k r) (length w / 6) seen seen₁ seen₂ seen₃ todo todo₁ todo₂ b (not b) c s d e (other (Read w r (k + 1)) b)
 
 add-words : tie.Need-add-words
 add-words c = search needs

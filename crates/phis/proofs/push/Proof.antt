@@ -7,7 +7,7 @@ use Prim.Native.Nat.{ℕ, _+_}
 use native.Mathlib.Omega.{arith}
 use lib.ListN.{set}
 use mir.Val.{boolByte}
-use Rattle.phis.specs.Phi.{pushed}
+use Rattle.paths.specs.Search.{pushed}
 use Rattle.phis.proofs.push.Statement.{statement}
 use Rattle.phis.proofs.push.Tie as tie
 

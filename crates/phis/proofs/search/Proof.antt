@@ -1,10 +1,12 @@
--- `phis::search` meets its contract. The measure: a mark counts two, a waiting position one. Assumes nothing.
+-- `phis::search` meets its contract. The measure: the ways out of positions with no mark, and the waiting positions. Assumes nothing.
 use borrow.Author.Needs.{needs}
-use Prim.Native.Nat.{_+_, _-_, _*_, _/_}
+use Prim.Native.Nat.{_+_, _/_}
 use native.Mathlib.Omega.{arith}
 use lib.ListN.{length}
-use Rattle.phis.proofs.Marks.{marked}
-use Rattle.phis.proofs.Loop.{Loop, few-wait, top-in, push-in-2, turn}
+use Rattle.paths.specs.Search.{owed}
+use Rattle.paths.proofs.Loop.{few-wait, top-in, push-in-2, turning}
+use Rattle.phis.specs.Phi.{leadsAt}
+use Rattle.phis.proofs.Loop.{Loop, turn}
 use Rattle.phis.proofs.search.Statement.{statement}
 use Rattle.phis.proofs.search.Tie as tie
 
@@ -12,100 +14,100 @@ abbrev Inv-loop : tie.InvT-loop
 Inv-loop code r start seen₀ todo₀ n top₀ seen todo top = Loop code r start seen₀ todo₀ seen todo top
 
 abbrev μ-loop : tie.MeasureT-loop
-μ-loop code r start seen₀ todo₀ n top₀ seen todo top = 2 * (length code / 6 - marked seen (length code / 6)) + top
+μ-loop code r start seen₀ todo₀ n top₀ seen todo top = owed (leadsAt code) seen (length code / 6) + top
 
 slice-write-todo : tie.Need-slice-write-todo Inv-loop μ-loop
-slice-write-todo c = search (needs, turn)
+slice-write-todo c = search (needs, turning, turn)
 
 loop-holds : tie.Need-loop-holds Inv-loop μ-loop
-loop-holds c = search (needs, turn)
+loop-holds c = search (needs, turning, turn)
 
 sub-top : tie.Need-sub-top Inv-loop μ-loop
-sub-top c = search (needs, turn)
+sub-top c = search (needs, turning, turn)
 
 mul-wide : tie.Need-mul-wide Inv-loop μ-loop
-mul-wide c = omega (arith, few-wait _ _ _ _ _ _ _ _ (c .before .loop .inv) (omega arith))
+mul-wide c = omega (arith, few-wait _ _ _ _ _ _ _ _ _ _ (c .before .loop .inv) (omega arith))
 
 slice-read-wide : tie.Need-slice-read-wide Inv-loop μ-loop
-slice-read-wide c = search (needs, turn)
+slice-read-wide c = search (needs, turning, turn)
 
 wide-requires : tie.Need-wide-requires Inv-loop μ-loop
-wide-requires c κs = search (needs, turn)
+wide-requires c κs = search (needs, turning, turn)
 
 loop-less : tie.Need-loop-less Inv-loop μ-loop
-loop-less c = search (needs, turn)
+loop-less c = search (needs, turning, turn)
 
 loop-again : tie.Need-loop-again Inv-loop μ-loop
-loop-again c = search (needs, turn)
+loop-again c = search (needs, turning, turn)
 
 slice-read-if2 : tie.Need-slice-read-if2 Inv-loop μ-loop
-slice-read-if2 c = search (needs, turn)
+slice-read-if2 c = search (needs, turning, turn)
 
 loop-less-2 : tie.Need-loop-less-2 Inv-loop μ-loop
-loop-less-2 c = search (needs, turn)
+loop-less-2 c = search (needs, turning, turn)
 
 loop-again-2 : tie.Need-loop-again-2 Inv-loop μ-loop
-loop-again-2 c = search (needs, turn)
+loop-again-2 c = search (needs, turning, turn)
 
 slice-write-seen : tie.Need-slice-write-seen Inv-loop μ-loop
-slice-write-seen c = search (needs, turn)
+slice-write-seen c = search (needs, turning, turn)
 
 ins-at-requires : tie.Need-ins-at-requires Inv-loop μ-loop
-ins-at-requires c κs = search (needs, turn)
+ins-at-requires c κs = search (needs, turning, turn)
 
 reads-requires : tie.Need-reads-requires Inv-loop μ-loop
-reads-requires c κs = search (needs, turn)
+reads-requires c κs = search (needs, turning, turn)
 
 same-length : tie.Need-same-length Inv-loop μ-loop
-same-length c = search (needs, turn)
+same-length c = search (needs, turning, turn)
 
 same-length-2 : tie.Need-same-length-2 Inv-loop μ-loop
-same-length-2 c = search (needs, turn)
+same-length-2 c = search (needs, turning, turn)
 
 returns : tie.Need-returns Inv-loop μ-loop
-returns c = search (needs, turn)
+returns c = search (needs, turning, turn)
 
 stops-requires : tie.Need-stops-requires Inv-loop μ-loop
-stops-requires c κs = search (needs, turn)
+stops-requires c κs = search (needs, turning, turn)
 
 loop-less-3 : tie.Need-loop-less-3 Inv-loop μ-loop
-loop-less-3 c = search (needs, turn)
+loop-less-3 c = search (needs, turning, turn)
 
 loop-again-3 : tie.Need-loop-again-3 Inv-loop μ-loop
-loop-again-3 c = search (needs, turn)
+loop-again-3 c = search (needs, turning, turn)
 
 add-push : tie.Need-add-push Inv-loop μ-loop
-add-push c = search (needs, turn)
+add-push c = search (needs, turning, turn)
 
 cast-push : tie.Need-cast-push Inv-loop μ-loop
-cast-push c = search (needs, turn)
+cast-push c = search (needs, turning, turn)
 
 push-requires : tie.Need-push-requires Inv-loop μ-loop
-push-requires c κs = top-in _ _ _ _ _ _ _ _ (c .before .before .before .before .before .before .before .before .before .before .before .before .before .loop .inv) (omega arith)
+push-requires c κs = top-in _ _ _ _ _ _ _ _ _ _ (c .before .before .before .before .before .before .before .before .before .before .before .before .before .loop .inv) (omega arith)
 
 cast-push-2 : tie.Need-cast-push-2 Inv-loop μ-loop
-cast-push-2 c = search (needs, turn)
+cast-push-2 c = search (needs, turning, turn)
 
 is-jump-requires : tie.Need-is-jump-requires Inv-loop μ-loop
-is-jump-requires c κs = search (needs, turn)
+is-jump-requires c κs = search (needs, turning, turn)
 
 push-requires-2 : tie.Need-push-requires-2 Inv-loop μ-loop
-push-requires-2 c κs = push-in-2 _ _ _ _ _ _ _ _ (c .before .before .before .before .before .before .before .before .before .before .before .before .before .before .before .before .before .before .before .loop .inv) (omega arith) (c .before .before .before .before .before .before .before .before .before .before .before .before .before .before .before .before .wide .result) (c .before .before .before .before .before .before .before .before .before .before .before .before .before .before .before .before .wide .ensures) (omega arith) (omega arith) _ _ _ _ (c .before .before .before .before .before .push .ensures .0) (c .before .before .before .before .before .push .ensures .1)
+push-requires-2 c κs = push-in-2 _ _ _ _ _ _ _ _ _ _ (c .before .before .before .before .before .before .before .before .before .before .before .before .before .before .before .before .before .before .before .loop .inv) (omega arith) (c .before .before .before .before .before .before .before .before .before .before .before .before .before .before .before .before .wide .result) (c .before .before .before .before .before .before .before .before .before .before .before .before .before .before .before .before .wide .ensures) (omega arith) (omega arith) _ _ _ _ (c .before .before .before .before .before .push .ensures .0) (c .before .before .before .before .before .push .ensures .1)
 
 loop-less-4 : tie.Need-loop-less-4 Inv-loop μ-loop
-loop-less-4 c = search (needs, turn)
+loop-less-4 c = search (needs, turning, turn)
 
 loop-again-4 : tie.Need-loop-again-4 Inv-loop μ-loop
-loop-again-4 c = search (needs, turn)
+loop-again-4 c = search (needs, turning, turn)
 
 same-length-3 : tie.Need-same-length-3 Inv-loop μ-loop
-same-length-3 c = search (needs, turn)
+same-length-3 c = search (needs, turning, turn)
 
 same-length-4 : tie.Need-same-length-4 Inv-loop μ-loop
-same-length-4 c = search (needs, turn)
+same-length-4 c = search (needs, turning, turn)
 
 returns-2 : tie.Need-returns-2 Inv-loop μ-loop
-returns-2 c = search (needs, turn)
+returns-2 c = search (needs, turning, turn)
 
 pub search-spec : {M : Type 1} → statement M
 search-spec =

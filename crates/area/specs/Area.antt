@@ -1,0 +1,66 @@
+-- The save area (document 02, wish 4): which lists it takes, what an entry stores, the newest entry, registers put back. Assumes nothing.
+use Prim.Native.Nat.{ℕ, zero, suc, _+_, _-_, _*_, _/_, _<_, _≤_}
+use mathlib.Core.Path.{_≡_}
+use mathlib.Core.Bool.{Bool, cond, _||_}
+use mathlib.Core.List.{List, [], _∷_, _++_}
+use lib.Dec.{ltb, leb, eqb}
+use lib.ListN.{length, getD, set}
+use lib.Seq.{sets}
+use Rattle.laws.specs.Walk.{first}
+use Rattle.laws.specs.Some.{some}
+use Rattle.area.specs.declared.Top.{Top}
+use Rattle.area.specs.declared.Top.the-variants.{Entry, Bare}
+
+-- 14: at place i of the list stands a register that is not in the file, or that stands before i too
+abbrev pub strange : ℕ → List ℕ → ℕ → Bool
+strange regs l i = leb regs (getD l i 0) || some (λ j. eqb (getD l j 0) (getD l i 0)) i
+
+-- the first such place, else the list's length
+unfoldable pub firstStrange : ℕ → List ℕ → ℕ
+firstStrange regs l = first (strange regs l) 0 (length l)
+
+-- the area has 4,096 words
+abbrev pub freeOf : ℕ → ℕ
+freeOf used = 4096 - used
+
+-- twice the list plus two
+abbrev pub needOf : List ℕ → ℕ
+needOf l = 2 * length l + 2
+
+-- number and value of each listed register
+unfoldable pub pairsOf : List ℕ → List ℕ → List ℕ
+pairsOf file [] = []
+pairsOf file (r ∷ l) = r ∷ getD file r 0 ∷ pairsOf file l
+
+-- what an entry stores: those, the list's length, and the result register's number
+unfoldable pub entryOf : List ℕ → List ℕ → ℕ → List ℕ
+entryOf file l q = pairsOf file l ++ (length l ∷ q ∷ [])
+
+-- what `store` relies on: room for the entry, and registers that are in the file
+pub record Fit (at : ℕ) (l : List ℕ) : Type 0 where
+  pub room : at + (2 * length l + 2) ≤ 4096
+  pub below : (i : ℕ) → i < length l → getD l i 0 < 64
+
+-- an entry is stored from `at` on, and r is the place past it
+pub record Stored (at : ℕ) (file l : List ℕ) (q : ℕ) (old new : List ℕ) (r : ℕ) : Type 0 where
+  pub words : new ≡ sets old at (entryOf file l q)
+  pub past : r ≡ at + needOf l
+
+-- a register is written, if it is in the file
+abbrev pub putIn : ℕ → ℕ → ℕ → List ℕ → List ℕ
+putIn regs r v file = cond (ltb r regs) (set file r v) file
+
+-- the numbers and values of m registers, from word p of the area on, put back one after the other
+unfoldable pub putBack : ℕ → List ℕ → ℕ → ℕ → List ℕ → List ℕ
+putBack regs area p zero file = file
+putBack regs area p (suc m) file = putBack regs area (suc (suc p)) m (putIn regs (getD area p 0) (getD area (suc p) 0) file)
+
+-- The newest entry ends where the words in use end: its list's length, then its result register. None where there are too few words.
+unfoldable pub topOf : ℕ → List ℕ → Top
+topOf used area =
+    let end = used - 2 in
+    let len = getD area end 0 in
+    cond (ltb used 2) Bare
+    (cond (ltb 4096 used) Bare
+    (cond (ltb (end / 2) len) Bare
+    (Entry (end - 2 * len) len (getD area (end + 1) 0))))

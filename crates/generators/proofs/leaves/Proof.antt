@@ -1,0 +1,12 @@
+-- `generators::leaves` meets its contract: its code is the rule. Assumes nothing.
+use mathlib.Core.Path.{refl}
+use Rattle.generators.specs.Generator.{leaves}
+use Rattle.generators.proofs.leaves.Statement.{statement}
+use Rattle.generators.proofs.leaves.Tie as tie
+
+returns : tie.Need-returns
+unfolding leaves
+returns c = refl
+
+pub leaves-spec : {M : Type 1} → statement M
+leaves-spec = tie.close (tie.spec returns)

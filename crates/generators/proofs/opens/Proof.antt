@@ -1,0 +1,12 @@
+-- `generators::opens` meets its contract: its code is the rule. Assumes nothing.
+use mathlib.Core.Path.{refl}
+use Rattle.generators.specs.Generator.{opens}
+use Rattle.generators.proofs.opens.Statement.{statement}
+use Rattle.generators.proofs.opens.Tie as tie
+
+returns : tie.Need-returns
+unfolding opens
+returns c = refl
+
+pub opens-spec : {M : Type 1} → statement M
+opens-spec = tie.close (tie.spec returns)

@@ -9,8 +9,6 @@ use Rattle.laws.specs.Page.{Row, _↝_, look}
 use Rattle.code.specs.declared.Ins.{Ins}
 use Rattle.roles.specs.declared.Found.{Found}
 use Rattle.roles.specs.declared.Found.the-variants.{Is, Nothing}
-use Rattle.roles.specs.declared.Rule.{Rule}
-use Rattle.roles.specs.declared.Rule.the-variants.{Bits, ByX, FirstAbc, FirstBc, Bare}
 
 -- the bits: a written, a, b, c read, a jump to a, no role
 abbrev pub dest : ℕ
@@ -44,6 +42,14 @@ total (x ∷ xs) = x + total xs
 -- the first n of the fields
 abbrev pub firstOf : List ℕ → ℕ → ℕ
 firstOf fields n = total (take n fields)
+
+-- what an opcode's rule says: these bits; the first where x is 0, else the second; the first x + k of a, b, c, or of b, c; no bits where a and x are 0, else no role
+pub data Rule : Type 0 where
+  Bits : ℕ → Rule
+  ByX : ℕ → ℕ → Rule
+  FirstAbc : ℕ → Rule
+  FirstBc : ℕ → Rule
+  Bare : Rule
 
 -- a rule at x and a
 abbrev pub says : Rule → ℕ → ℕ → ℕ

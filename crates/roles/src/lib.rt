@@ -1,15 +1,20 @@
 // What an instruction does with its fields a, b and c, and with registers (block.rs: `role`, `kinds`, `writes`, `field`).
 ghost use mathlib.Core.Path.{_≡_};
 ghost use mathlib.Core.Bool.{cond};
-ghost use Prim.Native.Nat.{_+_, _*_, _%_, _/_, _<_, _≤_};
+ghost use Prim.Native.Nat.{_+_, _*_, _%_, _/_, _<_, _≤_, min};
 ghost use lib.ListN.{length};
 ghost use Rattle.code.specs.Ins.{insAt};
 ghost use Rattle.code.specs.Check.{checkOf, insideOf};
 ghost use Rattle.code.specs.Answers.{asked};
-ghost use Rattle.roles.specs.Kinds.{ruleOf, firstOf, abc, bc, kindsOf, roleOf, hasRole, isJump, fieldOf};
+ghost use Rattle.roles.specs.Kinds.{firstOf, abc, kindsOf, roleOf, hasRole, isJump, fieldOf};
+ghost use Rattle.roles.specs.Roles.{roleTable, Entry};
 ghost use Rattle.roles.specs.Sets.{caseOf, writes as writesIt};
 ghost use Rattle.roles.specs.Touch.{plainOf, touchOf};
 ghost use Rattle.roles.specs.Answers.{kindsAnswer, roleAnswer, fieldAnswer, writesAnswer, touchAnswer};
+
+mod page;
+
+use crate::page::ROLES;
 use code::Checked;
 use code::Ins;
 use code::Refusal;
@@ -60,97 +65,9 @@ pub enum FieldAnswer {
     No(Refusal),
 }
 
-// What an opcode's rule says.
-pub enum Rule {
-    // These bits.
-    Bits(u8),
-    // The first where x is 0, else the second.
-    ByX(u8, u8),
-    // The first x + k of a, b, c.
-    FirstAbc(u16),
-    // The first x + k of b, c.
-    FirstBc(u16),
-    // No bits where a and x are 0, else no role.
-    Bare,
-}
-
-const B_JUMPS: u8 = B + JUMPS;
-
-const BC_JUMPS: u8 = B + C + JUMPS;
-
-const DEST_A: u8 = DEST + A;
-
-const DEST_B: u8 = DEST + B;
-
-const DEST_AB: u8 = DEST + A + B;
-
-const DEST_BC: u8 = DEST + B + C;
-
 const AB: u8 = A + B;
 
-const BC: u8 = B + C;
-
 const ABC: u8 = A + B + C;
-
-pub fn rule_of(o: u16) -> Rule
-    ensures { λ r. ⌜ r ≡ ruleOf o ⌝ }
-{
-    match o {
-        Jump | ForIter | JumpIfFalse | JumpIfFalseOrPop | JumpIfTrueOrPop => Rule::Bits(JUMPS),
-        JumpIfFalseR => Rule::Bits(B_JUMPS),
-        JumpUnlessLt
-        | JumpUnlessLtEq
-        | JumpUnlessGt
-        | JumpUnlessGtEq
-        | JumpUnlessEq
-        | JumpUnlessNotEq => Rule::Bits(BC_JUMPS),
-        ReturnR | StoreGlobalR | StoreGlobalAtR => Rule::Bits(B),
-        PopTop | CallValueR => Rule::Bits(0),
-        PushRegs => Rule::FirstAbc(0),
-        StoreTopR => Rule::ByX(DEST, NONE),
-        LoadGlobalR | LoadGlobalAtR | UnbindR | UnpackR => Rule::Bits(DEST),
-        WrapCellR => Rule::Bits(DEST_A),
-        Move | MinusR | NotR | LenR | GetAttrR | LoadCellR => Rule::Bits(DEST_B),
-        AddR
-        | InPlaceAddR
-        | SubR
-        | InPlaceSubR
-        | MulR
-        | DivR
-        | ModR
-        | FloorDivR
-        | BitAndR
-        | BitOrR
-        | BitXorR
-        | ShlR
-        | ShrR
-        | LtR
-        | LtEqR
-        | GtR
-        | GtEqR
-        | EqR
-        | NotEqR
-        | IsR
-        | IsNotR
-        | PowR
-        | InR
-        | NotInR
-        | GetItemR
-        | SuperR => Rule::Bits(DEST_BC),
-        StoreCellR | SetAttrR | CallSpreadR | ListPushR => Rule::Bits(AB),
-        StoreItemR | ArgsR => Rule::Bits(ABC),
-        CallGlobalR => Rule::FirstBc(0),
-        CallR => Rule::FirstAbc(1),
-        CallMethodR => Rule::FirstBc(1),
-        Raise => Rule::Bare,
-        AppendR => Rule::Bits(DEST_AB),
-        OwnResetR => Rule::Bits(A),
-        ListAppendR | SetAddR | MapAddR => Rule::Bits(BC),
-        ForIterR => Rule::ByX(B_JUMPS, NONE),
-        Del => Rule::ByX(DEST, 0),
-        _ => Rule::Bits(NONE),
-    }
-}
 
 // The first n of a, b, c.
 pub fn first_abc(n: usize) -> u8
@@ -168,30 +85,48 @@ pub fn first_abc(n: usize) -> u8
     ABC
 }
 
-// The first n of b, c.
-fn first_bc(n: usize) -> u8
-    ensures { λ r. ⌜ r ≡ firstOf bc n ⌝ }
+// The table, for a loop to make once and lend: this toolchain builds a constant anew wherever it is used.
+pub fn table() -> [u8; 1280]
+    ensures { λ r. ⌜ r ≡ roleTable ⌝ }
 {
-    if n == 0 {
-        return 0;
-    }
-    if n == 1 {
-        return B;
-    }
-    BC
+    ROLES
 }
 
+// The column of an x: 4 and more have one.
+fn column(x: u16) -> usize
+    ensures { λ r. ⌜ r ≡ min x 4 ⌝ }
+{
+    if x < 4 { x as usize } else { 4 }
+}
+
+// The byte of an opcode and a column.
+fn entry(roles: &[u8; 1280], o: u16, x: usize) -> u8
+    requires { ⌜ (now roles ≡ roleTable) × (o < 256) × (x < 5) ⌝ }
+    ensures { λ r. ⌜ Entry o x r ⌝ }
+{
+    roles[o as usize * 5 + x]
+}
+
+// `kinds` of an instruction, by the table that is lent; beside it Raise, which has no role where its a is not 0.
+pub fn kinds_in(roles: &[u8; 1280], i: Ins) -> u8
+    requires { ⌜ now roles ≡ roleTable ⌝ }
+    ensures { λ r. ⌜ r ≡ kindsOf i ⌝ }
+{
+    if 256 <= i.op {
+        return NONE;
+    }
+    let k = entry(roles, i.op, column(i.x));
+    if (i.op == Raise) & (i.a != 0) {
+        return NONE;
+    }
+    k
+}
+
+// The same for one who asks once; the other questions below come in both forms too.
 pub fn kinds_of(i: Ins) -> u8
     ensures { λ r. ⌜ r ≡ kindsOf i ⌝ }
 {
-    let x = i.x as usize;
-    match rule_of(i.op) {
-        Rule::Bits(k) => k,
-        Rule::ByX(k, other) => if x == 0 { k } else { other },
-        Rule::FirstAbc(k) => first_abc(x + k as usize),
-        Rule::FirstBc(k) => first_bc(x + k as usize),
-        Rule::Bare => if (i.a == 0) & (x == 0) { 0 } else { NONE },
-    }
+    kinds_in(&table(), i)
 }
 
 // `role` of an instruction.
@@ -210,18 +145,32 @@ pub fn role_of(i: Ins) -> Found
 }
 
 // Whether an instruction has a role.
-pub fn has_role(i: Ins) -> bool
+pub fn has_role_in(roles: &[u8; 1280], i: Ins) -> bool
+    requires { ⌜ now roles ≡ roleTable ⌝ }
     ensures { λ r. ⌜ r ≡ hasRole i ⌝ }
 {
-    let none = kinds_of(i) / NONE % 2 == 1;
+    let none = kinds_in(roles, i) / NONE % 2 == 1;
     !none
 }
 
+pub fn has_role(i: Ins) -> bool
+    ensures { λ r. ⌜ r ≡ hasRole i ⌝ }
+{
+    has_role_in(&table(), i)
+}
+
 // Whether it has one, and a is a jump's target.
+pub fn is_jump_in(roles: &[u8; 1280], i: Ins) -> bool
+    requires { ⌜ now roles ≡ roleTable ⌝ }
+    ensures { λ r. ⌜ r ≡ isJump i ⌝ }
+{
+    kinds_in(roles, i) / JUMPS % 4 == 1
+}
+
 pub fn is_jump(i: Ins) -> bool
     ensures { λ r. ⌜ r ≡ isJump i ⌝ }
 {
-    kinds_of(i) / JUMPS % 4 == 1
+    is_jump_in(&table(), i)
 }
 
 // Field f of an instruction: a, b, else c.
@@ -357,10 +306,11 @@ pub fn touch_of(i: Ins, kind: u8) -> Touch
 }
 
 // `writes` of an instruction.
-pub fn writes_of(i: Ins, r: u16) -> bool
+pub fn writes_in(roles: &[u8; 1280], i: Ins, r: u16) -> bool
+    requires { ⌜ now roles ≡ roleTable ⌝ }
     ensures { λ t. ⌜ t ≡ writesIt i r ⌝ }
 {
-    let t = touch_of(i, kinds_of(i));
+    let t = touch_of(i, kinds_in(roles, i));
     let m = t.written;
     let named = (m / 2 % 2 == 1) & (r == i.a)
         | (m / 4 % 2 == 1) & (r == i.b)
@@ -369,6 +319,12 @@ pub fn writes_of(i: Ins, r: u16) -> bool
     let run = t.run as usize;
     let at = r as usize;
     named | (b <= at) & (at < b + run)
+}
+
+pub fn writes_of(i: Ins, r: u16) -> bool
+    ensures { λ t. ⌜ t ≡ writesIt i r ⌝ }
+{
+    writes_in(&table(), i, r)
 }
 
 // `kinds` at a position: refusals 1, 2, 6.

@@ -118,21 +118,33 @@ store-le w c s e = rw e (go (eqb (insAt w c .marks % 2) 1))
 -- ---- pending values
 
 module _ (w : List ℕ) (c : ℕ) where
+  some : (c ≡ 0 → ⊥) → 0 < c
+  some n = omega arith
+
   pub none-before : c ≡ 0 → false ≡ overPending w c
   unfolding overPending
   none-before e = rw e
 
-  pub one-before : (call push : Ins) (t : Bool) → (c ≡ 0 → ⊥) → call ≡ insAt w c → push ≡ insAt w (c - 1) → t ≡ isCall (call .op)
-      → t && eqb (push .op) PushRegs && eqb (push .x) 1 ≡ overPending w c
+  pub no-call : (call : Ins) (t : Bool) → (c ≡ 0 → ⊥) → call ≡ insAt w c → t ≡ isCall (call .op) → t ≡ false → false ≡ overPending w c
   unfolding overPending
-  one-before call push t n e p h = rw (h, e, p, lt-ltb 0 c (some n))
-    where
-      some : (c ≡ 0 → ⊥) → 0 < c
-      some n = omega arith
+  no-call call t n e h z =
+      let q : isCall (insAt w c .op) ≡ false = ap (λ (i : Ins). isCall (i .op)) (sym e) ∙ sym h ∙ z in
+      rw (q, lt-ltb 0 c (some n))
 
-  pub past-is : (k s : ℕ) (t : Bool) → t ≡ overPending w c → s ≡ storeOf w c → t && eqb (s + 1) k ≡ pastStore w c k
+  pub one-before : (call push : Ins) (t : Bool) → (c ≡ 0 → ⊥) → call ≡ insAt w c → t ≡ isCall (call .op) → t ≡ true → push ≡ insAt w (c - 1)
+      → eqb (push .op) PushRegs && eqb (push .x) 1 ≡ overPending w c
+  unfolding overPending
+  one-before call push t n e h z p =
+      let q : isCall (insAt w c .op) ≡ true = ap (λ (i : Ins). isCall (i .op)) (sym e) ∙ sym h ∙ z in
+      rw (q, p, lt-ltb 0 c (some n))
+
+  pub past-is : (k s : ℕ) (t : Bool) → t ≡ overPending w c → t ≡ true → s ≡ storeOf w c → eqb (s + 1) k ≡ pastStore w c k
   unfolding pastStore
-  past-is k s t e h = rw (e, h)
+  past-is k s t e z h = rw (← e, z, h)
+
+  pub not-past : (k : ℕ) (t : Bool) → t ≡ overPending w c → t ≡ false → false ≡ pastStore w c k
+  unfolding pastStore
+  not-past k t e z = rw (← e, z)
 
 module _ (w : List ℕ) (k : ℕ) where
   -- a push is no restore

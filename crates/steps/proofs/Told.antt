@@ -14,11 +14,9 @@ use Rattle.laws.proofs.Keys.{sorted, row, apart, named, unnamed, Rest}
 use Rattle.code.specs.Op.{Jump, ForIter, JumpIfFalse, JumpIfFalseOrPop, JumpIfTrueOrPop, JumpIfFalseR, JumpUnlessLt, JumpUnlessLtEq, JumpUnlessGt, JumpUnlessGtEq, JumpUnlessEq, JumpUnlessNotEq, ReturnR, StoreGlobalR, StoreGlobalAtR, LoadGlobalR, LoadGlobalAtR, UnbindR, WrapCellR, Move, MinusR, NotR, LenR, GetAttrR, LoadCellR, AddR, InPlaceAddR, SubR, InPlaceSubR, MulR, DivR, ModR, FloorDivR, BitAndR, BitOrR, BitXorR, ShlR, ShrR, LtR, LtEqR, GtR, GtEqR, EqR, NotEqR, IsR, IsNotR, PowR, InR, NotInR, GetItemR, SuperR, StoreCellR, SetAttrR, CallSpreadR, ListPushR, StoreItemR, ArgsR, AppendR, OwnResetR, ListAppendR, SetAddR, MapAddR, PopTop, PushRegs, StoreTopR, UnpackR, CallGlobalR, CallR, CallMethodR, Raise, ForIterR, Del, WithEnter, WithExit, WithJudge}
 use Rattle.code.specs.Ins.{insAt, count}
 use Rattle.code.specs.declared.Ins.{Ins}
-use Rattle.roles.specs.Kinds.{jumps, has, says, kindsOf, page, ruleOf}
+use Rattle.roles.specs.Kinds.{jumps, has, Rule, Bits, ByX, FirstAbc, FirstBc, Bare, says, kindsOf, page, ruleOf}
 use Rattle.roles.specs.Sets.{cases, caseOf}
 use Rattle.roles.specs.Touch.{plainOf}
-use Rattle.roles.specs.declared.Rule.{Rule}
-use Rattle.roles.specs.declared.Rule.the-variants.{Bits, ByX, FirstAbc, FirstBc, Bare}
 use Rattle.roles.specs.declared.Case.{Case}
 use Rattle.roles.specs.declared.Case.the-variants.{Store, Unpack, Enter, Exit, Judge, Step as For, Plain}
 use Rattle.steps.specs.Code.{idle}

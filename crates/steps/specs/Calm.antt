@@ -4,10 +4,8 @@ use mathlib.Core.Bool.{Bool, true, false, cond, not, _&&_, _||_}
 use lib.Dec.{eqb, ltb}
 use Rattle.code.specs.Op.{Jump, ReturnR, PushRegs, StoreTopR, PopTop}
 use Rattle.code.specs.declared.Ins.{Ins}
-use Rattle.roles.specs.Kinds.{none, jumps, has, ruleOf}
+use Rattle.roles.specs.Kinds.{none, jumps, has, Rule, Bits, ByX, FirstAbc, FirstBc, Bare, ruleOf}
 use Rattle.roles.specs.Sets.{caseOf}
-use Rattle.roles.specs.declared.Rule.{Rule}
-use Rattle.roles.specs.declared.Rule.the-variants.{Bits, ByX, FirstAbc, FirstBc, Bare}
 use Rattle.roles.specs.declared.Case.{Case}
 use Rattle.roles.specs.declared.Case.the-variants.{Store, Unpack, Enter, Exit, Judge, Step as For, Plain}
 use Rattle.steps.specs.declared.Step.{Step}

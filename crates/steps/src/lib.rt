@@ -5,6 +5,7 @@ ghost use lib.ListN.{length};
 ghost use Rattle.code.specs.Ins.{insAt, count};
 ghost use Rattle.code.specs.Check.{Whole, Valid};
 ghost use Rattle.roles.specs.Kinds.{kindsOf};
+ghost use Rattle.roles.specs.Roles.{roleTable};
 ghost use Rattle.steps.specs.Level.{isLevel, firstLevel};
 ghost use Rattle.steps.specs.Code.{storeOf, overPending, pastStore, idle as idleAt};
 ghost use Rattle.steps.specs.Resume.{Goes};
@@ -122,8 +123,11 @@ fn over_pending(code: &[u16], c: usize) -> bool
         return false;
     }
     let call = code::ins_at(code, c);
-    let push = code::ins_at(code, c - 1);
-    code::is_call(call.op) & (push.op == PushRegs) & (push.x == 1)
+    if code::is_call(call.op) {
+        let push = code::ins_at(code, c - 1);
+        return (push.op == PushRegs) & (push.x == 1);
+    }
+    false
 }
 
 // Whether k is right after the store of such a call at c.
@@ -131,7 +135,10 @@ fn past_store(code: &[u16], c: usize, k: usize) -> bool
     requires { ⌜ Whole (now code) × (c < count (now code)) ⌝ }
     ensures { λ r. ⌜ r ≡ pastStore (now (code .entry)) c k ⌝ }
 {
-    over_pending(code, c) & (store_of(code, c) + 1 == k)
+    if over_pending(code, c) {
+        return store_of(code, c) + 1 == k;
+    }
+    false
 }
 
 // k - d, at least 0.
@@ -171,13 +178,13 @@ fn touch_at(code: &[u16], k: usize, i: Ins, kind: u8) -> Touch
     roles::touch_of(i, kind)
 }
 
-// The step at k, in code of n instructions.
-pub fn step_at(code: &[u16], n: usize, k: usize) -> Step
-    requires { ⌜ Whole (now code) × (n ≡ count (now code)) × (k < n) ⌝ }
+// The step at k, in code of n instructions, by the table of roles.
+pub fn step_in(roles: &[u8; 1280], code: &[u16], n: usize, k: usize) -> Step
+    requires { ⌜ (now roles ≡ roleTable) × Whole (now code) × (n ≡ count (now code)) × (k < n) ⌝ }
     ensures { λ s. ⌜ StepAt (now (code .entry)) k s ⌝ }
 {
     let i = code::ins_in(code, k);
-    let kind = roles::kinds_of(i);
+    let kind = roles::kinds_in(roles, i);
     let t = touch_at(code, k, i, kind);
     let o = i.op;
     Step {
@@ -191,6 +198,14 @@ pub fn step_at(code: &[u16], n: usize, k: usize) -> Step
         to: kind / 16 % 4 == 1,
         target: code::least(i.a as usize, n),
     }
+}
+
+// The step at k, for one who asks once.
+pub fn step_at(code: &[u16], n: usize, k: usize) -> Step
+    requires { ⌜ Whole (now code) × (n ≡ count (now code)) × (k < n) ⌝ }
+    ensures { λ s. ⌜ StepAt (now (code .entry)) k s ⌝ }
+{
+    step_in(&roles::table(), code, n, k)
 }
 
 // The step of an instruction that only reads and writes the registers that m tells.
@@ -228,14 +243,14 @@ fn turn(i: Ins, m: u8, n: usize) -> Step
 }
 
 // The step at k, where i stands, of which m tells what its opcode does.
-pub fn step_by(code: &[u16], n: usize, k: usize, i: Ins, m: u8) -> Step
-    requires { ⌜ Whole (now code) × (n ≡ count (now code)) × (k < n) × (i ≡ insAt (now code) k) × (m ≡ calmOf (i .op)) ⌝ }
+pub fn step_by(roles: &[u8; 1280], code: &[u16], n: usize, k: usize, i: Ins, m: u8) -> Step
+    requires { ⌜ (now roles ≡ roleTable) × Whole (now code) × (n ≡ count (now code)) × (k < n) × (i ≡ insAt (now code) k) × (m ≡ calmOf (i .op)) ⌝ }
     ensures { λ s. ⌜ StepAt (now (code .entry)) k s ⌝ }
 {
     if m < 64 {
         return turn(i, m, n);
     }
-    step_at(code, n, k)
+    step_in(roles, code, n, k)
 }
 
 // Whether a step jumps to before p.

@@ -37,6 +37,19 @@ pub fn loops(n: usize, regs: usize) -> Vec<Ins> {
     marked(&plain, |_| false)
 }
 
+/// Any opcodes in any order, over the registers, with x of 0 to 3: what a sweep meets on every way through its cases.
+pub fn random(n: usize, regs: usize) -> Vec<Ins> {
+    let mut rng = Rng::new(3, regs as u64);
+    let plain: Vec<Lowered> = (0..n).map(|k| {
+        let mut r = || rng.below(regs) as u16;
+        let (a, b, c) = (r(), r(), r());
+        let (op, x) = (rng.pick(&ALL), rng.below(4) as u8);
+        // No code begins with ArgsR, and UnpackR has an x of its own.
+        if op == ArgsR && k == 0 { Lowered::new(Move, a, b, c, x) } else { Lowered::new(op, a, b, c, if op == UnpackR { x.max(1) } else { x }) }
+    }).collect();
+    marked(&plain, |_| false)
+}
+
 /// Sums of two constants, each dropped again, and a jump on; every fourth sum has a third operand. The results are among a few
 /// constants, or each is new.
 pub fn sums(n: usize, new: bool) -> Question {

@@ -23,7 +23,8 @@ struct Case {
 
 fn cases(most: usize) -> Vec<Case> {
     let sizes = [100, 10_000, 65_535];
-    let kept = ["straight", "loops"].into_iter().flat_map(|shape| sizes.into_iter().flat_map(move |n| [8, 64, 65, 1_024].map(|regs| Case { call: Kept, shape, n, regs })));
+    let bodies = ["straight", "loops"].into_iter().flat_map(|shape| sizes.map(|n| (shape, n))).chain([("random", 4_000)]);
+    let kept = bodies.flat_map(|(shape, n)| [8, 64, 65, 1_024].map(|regs| Case { call: Kept, shape, n, regs }));
     let folds = ["few constants", "new constants", "strict", "one sum"].into_iter().flat_map(|shape| sizes.map(|n| (shape, n)));
     kept.chain(folds.map(|(shape, n)| Case { call: Fold, shape, n, regs: 0 })).filter(|c| c.n <= most).collect()
 }
@@ -39,7 +40,11 @@ type Measure<'a> = &'a mut dyn FnMut(&mut dyn FnMut() -> Box<dyn FnMut()>);
 /// Runs both sides of a case, the port first.
 fn run(case: Case, measure: Measure) {
     if case.call == Kept {
-        let code = if case.shape == "loops" { inputs::loops(case.n, case.regs) } else { inputs::straight(case.n, case.regs) };
+        let code = match case.shape {
+            "loops" => inputs::loops(case.n, case.regs),
+            "random" => inputs::random(case.n, case.regs),
+            _ => inputs::straight(case.n, case.regs),
+        };
         keeping(&code, case.regs, measure);
     } else {
         let q = match case.shape {

@@ -1,7 +1,7 @@
 -- `steps::past_store` meets its contract. Assumes nothing.
 use borrow.Author.Needs.{needs}
 use native.Mathlib.Omega.{arith}
-use Rattle.steps.proofs.Follows.{store-le, past-is}
+use Rattle.steps.proofs.Follows.{store-le, past-is, not-past}
 use Rattle.steps.proofs.past_store.Statement.{statement}
 use Rattle.steps.proofs.past_store.Tie as tie
 
@@ -17,5 +17,9 @@ add-result c = omega (arith, store-le _ _ _ (c .store-of .ensures))
 returns : tie.Need-returns
 returns c = search past-is
 
+returns-2 : tie.Need-returns-2
+returns-2 c = search not-past
+
 pub past-store-spec : {M : Type 1} → statement M
-past-store-spec = tie.close (tie.spec over-pending-requires store-of-requires add-result returns)
+past-store-spec =
+    tie.close (tie.spec over-pending-requires store-of-requires add-result returns returns-2)

@@ -21,11 +21,11 @@ turn-requires c κs = search needs
 returns : tie.Need-returns
 returns c = search (needs, by-turn)
 
-step-at-requires : tie.Need-step-at-requires
-step-at-requires c κs = search needs
+step-in-requires : tie.Need-step-in-requires
+step-in-requires c κs = search needs
 
 returns-2 : tie.Need-returns-2
 returns-2 c = search needs
 
 pub step-by-spec : {M : Type 1} → statement M
-step-by-spec = tie.close (tie.spec turn-requires returns step-at-requires returns-2)
+step-by-spec = tie.close (tie.spec turn-requires returns step-in-requires returns-2)

@@ -33,8 +33,8 @@ use Rattle.finish.specs.Finish.{Tables, tables, mapOf, sourcesOf, renewed, fini
 use Rattle.optimizer.specs.Fold.{Buffers, buffers, lensOf, needed, Outcome, outcome, foldPass, constantFold, joined, settled, foldLent, called, rejoined}
 use Rattle.optimizer.specs.Fold.{foldCall, Held, Exact}
 use Rattle.optimizer.specs.declared.Folded.{Folded}
-use Rattle.optimizer.specs.declared.FoldAnswer.{FoldAnswer}
-use Rattle.optimizer.specs.declared.FoldAnswer.the-variants.{Is, No}
+use Rattle.optimizer.specs.Fold.{FoldAnswer}
+use Rattle.optimizer.specs.Fold.{Is, No}
 use Rattle.optimizer.proofs.Answered.{answered}
 use Rattle.runs.specs.Kept.{Same, Strict, Fresh}
 use Rattle.runs.specs.Rule.{known, Rule}

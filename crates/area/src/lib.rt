@@ -12,7 +12,7 @@ pub enum Top {
     Bare,
 }
 
-// The first such place, else the list's length.
+// The first place of the list with a register that is not in the file, or listed before; else the list's length.
 pub fn first_strange(list: &[u16], regs: usize) -> usize
     ensures { λ r. ⌜ r ≡ firstStrange regs (now (list .entry)) ⌝ }
 {

@@ -42,7 +42,7 @@ pub fn judge(code: &[u16], tries: &[u32], t: &[u8]) -> Verdict
     Verdict::Fine
 }
 
-// The first slot of block b that does, else the slot past the block.
+// The first slot of block b that breaks the rules of a run, else the slot past the block.
 fn first_step(code: &[u16], tries: &[u32], t: &[u8], b: usize) -> usize
     requires { ⌜ Whole (now code) × (b < length (now t) / 512) ⌝ }
     ensures { λ r. ⌜ r ≡ firstStep (now (code .entry)) (now (tries .entry)) (now (t .entry)) b ⌝ }

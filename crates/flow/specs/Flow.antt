@@ -6,7 +6,7 @@ use lib.Bits.{bitOr}
 use Rattle.flow.specs.Set.{minus, _⊑_}
 
 -- What liveness sees of code: n, the register count, and at each position the registers used, those given up, the positions that "after"
--- names (none after a return), and the handlers that it may leave for before it gives up anything. Document 01's rows have no such way.
+-- names (none after a return), and those that it may leave for before it gives up anything, as for a handler. Document 01's rows have none.
 pub record Flow : Type 0 where
   pub size : ℕ
   pub regs : ℕ

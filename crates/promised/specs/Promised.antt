@@ -4,7 +4,7 @@ use mathlib.Core.Path.{_≡_}
 use mathlib.Core.Bool.{Bool, true, false, not}
 use mathlib.Core.Logic.{_⊎_, _≢_}
 use mathlib.Core.List.{List, [], _∷_, _++_, List·Memᴰ}
-use lib.ListN.{length, replicate}
+use lib.ListN.{length, replicate, take}
 use lib.IntN.{ℤ, pos, natAbs, _*ℤ_}
 use lib.Signed.{ltZ, leZ}
 use lib.Ieee.{nan, fin, binary64, ofBits, toBits, ofInt, up, down, lt, le, eq, ne}
@@ -74,6 +74,12 @@ use Rattle.day.specs.Trace.{slotAt, stepsOf, Recorded}
 use Rattle.day.specs.Count.{readsIn, levelsIn}
 use Rattle.day.specs.Day.{stagesOf}
 use Rattle.replays.specs.Positions.{slotsFrom, visited}
+use Rattle.steps.specs.Level.{isLevel}
+use Rattle.turniploom.specs.Answers.{ExposedTold}
+use Rattle.nested.specs.Machine.{Sheltered}
+use Rattle.nested.specs.Raising.{levels, mays, frame, Tidy}
+use Rattle.nested.specs.Exposed.{ToldApart}
+use Rattle.sheltered.specs.Calls.{RaisingCall, RaisingSettles, RaisingHolds, Both, NoneExposed, NotEnough, Enough, RaiseKept}
 
 -- where a call's statement says 'the answer is x': there is one answer
 abbrev pub OneAnswer : Answer → Type 0
@@ -355,3 +361,32 @@ pub record Promised : Type 0 where
       → new ≡ filledTo (readsIn w t (stepsOf t)) regs old
   -- a refused trace has no report: the reads are as lent
   pub replay-none : (w : List ℕ) (regs : ℕ) (tries t old new : List ℕ) (r : Answer) → ReplayTold w regs tries t old new r → r .refusal ≢ 0 → new ≡ old
+  -- ---- beyond the wishes: registers that a later exception needs
+
+  -- kept_raising settles its three buffers, as kept does
+  pub raising : (w : List ℕ) (regs : ℕ) (tries : List ℕ) (all : Bool) → RaisingSettles w regs tries all
+  -- exposed settles the answer and every word of its buffer
+  pub one-exposed : (plain list out : List ℕ) (r r′ : Answer) (a a′ : List ℕ) → ExposedTold plain list out a r → ExposedTold plain list out a′ r′ → (r ≡ r′) × (a ≡ a′)
+  -- for a keeper of archives: at every level all registers but the listed ones and the result are overwritten at will, calls return or raise, what may
+  -- raise goes on in a handler around it, as often as it likes, and all that is read is what the undisturbed run reads; with least rows, none to spare
+  pub raising-holds : (w : List ℕ) (regs : ℕ) (tries : List ℕ) (all : Bool) (b : Lists) (r : Answer) (a : Lists) → RaisingCall w regs tries all b r a → r .refusal ≡ 0
+      → RaisingHolds w regs tries all r a
+  -- at each level the list of kept_raising holds the list of kept, of any width and route
+  pub raising-more : (w : List ℕ) (regs : ℕ) (tries : List ℕ) (all : Bool) (plain list : Lists) → Both w regs tries all plain list
+      → (k : ℕ) → k < count w → isLevel (insAt w k) ≡ true → (q : ℕ) → List·Memᴰ q (listLeft plain k) → List·Memᴰ q (listLeft list k)
+  -- where exposed tells of no level any register, kept's own lists are enough too
+  pub plain-enough : (w : List ℕ) (regs : ℕ) (tries : List ℕ) (all : Bool) (plain list : Lists) → Both w regs tries all plain list
+      → ((k : ℕ) → k < count w → isLevel (insAt w k) ≡ true → NoneExposed (listLeft plain k) (listLeft list k))
+      → Sheltered (frame (mays all w) regs w tries) (listLeft plain)
+  -- each register that it tells of a level is exposed in truth: a callee that overwrites it alone, there alone, changes what some run reads
+  pub exposed-truth : (w : List ℕ) (regs : ℕ) (tries : List ℕ) (all : Bool) (plain list : Lists) → Both w regs tries all plain list
+      → (k : ℕ) → k < count w → isLevel (insAt w k) ≡ true → (o o′ : List ℕ) (s : Answer) → ExposedTold (listLeft plain k) (listLeft list k) o o′ s
+      → s .refusal ≡ 0 → (q : ℕ) → List·Memᴰ q (take (s .first) o′) → ToldApart (frame (mays all w) regs w tries) (listLeft plain) k q
+  -- where no try is lent and no dunder mark stands on ReturnR, Jump, UnpackR, WithEnter or WithExit, kept's own lists are enough
+  pub no-try-shelters : (bits : ℕ) (w : List ℕ) (regs : ℕ) (wide : Bool) (b : Lists) (r : Answer) (a : Lists) → KeptCall bits w regs [] wide b r a → r .refusal ≡ 0
+      → Tidy w → Sheltered (frame (levels w) regs w []) (listLeft a)
+  -- but not in general: the body whose handler reads r5, which the call before the try may overwrite; kept_raising keeps it at both calls
+  pub plain-not-enough : NotEnough
+  pub raising-enough : Enough
+  -- Raise is no level: only where anything may raise is r5 kept for its handler
+  pub raise-kept : RaiseKept

@@ -88,7 +88,7 @@ module _ (bits words n k : ℕ) (rows : List ℕ) (s : Step) where
   abbrev R : ℕ → ℕ
   R = row (rowsOf bits words (suc n) rows)
 
-  one : (t : Bool) (j : ℕ) → j ≤ n → cond t (value bits (window words j rows)) 0 ≡ joined R (only t j)
+  pub one : (t : Bool) (j : ℕ) → j ≤ n → cond t (value bits (window words j rows)) 0 ≡ joined R (only t j)
   unfolding joined
   one true j l = sym (rows-at bits words (suc n) rows j (omega arith)) ∙ sym (or-zero-r (R j))
   one false j l = refl

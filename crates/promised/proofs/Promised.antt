@@ -34,6 +34,7 @@ use Rattle.figured.proofs.Exported.{empty-report, add-report, join-report, add-
 use Rattle.figured.proofs.Kept.{kept-added, kept-total}
 use Rattle.replays.proofs.Exported.{answered-recorded, recorded-answered, as-run, report, counts, no-report}
 use Rattle.sheltered.proofs.Exported.{raising-settles, raising-holds, raising-more, plain-enough, exposed-truth, no-try-shelters}
+use Rattle.sheltered.proofs.Saving.{saved-run}
 use Rattle.sheltered.proofs.Bodies.{not-enough, enough, raise-kept}
 use Rattle.promised.specs.Promised.{Promised}
 use Rattle.promised.proofs.Marked.{marked}
@@ -161,6 +162,7 @@ promised =
       raising = raising-settles;
       one-exposed = one-exposed;
       raising-holds = raising-holds;
+      raising-saved = saved-run;
       raising-more = raising-more;
       plain-enough = plain-enough;
       exposed-truth = exposed-truth;

@@ -61,8 +61,8 @@ use Rattle.flow.specs.Kept.{handlersOf}
 use Rattle.flow.specs.Demand.{Alike}
 use Rattle.steps.specs.Code.{flow}
 use Rattle.levels.specs.Answers.{levelAnswer}
-use Rattle.saver.specs.Saver.{Saver, Back, returned, thrown, usedOf, freeOf, putIn}
-use Rattle.saver.specs.Frames.{fileOf, Open}
+use Rattle.saver.specs.Saver.{Saver, Back, returned, thrown, regsOf, usedOf, freeOf, putIn}
+use Rattle.saver.specs.Frames.{fileOf, Sound, Open}
 use Rattle.figures.specs.Figures.{bodyFigures}
 use Rattle.figures.specs.Answers.{reports, addCall, joinCall}
 use Rattle.figures.specs.Month.{Body, reportOf}
@@ -76,9 +76,10 @@ use Rattle.day.specs.Day.{stagesOf}
 use Rattle.replays.specs.Positions.{slotsFrom, visited}
 use Rattle.steps.specs.Level.{isLevel}
 use Rattle.turniploom.specs.Answers.{ExposedTold}
-use Rattle.nested.specs.Machine.{Sheltered}
+use Rattle.nested.specs.Machine.{Event, nested, undisturbed, Sheltered}
 use Rattle.nested.specs.Raising.{levels, mays, frame, Tidy}
 use Rattle.nested.specs.Exposed.{ToldApart}
+use Rattle.sheltered.specs.Saving.{Ran}
 use Rattle.sheltered.specs.Calls.{RaisingCall, RaisingSettles, RaisingHolds, Both, NoneExposed, NotEnough, Enough, RaiseKept}
 
 -- where a call's statement says 'the answer is x': there is one answer
@@ -371,6 +372,10 @@ pub record Promised : Type 0 where
   -- raise goes on in a handler around it, as often as it likes, and all that is read is what the undisturbed run reads; with least rows, none to spare
   pub raising-holds : (w : List ℕ) (regs : ℕ) (tries : List ℕ) (all : Bool) (b : Lists) (r : Answer) (a : Lists) → RaisingCall w regs tries all b r a → r .refusal ≡ 0
       → RaisingHolds w regs tries all r a
+  -- the same through the frame saver's calls: each call is entered with its level's list and left by a return or an exception
+  pub raising-saved : (w : List ℕ) (regs : ℕ) (tries : List ℕ) (all : Bool) (b : Lists) (r : Answer) (a : Lists) → RaisingCall w regs tries all b r a → r .refusal ≡ 0
+      → (k : ℕ) (s : Saver) → Sound s → regsOf s ≡ regs → (es : List Event) (told : List (ℕ × List ℕ)) → Ran w regs tries all (listLeft a) k s es told
+      → told ≡ nested (frame (mays all w) regs w tries) undisturbed es k (fileOf s)
   -- at each level the list of kept_raising holds the list of kept, of any width and route
   pub raising-more : (w : List ℕ) (regs : ℕ) (tries : List ℕ) (all : Bool) (plain list : Lists) → Both w regs tries all plain list
       → (k : ℕ) → k < count w → isLevel (insAt w k) ≡ true → (q : ℕ) → List·Memᴰ q (listLeft plain k) → List·Memᴰ q (listLeft list k)

@@ -247,8 +247,8 @@ turniploom_answer turniploom_needed(const uint16_t *code, size_t code_len, size_
  * whatever it is if all. Buffers as of kept; the rows are found from position 0 on.
  * first: the length of the list; second: full sweeps; third: abandoned sweeps: none. */
 turniploom_answer turniploom_kept_raising(const uint16_t *code, size_t code_len, size_t regs, const uint32_t *tries, size_t tries_len,
-                                          bool all, uint64_t *rows, size_t rows_len, uint32_t *offsets, size_t offsets_len,
-                                          uint16_t *list, size_t list_len);
+                                          bool all, uint64_t *rows, size_t rows_len, uint32_t *offsets, size_t offsets_len, uint16_t *list,
+                                          size_t list_len);
 
 /* The registers of a list that another has not, in order, at the front of out: of one level's lists by kept_raising and by kept, those that
  * a later exception needs and kept does not keep. out is as long as list.

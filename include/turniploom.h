@@ -243,6 +243,19 @@ turniploom_answer turniploom_touched(const uint16_t *code, size_t code_len, size
 turniploom_answer turniploom_needed(const uint16_t *code, size_t code_len, size_t regs, size_t at, uint16_t r, uint8_t *seen,
                                     size_t seen_len, uint32_t *todo, size_t todo_len);
 
+/* kept where calls may raise later on: a row has whole the rows of the handlers around its position too, if the position is a level, or
+ * whatever it is if all. Buffers as of kept; the rows are found from position 0 on.
+ * first: the length of the list; second: full sweeps; third: abandoned sweeps: none. */
+turniploom_answer turniploom_kept_raising(const uint16_t *code, size_t code_len, size_t regs, const uint32_t *tries, size_t tries_len,
+                                          bool all, uint64_t *rows, size_t rows_len, uint32_t *offsets, size_t offsets_len, uint16_t *list,
+                                          size_t list_len);
+
+/* The registers of a list that another has not, in order, at the front of out: of one level's lists by kept_raising and by kept, those that
+ * a later exception needs and kept does not keep. out is as long as list.
+ * first: how many. */
+turniploom_answer turniploom_exposed(const uint16_t *plain, size_t plain_len, const uint16_t *list, size_t list_len, uint16_t *out,
+                                     size_t out_len);
+
 /* Opcode numbers, as docs/OPCODES.md lists them. 0 is any other. */
 enum turniploom_opcode {
     TURNIPLOOM_LoadConst = 2, TURNIPLOOM_LoadName = 4, TURNIPLOOM_StoreName = 6, TURNIPLOOM_Call = 8, TURNIPLOOM_PopTop = 10,

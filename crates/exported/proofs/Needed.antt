@@ -55,7 +55,7 @@ needed-bit bits w regs tries wide b r a x z h k q m s m′ y z′ = go (needed-t
     least = subst (λ (n : ℕ). Least (flow regs w) n (rowLeft bits regs w a)) h (kept-holds bits w regs tries wide b r a x z .least)
 
     none : (Needs (flow regs w) q k → ⊥) → Dec (0 < bit (rowLeft bits regs w a k) q) → bit (rowLeft bits regs w a k) q ≡ 0
-    none n (yes l) = absurd (n (row-needs (flow regs w) q (rowLeft bits regs w a) least k l))
+    none n (yes l) = absurd (n (row-needs (flow regs w) q (rowLeft bits regs w a) least (λ k. refl) k l))
     none n (no l) = omega arith
 
     go : Truth (Needs (flow regs w) q k) s → bit (rowLeft bits regs w a k) q ≡ s .first

@@ -8,12 +8,15 @@ use lib.ListN.{length}
 use Rattle.laws.specs.Table.{Held}
 use Rattle.code.specs.Ins.{count}
 use Rattle.code.specs.declared.Answer.{Answer}
+use Rattle.flow.specs.Flow.{Flow}
 use Rattle.flow.specs.Words.{Small}
 use Rattle.kept.specs.Answers.{scratchFor}
+use Rattle.steps.specs.Code.{flow}
+use Rattle.rows.specs.Route.{firstOf}
 use Rattle.lent.specs.declared.Counts.{Counts}
 use Rattle.clear.specs.Clear as clearing
 use Rattle.refold.specs.Lending.{Lending}
-use Rattle.turniploom.specs.Answers.{TargetsTold, LoopsTold, DeadTold, GenTold, NeededTold, KeptTold, FoldTold, ClearTold}
+use Rattle.turniploom.specs.Answers.{TargetsTold, LoopsTold, DeadTold, GenTold, NeededTold, ListsTold, FoldTold, ClearTold}
 use Rattle.exported.specs.Settles.{Refusal}
 
 -- ---- targets and loops_around write n + 1 entries
@@ -53,22 +56,28 @@ pub record Lists : Type 0 where
   pub offsets : List ℕ
   pub list : List ℕ
 
--- the scratch is words of so many bits: 64 of kept, as every lent u64 is, and 32 of kept32
-pub record KeptCall (bits : ℕ) (w : List ℕ) (regs : ℕ) (tries : List ℕ) (wide : Bool) (b : Lists) (r : Answer) (a : Lists) : Type 0 where
-  pub told : KeptTold bits w regs tries wide (b .rows) (b .offsets) (b .list) (a .rows) (a .offsets) (a .list) r
+-- a call by the rows of some equations; the scratch is words of so many bits: 64 of kept, as every lent u64 is, and 32 of kept32
+pub record ListsCall (f : Flow) (start bits : ℕ) (w : List ℕ) (regs : ℕ) (tries : List ℕ) (b : Lists) (r : Answer) (a : Lists) : Type 0 where
+  pub told : ListsTold f start bits w regs tries (b .rows) (b .offsets) (b .list) (a .rows) (a .offsets) (a .list) r
   pub words : Small bits (a .rows)
 
+abbrev pub KeptCall : ℕ → List ℕ → ℕ → List ℕ → Bool → Lists → Answer → Lists → Type 0
+KeptCall bits w regs tries wide b r a = ListsCall (flow regs w) (firstOf bits wide regs w) bits w regs tries b r a
+
 -- like `Settles`, with the one exception: refusal 5 for the list, buffer 3, comes after the rows are found, and the scratch holds them
-pub record KeptSettles (bits : ℕ) (w : List ℕ) (regs : ℕ) (tries : List ℕ) (wide : Bool) : Type 0 where
+pub record ListsSettles (f : Flow) (start bits : ℕ) (w : List ℕ) (regs : ℕ) (tries : List ℕ) : Type 0 where
   -- any two results are equal, lent words included
-  pub one : (b : Lists) (r r′ : Answer) (a a′ : Lists) → KeptCall bits w regs tries wide b r a → KeptCall bits w regs tries wide b r′ a′ → (r ≡ r′) × (a ≡ a′)
+  pub one : (b : Lists) (r r′ : Answer) (a a′ : Lists) → ListsCall f start bits w regs tries b r a → ListsCall f start bits w regs tries b r′ a′ → (r ≡ r′) × (a ≡ a′)
   -- a refusal leaves offsets and list as lent, and the scratch too, but for the one
-  pub refusal : (b : Lists) (r : Answer) (a : Lists) → KeptCall bits w regs tries wide b r a → Refusal r
+  pub refusal : (b : Lists) (r : Answer) (a : Lists) → ListsCall f start bits w regs tries b r a → Refusal r
       → (a .offsets ≡ b .offsets) × (a .list ≡ b .list) × ((a .rows ≡ b .rows) ⊎ ((r .refusal ≡ 5) × (r .first ≡ 3)))
   -- words past a needed length are never touched
-  pub rows-beyond : (b : Lists) (r : Answer) (a : Lists) → KeptCall bits w regs tries wide b r a → Held (scratchFor bits regs w) (b .rows) (a .rows)
-  pub offsets-beyond : (b : Lists) (r : Answer) (a : Lists) → KeptCall bits w regs tries wide b r a → Held (suc (count w)) (b .offsets) (a .offsets)
-  pub list-beyond : (b : Lists) (r : Answer) (a : Lists) → KeptCall bits w regs tries wide b r a → r .refusal ≡ 0 → Held (r .first) (b .list) (a .list)
+  pub rows-beyond : (b : Lists) (r : Answer) (a : Lists) → ListsCall f start bits w regs tries b r a → Held (scratchFor bits regs w) (b .rows) (a .rows)
+  pub offsets-beyond : (b : Lists) (r : Answer) (a : Lists) → ListsCall f start bits w regs tries b r a → Held (suc (count w)) (b .offsets) (a .offsets)
+  pub list-beyond : (b : Lists) (r : Answer) (a : Lists) → ListsCall f start bits w regs tries b r a → r .refusal ≡ 0 → Held (r .first) (b .list) (a .list)
+
+abbrev pub KeptSettles : ℕ → List ℕ → ℕ → List ℕ → Bool → Type 0
+KeptSettles bits w regs tries wide = ListsSettles (flow regs w) (firstOf bits wide regs w) bits w regs tries
 
 -- ---- fold and clear
 

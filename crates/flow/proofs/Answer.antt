@@ -10,7 +10,7 @@ use borrow.Author.Tests.{ltb-true, ltb-false, eqb-false}
 use lib.Dec.{ltb, eqb}
 use lib.Pow.{pow-pos}
 use Rattle.flow.specs.Set.{bit}
-use Rattle.flow.specs.Flow.{Flow, Least, Closed}
+use Rattle.flow.specs.Flow.{Flow, reach, Least, Closed}
 use Rattle.flow.specs.Sweep.{row, empty, swept, backs, strays, below, Again, Sweeps, done, more, startOf, abandonedOf, Found}
 use Rattle.flow.specs.Kept.{Level, handlersOf, kept}
 use Rattle.flow.specs.Demand.{Keeps}
@@ -45,7 +45,7 @@ found-one f first a b = let w = sweeps-one f (startOf f first) (a .sweeps) (b .s
 
 -- no jump from a start goes before it
 pub calm-closed : (f : Flow) (start : ℕ) → strays f start ≡ 0 → Closed f start
-calm-closed f start z k lo hi s m = below-none start (f .after k) (tally-none (λ j. below start (f .after j)) start (f .size - start) z k lo (omega arith)) s m
+calm-closed f start z k lo hi s m = below-none start (reach f k) (tally-none (λ j. below start (reach f j)) start (f .size - start) z k lo (omega arith)) s m
 
 module _ (f : Flow) (first : ℕ) where
   -- the start is closed under "after"

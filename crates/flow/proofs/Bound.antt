@@ -14,11 +14,11 @@ use lib.Dec.{ltb}
 use lib.ListN.{length, set, length-set}
 use lib.Seq.{getD-set-same, getD-set-other}
 use Rattle.flow.specs.Set.{bit, _⊑_}
-use Rattle.flow.specs.Flow.{Flow, joined, rowAt}
+use Rattle.flow.specs.Flow.{Flow, reach, rowAt}
 use Rattle.flow.specs.Sweep.{row, sweep, swept, below, tally, backs, Again, Sweeps, done, more}
 use Rattle.flow.proofs.Bits.{bit-lt, bit-zero, bit-apart}
 use Rattle.flow.proofs.Tally.{below-some, tally-mono, tally-more}
-use Rattle.flow.proofs.Rows.{In, joined-has, joined-in, rowAt-bit, rowAt-mono, length-sweep, sweep-out, sweep-at}
+use Rattle.flow.proofs.Rows.{In, rowAt-bit, rowAt-mono, rowAt-from, rowAt-to, next-in, length-sweep, sweep-out, sweep-at}
 
 -- two lists of one length that differ do so at some row
 differ-at : (a b : List ℕ) → length a ≡ length b → a ≢ b → (k : ℕ) × (row a k ≢ row b k)
@@ -104,7 +104,7 @@ module _ (f : Flow) (start : ℕ) (le : start ≤ f .size) where
   New rows rows′ k r = bit (row rows k) r < bit (row rows′ k) r
 
   abbrev isBack : ℕ → Bool
-  isBack k = below (suc k) (f .after k)
+  isBack k = below (suc k) (reach f k)
 
   new-inside : (rows : List ℕ) (k r : ℕ) → New rows (next rows) k r → (start ≤ k) × (k < f .size)
   unfolding next
@@ -125,8 +125,7 @@ module _ (f : Flow) (start : ℕ) (le : start ≤ f .size) where
   trace : (prev : List ℕ) → f .size ≤ length prev → (r m k : ℕ) → f .size ≤ m + k → New (next prev) (next (next prev)) k r → Traced prev r
   unfolding next
   trace prev fits r zero k fuel new = absurd (omega (arith, new-inside (next prev) k r new .1))
-  trace prev fits r (suc m) k fuel new = let w = joined-has X′ r (f .after k) (omega (arith, new, was, now′, bit-lt (joined X′ (f .after k)) r)) in
-      go (w .0) (w .1) (w .2) (decLe (w .0) k) (λ s l n. trace prev fits r m s (omega arith) n)
+  trace prev fits r (suc m) k fuel new = go w (decLe (w .0) k) (λ s l n. trace prev fits r m s (omega arith) n)
     where
       rows : List ℕ
       rows = next prev
@@ -146,29 +145,33 @@ module _ (f : Flow) (start : ℕ) (le : start ≤ f .size) where
       X′ : ℕ → ℕ
       X′ = mix k (row rows′) (row rows)
 
-      found : (old : List ℕ) → f .size ≤ length old → bit (row (next old) k) r
-          ≡ max (bit (f .used k) r) (bit (joined (mix k (row (next old)) (row old)) (f .after k)) r - bit (f .givenUp k) r)
+      found : (old : List ℕ) → f .size ≤ length old → bit (row (next old) k) r ≡ bit (rowAt f (mix k (row (next old)) (row old)) k) r
       found old l = at r (sweep-at f start (f .size - start) old k (mix k (row (next old)) (row old)) (omega arith) lo (omega (arith, hi))
           (λ s i h. mix-up k (row (next old)) (row old) s h) (λ s i h. mix-dn k (row (next old)) (row old) s h))
-          ∙ rowAt-bit f (mix k (row (next old)) (row old)) k r
 
-      was : bit (row rows k) r ≡ max (bit (f .used k) r) (bit (joined X (f .after k)) r - bit (f .givenUp k) r)
+      was : bit (row rows k) r ≡ bit (rowAt f X k) r
       was = found prev fits
 
-      now′ : bit (row rows′ k) r ≡ max (bit (f .used k) r) (bit (joined X′ (f .after k)) r - bit (f .givenUp k) r)
+      now′ : bit (row rows′ k) r ≡ bit (rowAt f X′ k) r
       now′ = found rows (omega (arith, next-long prev))
 
-      go : (s : ℕ) → In s (f .after k) → 0 < bit (X′ s) r → Dec (s ≤ k) → ((s : ℕ) → k < s → New rows rows′ s r → Traced prev r) → Traced prev r
-      go s i h (yes l) rec = (
+      Via : Type 0
+      Via = (s : ℕ) × (0 < bit (X′ s) r) × (In s (f .raises k) ⊎ (In s (f .after k) × (bit (f .givenUp k) r ≡ 0)))
+
+      w : Via
+      w = rowAt-from f X′ k r (omega (arith, new, was, now′, rowAt-bit f X k r, bit-lt (rowAt f X′ k) r)) (omega (arith, new, now′))
+
+      go : (v : Via) → Dec (v .0 ≤ k) → ((s : ℕ) → k < s → New rows rows′ s r → Traced prev r) → Traced prev r
+      go (s, h, v) (yes l) rec = (
         k,
         s,
-        below-some (suc k) (f .after k) s i (omega arith),
+        below-some (suc k) (reach f k) s (next-in f k r s v) (omega arith),
         new,
-        omega (arith, h, new, was, now′, bit-lt (joined X′ (f .after k)) r, joined-in X r (f .after k) s i, at r (mix-dn k (row rows) (row prev) s l), at r (mix-dn k (row rows′) (row rows) s l)),
+        omega (arith, h, new, was, now′, bit-lt (rowAt f X′ k) r, rowAt-to f X k r s v, at r (mix-dn k (row rows) (row prev) s l), at r (mix-dn k (row rows′) (row rows) s l)),
       )
-      go s i h (no n) rec =
+      go (s, h, v) (no n) rec =
           rec s (omega arith)
-          (omega (arith, h, new, was, now′, bit-lt (joined X′ (f .after k)) r, joined-in X r (f .after k) s i, at r (mix-up k (row rows) (row prev) s (omega arith)), at r (mix-up k (row rows′) (row rows) s (omega arith))))
+          (omega (arith, h, new, was, now′, bit-lt (rowAt f X′ k) r, rowAt-to f X k r s v, at r (mix-up k (row rows) (row prev) s (omega arith)), at r (mix-up k (row rows′) (row rows) s (omega arith))))
 
   -- the jumps back whose row has register r
   holds : List ℕ → ℕ → ℕ → Bool

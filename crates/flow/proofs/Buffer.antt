@@ -14,7 +14,7 @@ use lib.ListN.{length, getD, take, drop, set, replicate, length-take, length-set
 use lib.Pow.{pow-pos}
 use lib.Seq.{getD-set-same, getD-set-other, getD-take, getD-drop, drop-drop, ext-getD}
 use Rattle.flow.specs.Set.{minus}
-use Rattle.flow.specs.Flow.{Flow, joined, rowAt}
+use Rattle.flow.specs.Flow.{Flow, joined, onto, rowAt}
 use Rattle.flow.specs.Sweep.{row, Put}
 use Rattle.flow.specs.Words.{value, Small, window, rowsOf, Holds, Stored}
 use Rattle.flow.proofs.Bits.{and-not}
@@ -149,12 +149,13 @@ module _ (w words : ℕ) (pos : 0 < w) (m : ℕ) (buf out s : List ℕ) (k x : �
 -- ---- a row is found: after, without what is given up, with what is used
 
 -- in one word, as the machine has it
-pub step-word : (f : Flow) (R : ℕ → ℕ) (k w a g u : ℕ) → a ≡ joined R (f .after k) → g ≡ f .givenUp k → u ≡ f .used k → a < 2 ^ w → g < 2 ^ w → bitOr u (bitAnd a ((2 ^ w - 1) - g)) ≡ rowAt f R k
+pub step-word : (f : Flow) (R : ℕ → ℕ) (k w a g u : ℕ) → f .raises k ≡ [] → a ≡ joined R (f .after k) → g ≡ f .givenUp k → u ≡ f .used k → a < 2 ^ w → g < 2 ^ w → bitOr u (bitAnd a ((2 ^ w - 1) - g)) ≡ rowAt f R k
 unfolding rowAt
-step-word f R k w a g u ea eg eu la lg = ap₂ bitOr eu (and-not w a g la lg ∙ ap₂ minus ea eg)
+step-word f R k w a g u calm ea eg eu la lg = ap₂ bitOr eu (and-not w a g la lg ∙ ap₂ minus ea eg) ∙ ap (onto R (bitOr (f .used k) (minus (joined R (f .after k)) (f .givenUp k)))) (sym calm)
 
 -- in words, step by step
-pub step-words : (f : Flow) (R : ℕ → ℕ) (k w : ℕ) (a b s : List ℕ) → Holds w a (joined R (f .after k)) → Holds w b (minus (value w a) (f .givenUp k)) → Holds w s (bitOr (value w b) (f .used k)) → Holds w s (rowAt f R k)
+pub step-words : (f : Flow) (R : ℕ → ℕ) (k w : ℕ) (a b s : List ℕ) → f .raises k ≡ [] → Holds w a (joined R (f .after k)) → Holds w b (minus (value w a) (f .givenUp k)) → Holds w s (bitOr (value w b) (f .used k)) → Holds w s (rowAt f R k)
 unfolding rowAt
-step-words f R k w a b s ha hb hs =
-    as-set hs (or-comm (value w b) (f .used k) ∙ ap (λ (x : ℕ). bitOr (f .used k) x) (hb .is ∙ ap (λ (x : ℕ). minus x (f .givenUp k)) (ha .is)))
+step-words f R k w a b s calm ha hb hs =
+    as-set hs (or-comm (value w b) (f .used k) ∙ ap (λ (x : ℕ). bitOr (f .used k) x) (hb .is ∙ ap (λ (x : ℕ). minus x (f .givenUp k)) (ha .is))
+    ∙ ap (onto R (bitOr (f .used k) (minus (joined R (f .after k)) (f .givenUp k)))) (sym calm))

@@ -7,7 +7,7 @@ use native.Mathlib.Omega.{arith}
 use lib.Dec.{ltb}
 use lib.ListN.{getD}
 use Rattle.flow.specs.Set.{bit, minus}
-use Rattle.flow.specs.Flow.{Flow, joined, rowAt}
+use Rattle.flow.specs.Flow.{Flow, reach, joined, rowAt}
 use Rattle.flow.specs.Sweep.{row, empty, sweep, swept, below, tally, Sweeps, done, more, startOf, abandonedOf, Found}
 use Rattle.flow.specs.Listed.{listed}
 use Rattle.flow.specs.Run.{run}
@@ -16,7 +16,7 @@ use Rattle.flow.proofs.Answer.{again-at, last-same, last-straight}
 
 -- code given by its sets
 abbrev flowOf : ℕ → ℕ → List ℕ → List ℕ → List (List ℕ) → Flow
-flowOf n regs used given after = record { size = n; regs = regs; used = λ k. getD used k 0; givenUp = λ k. getD given k 0; after = λ k. getD after k [] }
+flowOf n regs used given after = record { size = n; regs = regs; used = λ k. getD used k 0; givenUp = λ k. getD given k 0; after = λ k. getD after k []; raises = λ k. [] }
 
 -- K: 0 LoadGlobalR a0; 1 LoadGlobalR a1; 2 CallR a1; 3 StoreTopR a2; 4 AddR a3 b0 c2; 5 ReturnR b3
 abbrev K : Flow
@@ -76,7 +76,7 @@ none f = record { sweeps = subst (λ (x : ℕ). Sweeps f x (empty f) 1 (empty f)
     still = ap (λ (d : ℕ). sweep f (f .size) d (empty f)) gap
 
     here : startOf f (f .size) ≡ f .size
-    here = ap (λ (d : ℕ). cond (ltb 0 (tally (λ k. below (f .size) (f .after k)) (f .size) d)) 0 (f .size)) gap
+    here = ap (λ (d : ℕ). cond (ltb 0 (tally (λ k. below (f .size) (reach f k)) (f .size) d)) 0 (f .size)) gap
 
     left : abandonedOf f (f .size) ≡ 0
-    left = ap (λ (d : ℕ). cond (ltb 0 (tally (λ k. below (f .size) (f .after k)) (f .size) d)) 1 0) gap
+    left = ap (λ (d : ℕ). cond (ltb 0 (tally (λ k. below (f .size) (reach f k)) (f .size) d)) 1 0) gap

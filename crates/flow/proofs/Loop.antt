@@ -13,7 +13,7 @@ use lib.Dec.{eqb}
 use lib.ListN.{length, set, length-set}
 use lib.Seq.{getD-set-same, getD-set-other, set-getD}
 use Rattle.laws.proofs.Branch.{or-false}
-use Rattle.flow.specs.Flow.{Flow, rowAt}
+use Rattle.flow.specs.Flow.{Flow, reach, rowAt}
 use Rattle.flow.specs.Sweep.{row, empty, sweep, swept, below, backs, strays, Again, Sweeps, done, more, startOf, abandonedOf, Found, Put}
 use Rattle.flow.proofs.Tally.{or-some, tally-zero, tally-some, tally-le, strays-zero}
 use Rattle.flow.proofs.Rows.{empty-long, empty-row}
@@ -44,9 +44,9 @@ pub record Part (f : Flow) (first : ℕ) (rows₀ rows : List ℕ) (changed back
   pub low : (i : ℕ) → i < k → row rows i ≡ row rows₀ i
   pub kept : changed ≡ false → rows ≡ rows₀
   pub moved : changed ≡ true → (i : ℕ) × (k ≤ i) × (row rows i ≢ row rows₀ i)
-  pub ahead : back ≡ false → (j : ℕ) → k ≤ j → j < f .size → below (suc j) (f .after j) ≡ false
-  pub behind : back ≡ true → (j : ℕ) × (k ≤ j) × (j < f .size) × (below (suc j) (f .after j) ≡ true)
-  pub inside : (j : ℕ) → k ≤ j → j < f .size → below first (f .after j) ≡ false
+  pub ahead : back ≡ false → (j : ℕ) → k ≤ j → j < f .size → below (suc j) (reach f j) ≡ false
+  pub behind : back ≡ true → (j : ℕ) × (k ≤ j) × (j < f .size) × (below (suc j) (reach f j) ≡ true)
+  pub inside : (j : ℕ) → k ≤ j → j < f .size → below first (reach f j) ≡ false
 
 module _ (f : Flow) (first : ℕ) where
   sweep-next : (rows : List ℕ) (d : ℕ) → sweep f first (suc d) rows ≡ sweep f first d (set rows (first + d) (rowAt f (row rows) (first + d)))
@@ -55,8 +55,8 @@ module _ (f : Flow) (first : ℕ) where
 
   module _ (rows₀ rows : List ℕ) (changed back : Bool) (k : ℕ) (p : Part f first rows₀ rows changed back k) where
     -- row k - 1 is found, and its jump stays inside
-    pub part-step : (out : List ℕ) (changed′ back′ : Bool) → first < k → below first (f .after (k - 1)) ≡ false → Put f rows (k - 1) out changed′
-        → back′ ≡ below k (f .after (k - 1)) → Part f first rows₀ out (changed′ || changed) (back′ || back) (k - 1)
+    pub part-step : (out : List ℕ) (changed′ back′ : Bool) → first < k → below first (reach f (k - 1)) ≡ false → Put f rows (k - 1) out changed′
+        → back′ ≡ below k (reach f (k - 1)) → Part f first rows₀ out (changed′ || changed) (back′ || back) (k - 1)
     part-step out changed′ back′ lt within put eb = record {
       lo = omega arith;
       hi = omega (arith, p .hi);
@@ -67,7 +67,7 @@ module _ (f : Flow) (first : ℕ) where
       kept = λ e. let w = or-false changed′ changed e in put .stored ∙ still (w .0) ∙ p .kept (w .1);
       moved = λ e. moves (or-some changed′ changed e) (decide changed′);
       ahead = λ e i a b. let w = or-false back′ back e in aheadAt (w .0) (w .1) i a b (ℕ-discrete i j);
-      behind = λ e. ⊎-elim (λ t. (j, le-refl j, omega (arith, p .hi), ap (λ (x : ℕ). below x (f .after j)) one ∙ sym eb ∙ t))
+      behind = λ e. ⊎-elim (λ t. (j, le-refl j, omega (arith, p .hi), ap (λ (x : ℕ). below x (reach f j)) one ∙ sym eb ∙ t))
           (λ t. let w = p .behind t in (w .0, omega (arith, w .1), w .2, w .3)) (or-some back′ back e);
       inside = λ i a b. insideAt i a b (ℕ-discrete i j);
     }
@@ -102,17 +102,17 @@ module _ (f : Flow) (first : ℕ) where
         moves e (inr t) = let w = p .moved (⊎-elim (λ x. absurd (true≢false (sym x ∙ t))) (λ x. x) e) in
             (w .0, omega (arith, w .1), λ h. w .2 (sym (ap (λ (l : List ℕ). row l (w .0)) (put .stored ∙ still t)) ∙ h))
 
-        aheadAt : back′ ≡ false → back ≡ false → (i : ℕ) → j ≤ i → i < f .size → Dec (i ≡ j) → below (suc i) (f .after i) ≡ false
-        aheadAt e e′ i a b (yes h) = ap (λ (x : ℕ). below (suc x) (f .after x)) h ∙ ap (λ (x : ℕ). below x (f .after j)) one ∙ sym eb ∙ e
+        aheadAt : back′ ≡ false → back ≡ false → (i : ℕ) → j ≤ i → i < f .size → Dec (i ≡ j) → below (suc i) (reach f i) ≡ false
+        aheadAt e e′ i a b (yes h) = ap (λ (x : ℕ). below (suc x) (reach f x)) h ∙ ap (λ (x : ℕ). below x (reach f j)) one ∙ sym eb ∙ e
         aheadAt e e′ i a b (no h) = p .ahead e′ i (omega arith) b
 
-        insideAt : (i : ℕ) → j ≤ i → i < f .size → Dec (i ≡ j) → below first (f .after i) ≡ false
-        insideAt i a b (yes h) = ap (λ (x : ℕ). below first (f .after x)) h ∙ within
+        insideAt : (i : ℕ) → j ≤ i → i < f .size → Dec (i ≡ j) → below first (reach f i) ≡ false
+        insideAt i a b (yes h) = ap (λ (x : ℕ). below first (reach f x)) h ∙ within
         insideAt i a b (no h) = p .inside i (omega arith) b
 
     -- a jump to before the start is met
-    part-stray : first < k → below first (f .after (k - 1)) ≡ true → 0 < strays f first
-    part-stray lt e = tally-some (λ j. below first (f .after j)) first (f .size - first) (k - 1) (omega arith) (omega (arith, p .hi)) e
+    part-stray : first < k → below first (reach f (k - 1)) ≡ true → 0 < strays f first
+    part-stray lt e = tally-some (λ j. below first (reach f j)) first (f .size - first) (k - 1) (omega arith) (omega (arith, p .hi)) e
 
     module _ (end : k ≤ first) where
       none : first ≤ k → 0 ≡ k - first
@@ -124,7 +124,7 @@ module _ (f : Flow) (first : ℕ) where
       part-whole = ap (λ (x : ℕ). sweep f first x rows) (none (p .lo)) ∙ p .left
 
       part-calm : strays f first ≡ 0
-      part-calm = tally-zero (λ j. below first (f .after j)) first (f .size - first) (λ j a b. p .inside j (omega arith) (omega (arith, p .hi, p .lo)))
+      part-calm = tally-zero (λ j. below first (reach f j)) first (f .size - first) (λ j a b. p .inside j (omega arith) (omega (arith, p .hi, p .lo)))
 
       -- its flags say whether another follows
       part-again : (changed && back) ≡ true → Again f first rows₀
@@ -133,7 +133,7 @@ module _ (f : Flow) (first : ℕ) where
           both : (a b : Bool) → changed ≡ a → back ≡ b → (a && b) ≡ true → Again f first rows₀
           both true true ea eb h = let m = p .moved ea in let w = p .behind eb in (
             λ same. m .2 (ap (λ (l : List ℕ). row l (m .0)) (part-whole ∙ same)),
-            tally-some (λ j. below (suc j) (f .after j)) first (f .size - first) (w .0) (omega (arith, w .1, p .lo)) (omega (arith, w .2)) (w .3),
+            tally-some (λ j. below (suc j) (reach f j)) first (f .size - first) (w .0) (omega (arith, w .1, p .lo)) (omega (arith, w .2)) (w .3),
           )
           both true false ea eb h = absurd (false≢true h)
           both false b ea eb h = absurd (false≢true h)
@@ -144,7 +144,7 @@ module _ (f : Flow) (first : ℕ) where
           both : (s t : Bool) → changed ≡ s → back ≡ t → (s && t) ≡ false → ⊥
           both true true ea eb h = true≢false h
           both false t ea eb h = a .0 (sym part-whole ∙ p .kept ea)
-          both true false ea eb h = omega (arith, a .1, tally-zero (λ j. below (suc j) (f .after j)) first (f .size - first) (λ j x y. p .ahead eb j (omega arith) (omega (arith, p .hi, p .lo))))
+          both true false ea eb h = omega (arith, a .1, tally-zero (λ j. below (suc j) (reach f j)) first (f .size - first) (λ j x y. p .ahead eb j (omega arith) (omega (arith, p .hi, p .lo))))
 
 -- ---- a run between two sweeps, begun at `from` and now at `first`
 
@@ -218,7 +218,7 @@ module _ (f : Flow) (from : ℕ) where
 
     module _ (rows : List ℕ) (changed back : Bool) (k : ℕ) (p : Part f first rows₀ rows changed back k) where
       -- the sweep is left from inside: all rows are cleared, and all begins at 0
-      module _ (lt : first < k) (met : below first (f .after (k - 1)) ≡ true) where
+      module _ (lt : first < k) (met : below first (reach f (k - 1)) ≡ true) where
         fresh : Fresh f from first full lost
         fresh = ⊎-elim (λ w. w) (λ w. absurd (omega (arith, w .0, part-stray f first rows₀ rows changed back k p lt met))) (g .at)
 
@@ -242,7 +242,7 @@ module _ (f : Flow) (from : ℕ) where
         at-least (more x y) = omega arith
 
         pub full-few : full + 1 ≤ f .size + 2
-        full-few = omega (arith, settled .few, at-least (settled .rest), tally-le (λ j. below (suc j) (f .after j)) first (f .size - first))
+        full-few = omega (arith, settled .few, at-least (settled .rest), tally-le (λ j. below (suc j) (reach f j)) first (f .size - first))
 
         -- it is the last
         pub full-found : (changed && back) ≡ false → Found f from rows (full + 1) lost

@@ -1,5 +1,6 @@
 -- No register stands in a least row idly: some choices, at most as many as there are positions, lead to a read of it. Assumes nothing.
 use mathlib.Core.Path.{_≡_, refl, sym, ap, _∙_, subst}
+use mathlib.Core.Logic.{⊎-elim, _⊎_}
 use mathlib.Core.List.{List, [], _∷_, head-eq-of-cons-eq, tail-eq-of-cons-eq}
 use mathlib.Core.Bool.{Bool, cond}
 use Prim.Native.Nat.{ℕ, zero, suc, _+_, _-_, _≤_, _<_, zero-le}
@@ -10,15 +11,15 @@ use borrow.Author.Tests.{ltb-true, lt-ltb, le-ltb}
 use lib.Dec.{ltb}
 use lib.ListN.{length, getD, drop}
 use Rattle.flow.specs.Set.{bit}
-use Rattle.flow.specs.Flow.{Flow, joined, rowAt, Solution, Least}
+use Rattle.flow.specs.Flow.{Flow, rowAt, Solution, Least}
 use Rattle.flow.specs.Sweep.{tally}
-use Rattle.flow.specs.Run.{fileAfter}
+use Rattle.flow.specs.Run.{fileAfter, chosen}
 use Rattle.flow.specs.Demand.{Tells}
 use Rattle.flow.proofs.Bits.{bit-lt, bit-zero, bit-ext}
 use Rattle.flow.proofs.Tally.{tally-more, tally-le}
-use Rattle.flow.proofs.Rows.{joined-has, rowAt-bit, rowAt-mono}
+use Rattle.flow.proofs.Rows.{In, rowAt-bit, rowAt-mono, rowAt-from}
 use Rattle.flow.proofs.Members.{listed-in}
-use Rattle.flow.proofs.Steps.{reads-step, values-tell, wrote-kept, pick-of}
+use Rattle.flow.proofs.Steps.{reads-step, values-tell, wrote-kept, leave-for, go-to}
 
 -- a number that is at most m and never falls rests within m steps
 rests : (c : ℕ → ℕ) (m : ℕ) → ((i : ℕ) → c i ≤ m) → (i : ℕ) × (i ≤ m) × (c (suc i) ≤ c i)
@@ -126,15 +127,16 @@ module _ (f : Flow) where
     tells-here k l u news a b ne e =
         ne (values-tell f (f .used k) a b (head-eq-of-cons-eq (sym (reads-step f 0 [] news k a l) ∙ e ∙ reads-step f 0 [] news k b l)) r (listed-in (f .regs) (f .used k) r lr u))
 
-    tells-on : (k s choice : ℕ) (choices : List ℕ) → k < f .size → bit (f .givenUp k) r ≡ 0 → getD (f .after k) choice (f .size) ≡ s → Tells f r s choices → Tells f r k (choice ∷ choices)
+    tells-on : (k s choice : ℕ) (choices : List ℕ) → k < f .size → ((new file : List ℕ) → getD (fileAfter f k choice new file) r 0 ≡ getD file r 0) → chosen f k choice ≡ s → Tells f r s choices
+        → Tells f r k (choice ∷ choices)
     tells-on k s choice choices l g q tells news a b ne e =
         tells (drop 1 news) (next a) (next b) (λ h. ne (sym (same a) ∙ h ∙ same b)) (rw (← q) (tail-eq-of-cons-eq (sym (reads-step f choice choices news k a l) ∙ e ∙ reads-step f choice choices news k b l)))
       where
         next : List ℕ → List ℕ
-        next file = fileAfter f k (getD news 0 []) file
+        next file = fileAfter f k choice (getD news 0 []) file
 
         same : (file : List ℕ) → getD (next file) r 0 ≡ getD file r 0
-        same file = wrote-kept (f .givenUp k) (getD news 0 []) file (f .regs) r lr g
+        same file = g (getD news 0 []) file
 
     path : (i k : ℕ) → 0 < bit (soon f i k) r → (choices : List ℕ) × (length choices ≤ i) × Tells f r k choices
     unfolding soon
@@ -151,10 +153,16 @@ module _ (f : Flow) where
             at : Dec (0 < bit (f .used k) r) → (choices : List ℕ) × (length choices ≤ suc i) × Tells f r k choices
             at (yes u) = (0 ∷ [], omega arith, tells-here k l u)
             at (no u) =
-                let (s, m, b) = joined-has (soon f i) r (f .after k) (omega (arith, h, now′, rowAt-bit f (soon f i) k r)) in
-                let (choice, q) = pick-of (f .after k) s (f .size) m in
+                let (s, b, v) = rowAt-from f (soon f i) k r (omega arith) (omega (arith, h, now′)) in
                 let (choices, len, tells) = rec s b in
-                (choice ∷ choices, omega arith, tells-on k s choice choices l (omega (arith, h, now′, rowAt-bit f (soon f i) k r, bit-lt (joined (soon f i) (f .after k)) r)) q tells)
+                let (choice, q, same) = way s v in
+                (choice ∷ choices, omega arith, tells-on k s choice choices l same q tells)
+              where
+                way : (s : ℕ) → (In s (f .raises k) ⊎ (In s (f .after k) × (bit (f .givenUp k) r ≡ 0)))
+                    → (choice : ℕ) × (chosen f k choice ≡ s) × ((new file : List ℕ) → getD (fileAfter f k choice new file) r 0 ≡ getD file r 0)
+                way s v = ⊎-elim
+                    (λ m. let (c, q, e) = leave-for f k s m in (c, q, λ new file. ap (λ (x : List ℕ). getD x r 0) (e new file)))
+                    (λ m. let (c, q, e) = go-to f k s (m .0) in (c, q, λ new file. ap (λ (x : List ℕ). getD x r 0) (e new file) ∙ wrote-kept (f .givenUp k) new file (f .regs) r lr (m .1))) v
 
     -- every register of a least row is read, within as many steps as there are positions
     pub needed : (start : ℕ) (R : ℕ → ℕ) → Least f start R → (k : ℕ) → start ≤ k → 0 < bit (R k) r → (choices : List ℕ) × (length choices ≤ f .size) × Tells f r k choices

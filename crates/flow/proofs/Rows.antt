@@ -1,7 +1,7 @@
 -- The sweeps find the least solution of the row equations. Assumes nothing.
 use mathlib.Core.Path.{_≡_, refl, sym, ap, ap₂, _∙_, subst}
 use mathlib.Core.Logic.{⊎-elim, _⊎_, inl, inr}
-use mathlib.Core.List.{List, [], _∷_, List·Memᴰ, List·Memᴰ·head, List·Memᴰ·tail, List·Memᴰ·cases-cons, List·Memᴰ·not-nil, List-discrete}
+use mathlib.Core.List.{List, [], _∷_, List·Memᴰ, List·Memᴰ·head, List·Memᴰ·tail, List·Memᴰ·cases-cons, List·Memᴰ·not-nil, Memᴰ·append-left, Memᴰ·append-right, List-discrete}
 use Prim.Native.Nat.{ℕ, zero, suc, _+_, _-_, _^_, _≤_, _<_, max}
 use native.Mathlib.Nat.{le-refl, le-antisymm}
 use native.Mathlib.Decide.{ℕ-discrete, decLe, decLt}
@@ -11,9 +11,9 @@ use lib.ListN.{length, getD, set, replicate, length-set, length-replicate}
 use lib.Pow.{pow-pos}
 use lib.Seq.{getD-set-same, getD-set-other}
 use Rattle.flow.specs.Set.{bit, minus, _⊑_}
-use Rattle.flow.specs.Flow.{Flow, joined, rowAt, Solution, Least, Closed}
+use Rattle.flow.specs.Flow.{Flow, joined, onto, rowAt, reach, Solution, Least, Closed}
 use Rattle.flow.specs.Sweep.{row, empty, sweep, swept, below, backs, Again, Sweeps, done, more}
-use Rattle.flow.proofs.Bits.{bit-zero, bit-ext, or-bit, minus-bit, minus-lt}
+use Rattle.flow.proofs.Bits.{bit-lt, bit-zero, bit-ext, or-bit, minus-bit, minus-lt}
 use Rattle.flow.proofs.Tally.{below-none, tally-none}
 
 abbrev pub In : ℕ → List ℕ → Type 0
@@ -67,23 +67,69 @@ unfolding joined
 joined-lt w R [] h = pow-pos w
 joined-lt w R (s ∷ ss) h = or-lt w (R s) (joined R ss) (h s) (joined-lt w R ss h)
 
+-- ---- a row with the rows of handlers
+
+pub onto-bit : (R : ℕ → ℕ) (r : ℕ) (hs : List ℕ) (x : ℕ) → bit (onto R x hs) r ≡ max (bit x r) (bit (joined R hs) r)
+unfolding joined
+onto-bit R r [] x = omega (arith, bit-zero r)
+onto-bit R r (h ∷ hs) x = omega (arith, onto-bit R r hs (bitOr x (R h)), or-bit x (R h) r, or-bit (R h) (joined R hs) r)
+
+onto-cong : (R S : ℕ → ℕ) (hs : List ℕ) (x : ℕ) → ((s : ℕ) → In s hs → R s ≡ S s) → onto R x hs ≡ onto S x hs
+onto-cong R S [] x e = refl
+onto-cong R S (h ∷ hs) x e = ap (λ (y : ℕ). onto R (bitOr x y) hs) (e h (List·Memᴰ·head refl)) ∙ onto-cong R S hs (bitOr x (S h)) (λ t m. e t (List·Memᴰ·tail m))
+
+onto-lt : (w : ℕ) (R : ℕ → ℕ) (hs : List ℕ) (x : ℕ) → x < 2 ^ w → ((s : ℕ) → R s < 2 ^ w) → onto R x hs < 2 ^ w
+onto-lt w R [] x l h = l
+onto-lt w R (g ∷ hs) x l h = onto-lt w R hs (bitOr x (R g)) (or-lt w x (R g) l (h g)) h
+
 module _ (f : Flow) where
-  -- a row's bit: used, or after and not given up
-  pub rowAt-bit : (R : ℕ → ℕ) (k r : ℕ) → bit (rowAt f R k) r ≡ max (bit (f .used k) r) (bit (joined R (f .after k)) r - bit (f .givenUp k) r)
-  unfolding rowAt
-  rowAt-bit R k r = or-bit (f .used k) (minus (joined R (f .after k)) (f .givenUp k)) r
-      ∙ ap (λ (x : ℕ). max (bit (f .used k) r) x) (minus-bit (joined R (f .after k)) (f .givenUp k) r)
+  -- what comes next is a handler, or after
+  pub by-raise : (k : ℕ) {s : ℕ} → In s (f .raises k) → In s (reach f k)
+  by-raise k m = Memᴰ·append-left (f .after k) m
 
-  pub rowAt-cong : (R S : ℕ → ℕ) (k : ℕ) → ((s : ℕ) → In s (f .after k) → R s ≡ S s) → rowAt f R k ≡ rowAt f S k
-  unfolding rowAt
-  rowAt-cong R S k h = ap (λ (x : ℕ). bitOr (f .used k) (minus x (f .givenUp k))) (joined-cong R S (f .after k) h)
+  pub by-step : (k : ℕ) {s : ℕ} → In s (f .after k) → In s (reach f k)
+  by-step k m = Memᴰ·append-right (f .raises k) m
 
-  pub rowAt-mono : (R S : ℕ → ℕ) (k r : ℕ) → ((s : ℕ) → In s (f .after k) → bit (R s) r ≤ bit (S s) r) → bit (rowAt f R k) r ≤ bit (rowAt f S k) r
-  rowAt-mono R S k r h = omega (arith, rowAt-bit R k r, rowAt-bit S k r, joined-mono R S r (f .after k) h)
+  -- a row's bit: used, or after and not given up, or a handler's
+  pub rowAt-bit : (R : ℕ → ℕ) (k r : ℕ) → bit (rowAt f R k) r ≡ max (max (bit (f .used k) r) (bit (joined R (f .after k)) r - bit (f .givenUp k) r)) (bit (joined R (f .raises k)) r)
+  unfolding rowAt
+  rowAt-bit R k r = onto-bit R r (f .raises k) (bitOr (f .used k) (minus (joined R (f .after k)) (f .givenUp k)))
+      ∙ ap (λ (x : ℕ). max x (bit (joined R (f .raises k)) r)) (or-bit (f .used k) (minus (joined R (f .after k)) (f .givenUp k)) r
+      ∙ ap (λ (x : ℕ). max (bit (f .used k) r) x) (minus-bit (joined R (f .after k)) (f .givenUp k) r))
+
+  pub rowAt-cong : (R S : ℕ → ℕ) (k : ℕ) → ((s : ℕ) → In s (reach f k) → R s ≡ S s) → rowAt f R k ≡ rowAt f S k
+  unfolding rowAt
+  rowAt-cong R S k h = ap (λ (x : ℕ). onto R (bitOr (f .used k) (minus x (f .givenUp k))) (f .raises k)) (joined-cong R S (f .after k) (λ s m. h s (by-step k m)))
+      ∙ onto-cong R S (f .raises k) (bitOr (f .used k) (minus (joined S (f .after k)) (f .givenUp k))) (λ s m. h s (by-raise k m))
+
+  pub rowAt-mono : (R S : ℕ → ℕ) (k r : ℕ) → ((s : ℕ) → In s (reach f k) → bit (R s) r ≤ bit (S s) r) → bit (rowAt f R k) r ≤ bit (rowAt f S k) r
+  rowAt-mono R S k r h =
+      omega (arith, rowAt-bit R k r, rowAt-bit S k r, joined-mono R S r (f .after k) (λ s m. h s (by-step k m)), joined-mono R S r (f .raises k) (λ s m. h s (by-raise k m)))
 
   pub rowAt-lt : (w : ℕ) (R : ℕ → ℕ) (k : ℕ) → f .used k < 2 ^ w → ((s : ℕ) → R s < 2 ^ w) → rowAt f R k < 2 ^ w
   unfolding rowAt
-  rowAt-lt w R k u h = or-lt w (f .used k) (minus (joined R (f .after k)) (f .givenUp k)) u (minus-lt w (joined R (f .after k)) (f .givenUp k) (joined-lt w R (f .after k) h))
+  rowAt-lt w R k u h = onto-lt w R (f .raises k) (bitOr (f .used k) (minus (joined R (f .after k)) (f .givenUp k)))
+      (or-lt w (f .used k) (minus (joined R (f .after k)) (f .givenUp k)) u (minus-lt w (joined R (f .after k)) (f .givenUp k) (joined-lt w R (f .after k) h))) h
+
+  -- a register of a row that is not used there comes from one next row, by a step that does not give it up, or by a raise
+  pub rowAt-from : (R : ℕ → ℕ) (k r : ℕ) → bit (f .used k) r ≡ 0 → 0 < bit (rowAt f R k) r
+      → (s : ℕ) × (0 < bit (R s) r) × (In s (f .raises k) ⊎ (In s (f .after k) × (bit (f .givenUp k) r ≡ 0)))
+  rowAt-from R k r z h = go (decLt 0 (bit (joined R (f .raises k)) r))
+    where
+      go : Dec (0 < bit (joined R (f .raises k)) r) → (s : ℕ) × (0 < bit (R s) r) × (In s (f .raises k) ⊎ (In s (f .after k) × (bit (f .givenUp k) r ≡ 0)))
+      go (yes l) = let (s, m, b) = joined-has R r (f .raises k) l in (s, b, inl m)
+      go (no n) =
+          let (s, m, b) = joined-has R r (f .after k) (omega (arith, h, rowAt-bit R k r)) in
+          (s, b, inr (m, omega (arith, h, rowAt-bit R k r, bit-lt (joined R (f .after k)) r)))
+
+  -- and whatever rows have it there, the row found from them has it
+  pub rowAt-to : (S : ℕ → ℕ) (k r s : ℕ) → (In s (f .raises k) ⊎ (In s (f .after k) × (bit (f .givenUp k) r ≡ 0))) → bit (S s) r ≤ bit (rowAt f S k) r
+  rowAt-to S k r s w = ⊎-elim
+      (λ m. omega (arith, rowAt-bit S k r, joined-in S r (f .raises k) s m))
+      (λ m. omega (arith, rowAt-bit S k r, m .1, joined-in S r (f .after k) s (m .0))) w
+
+  pub next-in : (k r s : ℕ) → (In s (f .raises k) ⊎ (In s (f .after k) × (bit (f .givenUp k) r ≡ 0))) → In s (reach f k)
+  next-in k r s w = ⊎-elim (λ m. by-raise k m) (λ m. by-step k (m .0)) w
 
   -- ---- one sweep
 
@@ -103,8 +149,8 @@ module _ (f : Flow) where
 
     -- a swept row solves its equation, with the rows above it as they came out and those at and below it as they were
     pub sweep-at : (d : ℕ) (rows : List ℕ) (k : ℕ) (X : ℕ → ℕ) → start + d ≤ length rows → start ≤ k → k < start + d
-        → ((s : ℕ) → In s (f .after k) → k < s → X s ≡ row (sweep f start d rows) s)
-        → ((s : ℕ) → In s (f .after k) → s ≤ k → X s ≡ row rows s)
+        → ((s : ℕ) → In s (reach f k) → k < s → X s ≡ row (sweep f start d rows) s)
+        → ((s : ℕ) → In s (reach f k) → s ≤ k → X s ≡ row rows s)
         → row (sweep f start d rows) k ≡ rowAt f X k
     unfolding sweep
     sweep-at zero rows k X fits lo hi up dn = absurd (omega arith)
@@ -126,7 +172,7 @@ module _ (f : Flow) where
             ∙ ap (λ (x : ℕ). rowAt f (row rows) x) (sym e)
             ∙ rowAt-cong (row rows) X k (λ s m. sym (side s m (decLe s k)))
           where
-            side : (s : ℕ) → In s (f .after k) → Dec (s ≤ k) → X s ≡ row rows s
+            side : (s : ℕ) → In s (reach f k) → Dec (s ≤ k) → X s ≡ row rows s
             side s m (yes l) = dn s m l
             side s m (no n) = up s m (omega arith)
                 ∙ sweep-out d (set rows (start + d) v) s (inr (omega arith))
@@ -147,13 +193,13 @@ module _ (f : Flow) where
         out : List ℕ
         out = swept f start rows
 
-        still : (k : ℕ) → start ≤ k → k < f .size → (s : ℕ) → In s (f .after k) → s ≤ k → Dec (out ≡ rows) → out ≡ rows
+        still : (k : ℕ) → start ≤ k → k < f .size → (s : ℕ) → In s (reach f k) → s ≤ k → Dec (out ≡ rows) → out ≡ rows
         still k lo hi s m l (yes e) = e
         still k lo hi s m l (no n) = go (decLt 0 (backs f start))
           where
             go : Dec (0 < backs f start) → out ≡ rows
             go (yes b) = absurd (stop (n, b))
-            go (no b) = absurd (omega (arith, below-none (suc k) (f .after k) (tally-none (λ j. below (suc j) (f .after j)) start d (omega arith) k lo (omega arith)) s m))
+            go (no b) = absurd (omega (arith, below-none (suc k) (reach f k) (tally-none (λ j. below (suc j) (reach f j)) start d (omega arith) k lo (omega arith)) s m))
 
     -- a sweep stays in every solution S from `lo` on, also where S solves only the equations from there on
     module _ (lo : ℕ) (closed : Closed f lo) (S : ℕ → ℕ) (sol : Solution f lo S) where

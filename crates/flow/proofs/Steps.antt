@@ -1,18 +1,19 @@
 -- Laws of the stepping machine's parts. Assumes nothing.
 use mathlib.Core.Path.{_≡_, refl, sym, ap, ap₂, _∙_}
 use mathlib.Core.Logic.{⊎-elim, _⊎_, inl, inr}
-use mathlib.Core.List.{List, [], _∷_, map, List·Memᴰ, List·Memᴰ·head, List·Memᴰ·tail, List·Memᴰ·cases-cons, List·Memᴰ·not-nil, head-eq-of-cons-eq, tail-eq-of-cons-eq}
+use mathlib.Core.List.{List, [], _∷_, _++_, map, List·Memᴰ, List·Memᴰ·head, List·Memᴰ·tail, List·Memᴰ·cases-cons, List·Memᴰ·not-nil, head-eq-of-cons-eq, tail-eq-of-cons-eq}
 use mathlib.Core.Bool.{Bool, cond}
 use Prim.Native.Nat.{ℕ, zero, suc, _+_, _≤_, _<_}
 use native.Mathlib.Nat.{zero-add, add-suc, suc-add, add-zero}
+use native.Mathlib.Decide.{decLt}
 use native.Mathlib.Omega.{arith}
 use borrow.Author.Tests.{lt-ltb, le-ltb}
 use lib.Dec.{ltb}
-use lib.ListN.{getD, drop}
+use lib.ListN.{length, getD, drop}
 use Rattle.flow.specs.Set.{bit}
-use Rattle.flow.specs.Flow.{Flow}
+use Rattle.flow.specs.Flow.{Flow, reach}
 use Rattle.flow.specs.Listed.{listed}
-use Rattle.flow.specs.Run.{run, reads, valuesOf, wrote, fileAfter, chosen}
+use Rattle.flow.specs.Run.{run, reads, valuesOf, wrote, written, fileAfter, chosen}
 use Rattle.flow.specs.Demand.{Agree}
 
 -- ---- values
@@ -63,15 +64,63 @@ pub pick-of : (l : List ℕ) (s n : ℕ) → List·Memᴰ s l → (i : ℕ) × (
 pick-of [] s n m = absurd (List·Memᴰ·not-nil m)
 pick-of (x ∷ l) s n m = ⊎-elim (λ e. (0, sym e)) (λ m′. let w = pick-of l s n m′ in (suc (w .0), w .1)) (List·Memᴰ·cases-cons m)
 
+-- a choice below the first list's length picks of it, any other of the second
+picked-low : (l l′ : List ℕ) (i n : ℕ) → i < length l → List·Memᴰ (getD (l ++ l′) i n) l
+picked-low [] l′ i n h = absurd (omega arith)
+picked-low (x ∷ l) l′ zero n h = List·Memᴰ·head refl
+picked-low (x ∷ l) l′ (suc i) n h = List·Memᴰ·tail (picked-low l l′ i n (omega arith))
+
+picked-high : (l l′ : List ℕ) (i n : ℕ) → length l ≤ i → (getD (l ++ l′) i n ≡ n) ⊎ List·Memᴰ (getD (l ++ l′) i n) l′
+picked-high [] l′ i n h = picked l′ i n
+picked-high (x ∷ l) l′ zero n h = absurd (omega arith)
+picked-high (x ∷ l) l′ (suc i) n h = picked-high l l′ i n (omega arith)
+
+pick-low : (l l′ : List ℕ) (s n : ℕ) → List·Memᴰ s l → (i : ℕ) × (i < length l) × (getD (l ++ l′) i n ≡ s)
+pick-low [] l′ s n m = absurd (List·Memᴰ·not-nil m)
+pick-low (x ∷ l) l′ s n m = ⊎-elim (λ e. (0, omega arith, sym e)) (λ m′. let (i, h, e) = pick-low l l′ s n m′ in (suc i, omega arith, e)) (List·Memᴰ·cases-cons m)
+
+pick-high : (l l′ : List ℕ) (s n : ℕ) → List·Memᴰ s l′ → (i : ℕ) × (length l ≤ i) × (getD (l ++ l′) i n ≡ s)
+pick-high [] l′ s n m = let (i, e) = pick-of l′ s n m in (i, omega arith, e)
+pick-high (x ∷ l) l′ s n m = let (i, h, e) = pick-high l l′ s n m in (suc i, omega arith, e)
+
+-- what a choice does at k: it leaves for a handler with the file as it is, or writes and goes where "after" names, or to n
+module _ (f : Flow) (k choice : ℕ) where
+  abbrev pub Moves : Type 0
+  Moves = ((new file : List ℕ) → fileAfter f k choice new file ≡ file) × List·Memᴰ (chosen f k choice) (f .raises k)
+
+  abbrev pub Goes : Type 0
+  Goes = ((new file : List ℕ) → fileAfter f k choice new file ≡ written f k new file) × ((chosen f k choice ≡ f .size) ⊎ List·Memᴰ (chosen f k choice) (f .after k))
+
+  raised : choice < length (f .raises k) → (new file : List ℕ) → fileAfter f k choice new file ≡ file
+  raised l new file = ap (λ (t : Bool). cond t file (written f k new file)) (lt-ltb choice (length (f .raises k)) l)
+
+  stepped : length (f .raises k) ≤ choice → (new file : List ℕ) → fileAfter f k choice new file ≡ written f k new file
+  stepped l new file = ap (λ (t : Bool). cond t file (written f k new file)) (le-ltb choice (length (f .raises k)) l)
+
+  pub moves : Moves ⊎ Goes
+  moves = go (decLt choice (length (f .raises k)))
+    where
+      go : Dec (choice < length (f .raises k)) → Moves ⊎ Goes
+      go (yes l) = inl (raised l, picked-low (f .raises k) (f .after k) choice (f .size) l)
+      go (no n) = inr (stepped (omega arith), picked-high (f .raises k) (f .after k) choice (f .size) (omega arith))
+
+-- some choice leaves for a handler, and some goes where "after" names
+module _ (f : Flow) (k s : ℕ) where
+  pub leave-for : List·Memᴰ s (f .raises k) → (choice : ℕ) × (chosen f k choice ≡ s) × ((new file : List ℕ) → fileAfter f k choice new file ≡ file)
+  leave-for m = let (i, l, e) = pick-low (f .raises k) (f .after k) s (f .size) m in (i, e, raised f k i l)
+
+  pub go-to : List·Memᴰ s (f .after k) → (choice : ℕ) × (chosen f k choice ≡ s) × ((new file : List ℕ) → fileAfter f k choice new file ≡ written f k new file)
+  go-to m = let (i, l, e) = pick-high (f .raises k) (f .after k) s (f .size) m in (i, e, stepped f k i l)
+
 module _ (f : Flow) (choice : ℕ) (choices : List ℕ) (news : List (List ℕ)) (k : ℕ) (file : List ℕ) where
   later : List (ℕ × List ℕ)
-  later = (k, valuesOf f (f .used k) file) ∷ run f choices (drop 1 news) (chosen f k choice) (fileAfter f k (getD news 0 []) file)
+  later = (k, valuesOf f (f .used k) file) ∷ run f choices (drop 1 news) (chosen f k choice) (fileAfter f k choice (getD news 0 []) file)
 
-  pub run-step : k < f .size → run f (choice ∷ choices) news k file ≡ (k, valuesOf f (f .used k) file) ∷ run f choices (drop 1 news) (chosen f k choice) (fileAfter f k (getD news 0 []) file)
+  pub run-step : k < f .size → run f (choice ∷ choices) news k file ≡ (k, valuesOf f (f .used k) file) ∷ run f choices (drop 1 news) (chosen f k choice) (fileAfter f k choice (getD news 0 []) file)
   unfolding run later
   run-step l = ap (λ (t : Bool). cond t later []) (lt-ltb k (f .size) l)
 
-  pub reads-step : k < f .size → reads f (choice ∷ choices) news k file ≡ valuesOf f (f .used k) file ∷ reads f choices (drop 1 news) (chosen f k choice) (fileAfter f k (getD news 0 []) file)
+  pub reads-step : k < f .size → reads f (choice ∷ choices) news k file ≡ valuesOf f (f .used k) file ∷ reads f choices (drop 1 news) (chosen f k choice) (fileAfter f k choice (getD news 0 []) file)
   reads-step l = ap (map (λ (s : ℕ × List ℕ). s .1)) (run-step l)
 
   pub run-end : f .size ≤ k → run f (choice ∷ choices) news k file ≡ []

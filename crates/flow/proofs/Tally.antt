@@ -10,7 +10,7 @@ use native.Mathlib.Omega.{arith}
 use borrow.Author.Tests.{ltb-false, le-ltb}
 use lib.Dec.{ltb}
 use Rattle.laws.proofs.Branch.{or-false}
-use Rattle.flow.specs.Flow.{Flow}
+use Rattle.flow.specs.Flow.{Flow, reach}
 use Rattle.flow.specs.Sweep.{below, tally, strays}
 
 pub or-some : (a b : Bool) → (a || b) ≡ true → (a ≡ true) ⊎ (b ≡ true)
@@ -99,4 +99,4 @@ module _ (p q : ℕ → Bool) (start : ℕ) (imp : (k : ℕ) → p k ≡ true �
 
 -- no jump goes before 0
 pub strays-zero : (f : Flow) → strays f 0 ≡ 0
-strays-zero f = tally-zero (λ k. below 0 (f .after k)) 0 (f .size - 0) (λ k lo hi. below-zero (f .after k))
+strays-zero f = tally-zero (λ k. below 0 (reach f k)) 0 (f .size - 0) (λ k lo hi. below-zero (reach f k))

@@ -6,7 +6,7 @@ use mathlib.Core.Bool.{Bool, false, not, cond, _||_}
 use Prim.Native.Nat.{ℕ, zero, suc, _+_, _-_, _<_}
 use lib.Dec.{ltb, eqb}
 use lib.ListN.{getD, set, replicate}
-use Rattle.flow.specs.Flow.{Flow, rowAt}
+use Rattle.flow.specs.Flow.{Flow, reach, rowAt}
 
 -- row k of a list of rows
 abbrev pub row : List ℕ → ℕ → ℕ
@@ -37,11 +37,11 @@ tally p start (suc d) = tally p start d + cond (p (start + d)) 1 0
 
 -- the jumps at or past the start that go to their own position or back
 abbrev pub backs : Flow → ℕ → ℕ
-backs f start = tally (λ k. below (suc k) (f .after k)) start (f .size - start)
+backs f start = tally (λ k. below (suc k) (reach f k)) start (f .size - start)
 
 -- the jumps at or past the start that go to before it
 abbrev pub strays : Flow → ℕ → ℕ
-strays f start = tally (λ k. below start (f .after k)) start (f .size - start)
+strays f start = tally (λ k. below start (reach f k)) start (f .size - start)
 
 -- a sweep that changed something repeats only if a jump it swept goes to its own position or back
 abbrev pub Again : Flow → ℕ → List ℕ → Type 0

@@ -1,6 +1,5 @@
 -- The call's statement settles its answer and every lent word: any two outcomes are the same. Assumes nothing.
 use mathlib.Core.Path.{_≡_, refl, sym, ap, ap₂, _∙_, subst}
-use mathlib.Core.Bool.{Bool}
 use mathlib.Core.List.{List, [], _∷_, _++_, head-eq-of-cons-eq, tail-eq-of-cons-eq}
 use Prim.Native.Nat.{ℕ, zero, suc, _+_, _-_, _*_, _≤_, _<_}
 use native.Mathlib.Nat.{suc-mul, zero-lt-suc}
@@ -12,13 +11,14 @@ use Rattle.code.specs.declared.Refusal.{Refusal}
 use Rattle.code.specs.declared.Checked.{Checked}
 use Rattle.code.specs.declared.Checked.the-variants as stage
 use Rattle.code.specs.declared.Refusal.the-variants.{Short}
+use Rattle.flow.specs.Flow.{Flow}
 use Rattle.flow.specs.Words.{value, rowsOf, Small}
 use Rattle.flow.proofs.Words.{holds-one}
 use Rattle.flow.proofs.Buffer.{small-window}
+use Rattle.flow.proofs.Answer.{found-one}
 use Rattle.rows.specs.Route.{wordsFor, rowsIn}
-use Rattle.rows.proofs.Least.{rows-one}
 use Rattle.kept.specs.Lists.{listsTo, offsetsTo, over}
-use Rattle.kept.specs.Answers.{scratchFor, stagesOf, Scratch, Outcome, refused, short, told}
+use Rattle.kept.specs.Answers.{scratchFor, stagesOf, RowsLeft, ListsLeft, refused, short, told}
 use Rattle.kept.specs.declared.KeptAnswer.{KeptAnswer}
 use Rattle.kept.specs.declared.KeptAnswer.the-variants.{Is, No}
 use Rattle.kept.proofs.Sets.{held}
@@ -60,13 +60,13 @@ buffer-one bits some words (suc m) a b e sa sb l q d =
 never : {A : Type 0} (v : Checked) (n : ℕ) (r : Refusal) → v ≡ stage.Count n → v ≡ stage.No r → A
 never v n r p q = let z : _≡_ {A = ℕ} 0 1 = cc in absurd (omega arith)
 
-module _ (bits : ℕ) (some : 0 < bits) (w : List ℕ) (regs : ℕ) (tries : List ℕ) (wide : Bool) (rows offsets list : List ℕ) where
+module _ (f : Flow) (start bits : ℕ) (some : 0 < bits) (w : List ℕ) (regs : ℕ) (tries rows offsets list : List ℕ) where
   -- the same scratch and the same counts
   scratch-one : {a b : List ℕ} {full full′ lost lost′ : ℕ} → scratchFor bits regs w ≤ length rows → Small bits a → Small bits b
-      → Scratch bits wide regs w rows a full lost → Scratch bits wide regs w rows b full′ lost′ → (a ≡ b) × (full ≡ full′) × (lost ≡ lost′)
+      → RowsLeft f start bits regs w rows a full lost → RowsLeft f start bits regs w rows b full′ lost′ → (a ≡ b) × (full ≡ full′) × (lost ≡ lost′)
   scratch-one {a} {b} {full} {full′} {lost} {lost′} le sa sb p q =
-      let (r, f, g) = rows-one bits wide regs w a full lost (p .found) b full′ lost′ (q .found) in
-      (buffer-one bits some (wordsFor bits regs) (suc (count w)) a b (p .long ∙ sym (q .long)) sa sb (omega (arith, p .long)) r (p .past ∙ sym (q .past)), f, g)
+      let (r, x, y) = found-one f start (p .found) (q .found) in
+      (buffer-one bits some (wordsFor bits regs) (suc (count w)) a b (p .long ∙ sym (q .long)) sa sb (omega (arith, p .long)) r (p .past ∙ sym (q .past)), x, y)
 
   abbrev Same : List ℕ → List ℕ → List ℕ → KeptAnswer → List ℕ → List ℕ → List ℕ → KeptAnswer → Type 0
   Same a b c r a′ b′ c′ r′ = (a ≡ a′) × (b ≡ b′) × (c ≡ c′) × (r ≡ r′)
@@ -74,25 +74,25 @@ module _ (bits : ℕ) (some : 0 < bits) (w : List ℕ) (regs : ℕ) (tries : Lis
   refusal-one : (v : Checked) (r s : Refusal) → v ≡ stage.No r → v ≡ stage.No s → No r ≡ No s
   refusal-one v r s p q = cc
 
-  -- the scratch being words of so many bits, any two outcomes are the same
+  -- the scratch being words of so many bits, any two outcomes by the same equations are the same
   pub outcome-one : {a b c a′ b′ c′ : List ℕ} {r r′ : KeptAnswer} → Small bits a → Small bits a′
-      → Outcome bits w regs tries wide rows offsets list a b c r → Outcome bits w regs tries wide rows offsets list a′ b′ c′ r′ → (a ≡ a′) × (b ≡ b′) × (c ≡ c′) × (r ≡ r′)
+      → ListsLeft f start bits w regs tries rows offsets list a b c r → ListsLeft f start bits w regs tries rows offsets list a′ b′ c′ r′ → (a ≡ a′) × (b ≡ b′) × (c ≡ c′) × (r ≡ r′)
   outcome-one sa sb (refused p) (refused q) = (refl, refl, refl, refusal-one (stagesOf bits w regs tries (length rows) (length offsets)) _ _ p q)
-  outcome-one sa sb (refused p) (short q f g) = never (stagesOf bits w regs tries (length rows) (length offsets)) _ _ q p
-  outcome-one sa sb (refused p) (told q f g) = never (stagesOf bits w regs tries (length rows) (length offsets)) _ _ q p
-  outcome-one sa sb (short p f g) (refused q) = never (stagesOf bits w regs tries (length rows) (length offsets)) _ _ p q
-  outcome-one sa sb (told p f g) (refused q) = never (stagesOf bits w regs tries (length rows) (length offsets)) _ _ p q
-  outcome-one sa sb (short p f g) (short q f′ g′) =
-      let (e, x, y) = scratch-one (accepted-scratch bits w regs tries (length rows) (length offsets) (count w) p) sa sb f f′ in
+  outcome-one sa sb (refused p) (short q s g) = never (stagesOf bits w regs tries (length rows) (length offsets)) _ _ q p
+  outcome-one sa sb (refused p) (told q s g) = never (stagesOf bits w regs tries (length rows) (length offsets)) _ _ q p
+  outcome-one sa sb (short p s g) (refused q) = never (stagesOf bits w regs tries (length rows) (length offsets)) _ _ p q
+  outcome-one sa sb (told p s g) (refused q) = never (stagesOf bits w regs tries (length rows) (length offsets)) _ _ p q
+  outcome-one sa sb (short p s g) (short q s′ g′) =
+      let (e, x, y) = scratch-one (accepted-scratch bits w regs tries (length rows) (length offsets) (count w) p) sa sb s s′ in
       (e, refl, refl, ap (λ (z : List ℕ). No (Short 3 (length (listsTo regs w tries (rowsIn bits regs w z) (count w))))) e)
-  outcome-one sa sb (short p f g) (told q f′ g′) =
-      let (e, x, y) = scratch-one (accepted-scratch bits w regs tries (length rows) (length offsets) (count w) p) sa sb f f′ in
+  outcome-one sa sb (short p s g) (told q s′ g′) =
+      let (e, x, y) = scratch-one (accepted-scratch bits w regs tries (length rows) (length offsets) (count w) p) sa sb s s′ in
       absurd (omega (arith, g, g′, ap (λ (z : List ℕ). length (listsTo regs w tries (rowsIn bits regs w z) (count w))) e))
-  outcome-one sa sb (told p f g) (short q f′ g′) =
-      let (e, x, y) = scratch-one (accepted-scratch bits w regs tries (length rows) (length offsets) (count w) p) sa sb f f′ in
+  outcome-one sa sb (told p s g) (short q s′ g′) =
+      let (e, x, y) = scratch-one (accepted-scratch bits w regs tries (length rows) (length offsets) (count w) p) sa sb s s′ in
       absurd (omega (arith, g, g′, ap (λ (z : List ℕ). length (listsTo regs w tries (rowsIn bits regs w z) (count w))) e))
-  outcome-one sa sb (told p f g) (told q f′ g′) =
-      let (e, x, y) = scratch-one (accepted-scratch bits w regs tries (length rows) (length offsets) (count w) p) sa sb f f′ in (
+  outcome-one sa sb (told p s g) (told q s′ g′) =
+      let (e, x, y) = scratch-one (accepted-scratch bits w regs tries (length rows) (length offsets) (count w) p) sa sb s s′ in (
         e,
         ap (λ (z : List ℕ). over (offsetsTo regs w tries (rowsIn bits regs w z) (suc (count w))) offsets) e,
         ap (λ (z : List ℕ). over (listsTo regs w tries (rowsIn bits regs w z) (count w)) list) e,

@@ -15,6 +15,7 @@ use Rattle.code.specs.declared.Checked.{Checked}
 use Rattle.code.specs.declared.Checked.the-variants as stage
 use Rattle.code.specs.declared.Refusal.{Refusal}
 use Rattle.code.specs.declared.Refusal.the-variants.{Short}
+use Rattle.flow.specs.Flow.{Flow}
 use Rattle.flow.specs.Sweep.{row, Found}
 use Rattle.flow.specs.Words.{value, rowsOf, Small}
 use Rattle.steps.specs.Code.{flow}
@@ -22,7 +23,7 @@ use Rattle.rows.specs.Route.{wordsFor, firstOf, rowsIn, Rows}
 use Rattle.rows.proofs.Routes.{words-few, words-enough}
 use Rattle.rows.proofs.Least.{rows-regs}
 use Rattle.kept.specs.Lists.{listsTo, offsetsTo, over, Width, Ready, Filled}
-use Rattle.kept.specs.Answers.{scratchFor, stagesOf, Scratch, Outcome, refused, short, told}
+use Rattle.kept.specs.Answers.{scratchFor, stagesOf, RowsLeft, ListsLeft, Outcome, refused, short, told}
 use Rattle.kept.specs.declared.KeptAnswer.{KeptAnswer}
 use Rattle.kept.specs.declared.KeptAnswer.the-variants.{Is, No}
 use Rattle.kept.proofs.Sets.{scaled}
@@ -56,7 +57,9 @@ module _ (bits hand : ℕ) (width : Width bits hand) (regs : ℕ) (w tries rows 
   pub part-whole : length (take ((count w + 1) * m) rows) ≡ suc (count w) * wordsFor bits regs
   part-whole = part-long ∙ need-is
 
-  module _ (wide : Bool) (part : List ℕ) (full lost : ℕ) (f : Rows bits wide regs w part full lost) (l : length part ≡ length (take ((count w + 1) * m) rows)) where
+  -- by any equations whose rows have no register at or above the count
+  module _ (f : Flow) (start : ℕ) (bound : (buf : List ℕ) (full lost : ℕ) → Found f start (rowsIn bits regs w buf) full lost → (k : ℕ) → row (rowsIn bits regs w buf) k < 2 ^ regs)
+      (part : List ℕ) (full lost : ℕ) (found : Found f start (rowsIn bits regs w part) full lost) (l : length part ≡ length (take ((count w + 1) * m) rows)) where
     abbrev new : List ℕ
     new = part ++ drop ((count w + 1) * m) rows
 
@@ -66,15 +69,15 @@ module _ (bits hand : ℕ) (width : Width bits hand) (regs : ℕ) (w tries rows 
     same : rowsIn bits regs w new ≡ rowsIn bits regs w part
     same = rows-front bits (wordsFor bits regs) (suc (count w)) part (drop ((count w + 1) * m) rows) (omega (arith, long))
 
-    scratch : Scratch bits wide regs w rows new full lost
+    scratch : RowsLeft f start bits regs w rows new full lost
     scratch = record {
-      found = subst (λ (x : List ℕ). Found (flow regs w) (firstOf bits wide regs w) x full lost) (sym same) f;
+      found = subst (λ (x : List ℕ). Found f start x full lost) (sym same) found;
       long = omega (arith, l, part-long, part-fits, length-append part (drop ((count w + 1) * m) rows), length-drop ((count w + 1) * m) rows);
       past = drop-at part (drop ((count w + 1) * m) rows) (scratchFor bits regs w) long ∙ ap (λ (x : ℕ). drop x rows) need-is;
     }
 
-    pub ready : Small bits (part ++ drop ((count w + 1) * m) rows) → Ready bits hand regs w m (part ++ drop ((count w + 1) * m) rows)
-    ready small = record {
+    pub ready-by : Small bits (part ++ drop ((count w + 1) * m) rows) → Ready bits hand regs w m (part ++ drop ((count w + 1) * m) rows)
+    ready-by small = record {
       width = width;
       valid = accepted-valid bits w regs tries (length rows) (length offsets) n h;
       few = accepted-few bits w regs tries (length rows) (length offsets) n h;
@@ -82,26 +85,26 @@ module _ (bits hand : ℕ) (width : Width bits hand) (regs : ℕ) (w tries rows 
       enough = words-enough bits regs m e (width .some);
       room = subst (λ (x : ℕ). x ≤ length new) (sym (ap (λ (x : ℕ). suc (count w) * x) e)) (omega (arith, long, length-append part (drop ((count w + 1) * m) rows)));
       small = small;
-      bound = λ k. subst (λ (x : ℕ). row (rowsOf bits x (suc (count w)) new) k < 2 ^ regs) (sym e) (rows-regs bits wide regs w new full lost (scratch .found) k);
+      bound = λ k. subst (λ (x : ℕ). row (rowsOf bits x (suc (count w)) new) k < 2 ^ regs) (sym e) (bound new full lost (scratch .found) k);
     }
 
-    pub new-long : length (part ++ drop ((count w + 1) * m) rows) ≡ length rows
-    new-long = scratch .long
+    pub long-by : length (part ++ drop ((count w + 1) * m) rows) ≡ length rows
+    long-by = scratch .long
 
     module _ (list : List ℕ) (total : ℕ) (q : total ≡ length (listsTo regs w tries (rowsOf bits m (suc (count w)) (part ++ drop ((count w + 1) * m) rows)) (count w))) where
       total-is : total ≡ length (listsTo regs w tries (rowsIn bits regs w new) (count w))
       total-is = q ∙ ap (λ (x : ℕ). length (listsTo regs w tries (rowsOf bits x (suc (count w)) new) (count w))) e
 
-      pub out-short : length list < total → Outcome bits w regs tries wide rows offsets list (part ++ drop ((count w + 1) * m) rows) offsets list (No (Short 3 total))
-      out-short g = subst (λ (x : ℕ). Outcome bits w regs tries wide rows offsets list new offsets list (No (Short 3 x))) (sym total-is)
+      pub short-by : length list < total → ListsLeft f start bits w regs tries rows offsets list (part ++ drop ((count w + 1) * m) rows) offsets list (No (Short 3 total))
+      short-by g = subst (λ (x : ℕ). ListsLeft f start bits w regs tries rows offsets list new offsets list (No (Short 3 x))) (sym total-is)
           (short (accepted-count bits w regs tries (length rows) (length offsets) n h) scratch (subst (λ (x : ℕ). length list < x) total-is g))
 
-      pub out-told : total ≤ length list → (o l′ : List ℕ) → Filled regs w tries (rowsOf bits m (suc (count w)) (part ++ drop ((count w + 1) * m) rows)) offsets list o l′
-          → Outcome bits w regs tries wide rows offsets list (part ++ drop ((count w + 1) * m) rows) o l′ (Is total full lost)
-      out-told g o l′ z =
-          subst (λ (x : ℕ). Outcome bits w regs tries wide rows offsets list new o l′ (Is x full lost)) (sym total-is)
-          (subst (λ (x : List ℕ). Outcome bits w regs tries wide rows offsets list new o x (Is (length (listsTo regs w tries (rowsIn bits regs w new) (count w))) full lost)) (sym lists)
-          (subst (λ (x : List ℕ). Outcome bits w regs tries wide rows offsets list new x (over (listsTo regs w tries (rowsIn bits regs w new) (count w)) list) (Is (length (listsTo regs w tries (rowsIn bits regs w new) (count w))) full lost)) (sym begins)
+      pub told-by : total ≤ length list → (o l′ : List ℕ) → Filled regs w tries (rowsOf bits m (suc (count w)) (part ++ drop ((count w + 1) * m) rows)) offsets list o l′
+          → ListsLeft f start bits w regs tries rows offsets list (part ++ drop ((count w + 1) * m) rows) o l′ (Is total full lost)
+      told-by g o l′ z =
+          subst (λ (x : ℕ). ListsLeft f start bits w regs tries rows offsets list new o l′ (Is x full lost)) (sym total-is)
+          (subst (λ (x : List ℕ). ListsLeft f start bits w regs tries rows offsets list new o x (Is (length (listsTo regs w tries (rowsIn bits regs w new) (count w))) full lost)) (sym lists)
+          (subst (λ (x : List ℕ). ListsLeft f start bits w regs tries rows offsets list new x (over (listsTo regs w tries (rowsIn bits regs w new) (count w)) list) (Is (length (listsTo regs w tries (rowsIn bits regs w new) (count w))) full lost)) (sym begins)
           (told (accepted-count bits w regs tries (length rows) (length offsets) n h) scratch (subst (λ (x : ℕ). x ≤ length list) total-is g))))
         where
           begins : o ≡ over (offsetsTo regs w tries (rowsIn bits regs w new) (suc (count w))) offsets
@@ -110,10 +113,29 @@ module _ (bits hand : ℕ) (width : Width bits hand) (regs : ℕ) (w tries rows 
           lists : l′ ≡ over (listsTo regs w tries (rowsIn bits regs w new) (count w)) list
           lists = z .lists ∙ ap (λ (x : ℕ). over (listsTo regs w tries (rowsOf bits x (suc (count w)) new) (count w)) list) e
 
+  -- by document 01's
+  module _ (wide : Bool) (part : List ℕ) (full lost : ℕ) (f : Rows bits wide regs w part full lost) (l : length part ≡ length (take ((count w + 1) * m) rows)) where
+    pub ready : Small bits (part ++ drop ((count w + 1) * m) rows) → Ready bits hand regs w m (part ++ drop ((count w + 1) * m) rows)
+    ready = ready-by (flow regs w) (firstOf bits wide regs w) (rows-regs bits wide regs w) part full lost f l
+
+    pub new-long : length (part ++ drop ((count w + 1) * m) rows) ≡ length rows
+    new-long = long-by (flow regs w) (firstOf bits wide regs w) (rows-regs bits wide regs w) part full lost f l
+
+    module _ (list : List ℕ) (total : ℕ) (q : total ≡ length (listsTo regs w tries (rowsOf bits m (suc (count w)) (part ++ drop ((count w + 1) * m) rows)) (count w))) where
+      pub out-short : length list < total → Outcome bits w regs tries wide rows offsets list (part ++ drop ((count w + 1) * m) rows) offsets list (No (Short 3 total))
+      out-short = short-by (flow regs w) (firstOf bits wide regs w) (rows-regs bits wide regs w) part full lost f l list total q
+
+      pub out-told : total ≤ length list → (o l′ : List ℕ) → Filled regs w tries (rowsOf bits m (suc (count w)) (part ++ drop ((count w + 1) * m) rows)) offsets list o l′
+          → Outcome bits w regs tries wide rows offsets list (part ++ drop ((count w + 1) * m) rows) o l′ (Is total full lost)
+      out-told = told-by (flow regs w) (firstOf bits wide regs w) (rows-regs bits wide regs w) part full lost f l list total q
+
 -- the tests decide
 module _ (bits : ℕ) (w : List ℕ) (regs : ℕ) (tries rows offsets : List ℕ) (v : Checked) (e : v ≡ stagesOf bits w regs tries (length rows) (length offsets)) where
   pub go-on : (n : ℕ) → v ≡ stage.Count n → stagesOf bits w regs tries (length rows) (length offsets) ≡ stage.Count (count w)
   go-on n h = accepted-count bits w regs tries (length rows) (length offsets) n (sym e ∙ h)
 
+  pub no-by : (r : Refusal) → v ≡ stage.No r → (f : Flow) (start : ℕ) (list : List ℕ) → ListsLeft f start bits w regs tries rows offsets list rows offsets list (No r)
+  no-by r h f start list = refused (sym e ∙ h)
+
   pub go-no : (r : Refusal) → v ≡ stage.No r → (wide : Bool) (list : List ℕ) → Outcome bits w regs tries wide rows offsets list rows offsets list (No r)
-  go-no r h wide list = refused (sym e ∙ h)
+  go-no r h wide list = no-by r h (flow regs w) (firstOf bits wide regs w) list

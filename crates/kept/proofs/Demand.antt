@@ -10,6 +10,7 @@ use lib.ListN.{length}
 use Rattle.laws.specs.Walk.{first}
 use Rattle.code.specs.Ins.{insAt, count}
 use Rattle.code.specs.Check.{Valid}
+use Rattle.flow.specs.Flow.{Flow}
 use Rattle.flow.specs.Sweep.{row}
 use Rattle.flow.specs.Kept.{Level, kept}
 use Rattle.flow.specs.Demand.{Keeps, Lost, Once}
@@ -22,7 +23,7 @@ use Rattle.rows.specs.Route.{firstOf, rowsIn, Rows}
 use Rattle.rows.proofs.Sweeps.{level-le}
 use Rattle.kept.specs.Level.{resumeOf, resultOf, levelOf, keptAt}
 use Rattle.kept.specs.Lists.{listsTo, offsetsTo, over, partAt}
-use Rattle.kept.specs.Answers.{Scratch, Outcome, refused, short, told}
+use Rattle.kept.specs.Answers.{RowsLeft, ListsLeft, Outcome, refused, short, told}
 use Rattle.kept.specs.declared.KeptAnswer.{KeptAnswer}
 use Rattle.kept.specs.declared.KeptAnswer.the-variants.{Is}
 use Rattle.steps.proofs.Resume.{resume-in}
@@ -61,43 +62,66 @@ module _ (bits : ℕ) (wide : Bool) (regs : ℕ) (w : List ℕ) where
       go true = zero-le
       go false = first-le (λ j. isLevel (insAt w j)) (count w) 0 k zero-le (omega arith) e
 
-module _ (bits : ℕ) (w : List ℕ) (regs : ℕ) (tries : List ℕ) (wide : Bool) (rows offsets list : List ℕ) where
+-- by any equations
+module _ (f : Flow) (start bits : ℕ) (w : List ℕ) (regs : ℕ) (tries rows offsets list : List ℕ) where
   -- what an answer leaves
-  pub record Left (a b c : List ℕ) (t full abandoned : ℕ) : Type 0 where
+  pub record LeftBy (a b c : List ℕ) (t full abandoned : ℕ) : Type 0 where
     pub valid : Valid w
-    pub scratch : Scratch bits wide regs w rows a full abandoned
+    pub scratch : RowsLeft f start bits regs w rows a full abandoned
     pub begins : b ≡ over (offsetsTo regs w tries (rowsIn bits regs w a) (suc (count w))) offsets
     pub lists : c ≡ over (listsTo regs w tries (rowsIn bits regs w a) (count w)) list
     pub total : t ≡ length (listsTo regs w tries (rowsIn bits regs w a) (count w))
 
-  pub left : {a b c : List ℕ} {r : KeptAnswer} → Outcome bits w regs tries wide rows offsets list a b c r → (t f g : ℕ) → r ≡ Is t f g → Left a b c t f g
-  left (refused p) t f g e = let z : _≡_ {A = ℕ} 0 1 = cc in absurd (omega arith)
-  left (short p q l) t f g e = let z : _≡_ {A = ℕ} 0 1 = cc in absurd (omega arith)
-  left {a = a} (told {full = x} {abandoned = y} p q l) t f g e =
-      let h : x ≡ f = cc in
-      let k : y ≡ g = cc in
+  pub left-by : {a b c : List ℕ} {r : KeptAnswer} → ListsLeft f start bits w regs tries rows offsets list a b c r → (t x y : ℕ) → r ≡ Is t x y → LeftBy a b c t x y
+  left-by (refused p) t x y e = let z : _≡_ {A = ℕ} 0 1 = cc in absurd (omega arith)
+  left-by (short p q l) t x y e = let z : _≡_ {A = ℕ} 0 1 = cc in absurd (omega arith)
+  left-by {a = a} (told {full = full} {abandoned = lost} p q l) t x y e =
+      let h : full ≡ x = cc in
+      let k : lost ≡ y = cc in
       let m : length (listsTo regs w tries (rowsIn bits regs w a) (count w)) ≡ t = cc in
       record { valid = accepted-valid bits w regs tries (length rows) (length offsets) (count w) p; scratch = rw (← h, ← k) q; begins = refl; lists = refl; total = sym m }
+
+  module _ (new o l : List ℕ) (total full abandoned : ℕ) (out : ListsLeft f start bits w regs tries rows offsets list new o l (Is total full abandoned)) (k : ℕ)
+      (inCode : k < count w) where
+    answer-by : LeftBy new o l total full abandoned
+    answer-by = left-by out total full abandoned refl
+
+    -- offsets[k]..offsets[k + 1] of the lent list is the kept list of position k, by the rows in the scratch
+    pub stands-by : partAt o l k ≡ keptAt regs w tries (rowsIn bits regs w new) k
+    stands-by = ap₂ (λ (x y : List ℕ). partAt x y k) (answer-by .begins) (answer-by .lists) ∙ part-is regs w tries (rowsIn bits regs w new) (count w) k offsets list inCode
+
+    -- which is empty where k is no level
+    pub empty-by : isLevel (insAt w k) ≡ false → partAt o l k ≡ []
+    unfolding keptAt
+    empty-by e = stands-by ∙ ap (λ (t : Bool). cond t (kept regs (row (rowsIn bits regs w new)) (levelOf regs w tries k)) []) e
+
+    -- and the level's own where it is one
+    pub list-by : isLevel (insAt w k) ≡ true → partAt o l k ≡ kept regs (row (rowsIn bits regs w new)) (levelOf regs w tries k)
+    unfolding keptAt
+    list-by e = stands-by ∙ ap (λ (t : Bool). cond t (kept regs (row (rowsIn bits regs w new)) (levelOf regs w tries k)) []) e
+
+-- by document 01's
+module _ (bits : ℕ) (w : List ℕ) (regs : ℕ) (tries : List ℕ) (wide : Bool) (rows offsets list : List ℕ) where
+  abbrev pub Left : (a b c : List ℕ) (t full abandoned : ℕ) → Type 0
+  Left a b c t full abandoned = LeftBy (flow regs w) (firstOf bits wide regs w) bits w regs tries rows offsets list a b c t full abandoned
+
+  pub left : {a b c : List ℕ} {r : KeptAnswer} → Outcome bits w regs tries wide rows offsets list a b c r → (t f g : ℕ) → r ≡ Is t f g → Left a b c t f g
+  left out t f g e = left-by (flow regs w) (firstOf bits wide regs w) bits w regs tries rows offsets list out t f g e
 
 module _ (bits : ℕ) (w : List ℕ) (regs : ℕ) (tries : List ℕ) (wide : Bool) (rows offsets list : List ℕ) (new o l : List ℕ) (total full abandoned : ℕ)
     (out : Outcome bits w regs tries wide rows offsets list new o l (Is total full abandoned)) (k : ℕ) (inCode : k < count w) where
   answer : Left bits w regs tries wide rows offsets list new o l total full abandoned
   answer = left bits w regs tries wide rows offsets list out total full abandoned refl
 
-  -- offsets[k]..offsets[k + 1] of the lent list is the kept list of position k, by the rows in the scratch
   pub stands : partAt o l k ≡ keptAt regs w tries (rowsIn bits regs w new) k
-  stands = ap₂ (λ (x y : List ℕ). partAt x y k) (answer .begins) (answer .lists) ∙ part-is regs w tries (rowsIn bits regs w new) (count w) k offsets list inCode
+  stands = stands-by (flow regs w) (firstOf bits wide regs w) bits w regs tries rows offsets list new o l total full abandoned out k inCode
 
-  -- which is empty where k is no level
   pub no-level : isLevel (insAt w k) ≡ false → partAt o l k ≡ []
-  unfolding keptAt
-  no-level e = stands ∙ ap (λ (t : Bool). cond t (kept regs (row (rowsIn bits regs w new)) (levelOf regs w tries k)) []) e
+  no-level = empty-by (flow regs w) (firstOf bits wide regs w) bits w regs tries rows offsets list new o l total full abandoned out k inCode
 
   module _ (level : isLevel (insAt w k) ≡ true) where
-    -- and the level's own where it is one
     pub level-list : partAt o l k ≡ kept regs (row (rowsIn bits regs w new)) (levelOf regs w tries k)
-    unfolding keptAt
-    level-list = stands ∙ ap (λ (t : Bool). cond t (kept regs (row (rowsIn bits regs w new)) (levelOf regs w tries k)) []) level
+    level-list = list-by (flow regs w) (firstOf bits wide regs w) bits w regs tries rows offsets list new o l total full abandoned out k inCode level
 
     -- demand 3: what stands in the lent list is enough for the level, and no register of it is idle
     pub demand-3 : Keeps (flow regs w) (partAt o l k) (levelOf regs w tries k)

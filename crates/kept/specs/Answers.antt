@@ -10,7 +10,10 @@ use Rattle.code.specs.declared.Checked.{Checked}
 use Rattle.code.specs.declared.Checked.the-variants as stage
 use Rattle.code.specs.declared.Refusal.{Refusal}
 use Rattle.code.specs.declared.Refusal.the-variants.{Short}
-use Rattle.rows.specs.Route.{wordsFor, rowsIn, Rows}
+use Rattle.flow.specs.Flow.{Flow}
+use Rattle.flow.specs.Sweep.{Found}
+use Rattle.steps.specs.Code.{flow}
+use Rattle.rows.specs.Route.{wordsFor, firstOf, rowsIn}
 use Rattle.kept.specs.Lists.{listsTo, offsetsTo, over}
 use Rattle.kept.specs.declared.KeptAnswer.{KeptAnswer}
 use Rattle.kept.specs.declared.KeptAnswer.the-variants.{Is, No}
@@ -23,13 +26,17 @@ scratchFor bits regs w = suc (count w) * wordsFor bits regs
 unfoldable pub stagesOf : ℕ → List ℕ → ℕ → List ℕ → ℕ → ℕ → Checked
 stagesOf bits w regs tries scratch offsets = roomOf (roomOf (triedOf (registersOf (checkOf w) regs) tries) 1 scratch (scratchFor bits regs w)) 2 offsets (suc (count w))
 
--- the scratch holds the rows, words past them as lent; the counts are the definition's
-pub record Scratch (bits : ℕ) (wide : Bool) (regs : ℕ) (w old new : List ℕ) (full abandoned : ℕ) : Type 0 where
-  pub found : Rows bits wide regs w new full abandoned
+-- the scratch holds the rows that the sweeps of some equations find from a start on, words past them as lent; the counts are the definition's
+pub record RowsLeft (f : Flow) (start bits regs : ℕ) (w old new : List ℕ) (full abandoned : ℕ) : Type 0 where
+  pub found : Found f start (rowsIn bits regs w new) full abandoned
   pub long : length new ≡ length old
   pub past : drop (scratchFor bits regs w) new ≡ drop (scratchFor bits regs w) old
 
-module _ (bits : ℕ) (w : List ℕ) (regs : ℕ) (tries : List ℕ) (wide : Bool) (rows offsets list : List ℕ) where
+-- document 01's equations, from where its route begins
+abbrev pub Scratch : ℕ → Bool → ℕ → (w old new : List ℕ) (full abandoned : ℕ) → Type 0
+Scratch bits wide regs w old new full abandoned = RowsLeft (flow regs w) (firstOf bits wide regs w) bits regs w old new full abandoned
+
+module _ (bits : ℕ) (w : List ℕ) (regs : ℕ) (tries : List ℕ) where
   -- the flat list, by the rows in the scratch
   abbrev pub listOf : List ℕ → List ℕ
   listOf new = listsTo regs w tries (rowsIn bits regs w new) (count w)
@@ -37,13 +44,21 @@ module _ (bits : ℕ) (w : List ℕ) (regs : ℕ) (tries : List ℕ) (wide : Boo
   abbrev pub offsetsOf : List ℕ → List ℕ
   offsetsOf new = offsetsTo regs w tries (rowsIn bits regs w new) (suc (count w))
 
-  -- what the call leaves in scratch, offsets and list, and what it answers
-  pub data Outcome : List ℕ → List ℕ → List ℕ → KeptAnswer → Type 0 where
+module _ (f : Flow) (start bits : ℕ) (w : List ℕ) (regs : ℕ) (tries rows offsets list : List ℕ) where
+  -- what a call by these equations leaves in scratch, offsets and list, and what it answers
+  pub data ListsLeft : List ℕ → List ℕ → List ℕ → KeptAnswer → Type 0 where
     -- a refusal leaves all buffers untouched
-    refused : {r : Refusal} → stagesOf bits w regs tries (length rows) (length offsets) ≡ stage.No r → Outcome rows offsets list (No r)
+    refused : {r : Refusal} → stagesOf bits w regs tries (length rows) (length offsets) ≡ stage.No r → ListsLeft rows offsets list (No r)
     -- but for one: 5 for the list, after the rows are found
-    short : {new : List ℕ} {full abandoned : ℕ} → stagesOf bits w regs tries (length rows) (length offsets) ≡ stage.Count (count w) → Scratch bits wide regs w rows new full abandoned
-        → length list < length (listOf new) → Outcome new offsets list (No (Short 3 (length (listOf new))))
+    short : {new : List ℕ} {full abandoned : ℕ} → stagesOf bits w regs tries (length rows) (length offsets) ≡ stage.Count (count w)
+        → RowsLeft f start bits regs w rows new full abandoned
+        → length list < length (listOf bits w regs tries new) → ListsLeft new offsets list (No (Short 3 (length (listOf bits w regs tries new))))
     -- the list's length and the two sweep counts
-    told : {new : List ℕ} {full abandoned : ℕ} → stagesOf bits w regs tries (length rows) (length offsets) ≡ stage.Count (count w) → Scratch bits wide regs w rows new full abandoned
-        → length (listOf new) ≤ length list → Outcome new (over (offsetsOf new) offsets) (over (listOf new) list) (Is (length (listOf new)) full abandoned)
+    told : {new : List ℕ} {full abandoned : ℕ} → stagesOf bits w regs tries (length rows) (length offsets) ≡ stage.Count (count w)
+        → RowsLeft f start bits regs w rows new full abandoned → length (listOf bits w regs tries new) ≤ length list
+        → ListsLeft new (over (offsetsOf bits w regs tries new) offsets) (over (listOf bits w regs tries new) list) (Is (length (listOf bits w regs tries new)) full abandoned)
+
+-- the kept-register call of document 01
+abbrev pub Outcome : ℕ → List ℕ → ℕ → List ℕ → Bool → (rows offsets list new o l : List ℕ) → KeptAnswer → Type 0
+Outcome bits w regs tries wide rows offsets list new o l r =
+    ListsLeft (flow regs w) (firstOf bits wide regs w) bits w regs tries rows offsets list new o l r

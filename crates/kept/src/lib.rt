@@ -158,7 +158,7 @@ fn list_try(
 }
 
 // A set and the rows of the handlers around k, together.
-fn join_tries(
+pub fn join_tries(
     seen: [u64; 16],
     rows: &[u64],
     n: usize,
@@ -287,7 +287,7 @@ fn keep_at(
 }
 
 // The sum of the list lengths.
-fn count_all(code: &[u16], regs: usize, tries: &[u32], rows: &[u64], words: usize) -> usize
+pub fn count_all(code: &[u16], regs: usize, tries: &[u32], rows: &[u64], words: usize) -> usize
     requires { ⌜ Ready 64 16 regs (now code) words (now rows) ⌝ }
     ensures { λ r. ⌜ (r ≡ length (listsTo regs (now (code .entry)) (now (tries .entry)) (rowsBy 64 words (now (code .entry)) (now (rows .entry))) (count (now (code .entry))))) × (r ≤ 67107840) ⌝ }
 {
@@ -302,7 +302,7 @@ fn count_all(code: &[u16], regs: usize, tries: &[u32], rows: &[u64], words: usiz
 }
 
 // `each_call`: the list of each position, and where it begins.
-fn each_call(
+pub fn each_call(
     code: &[u16],
     regs: usize,
     tries: &[u32],
@@ -326,7 +326,7 @@ fn each_call(
 }
 
 // The tests of the call's input: refusals 1, 2, 3, 4, then 5 for the scratch and the offsets.
-fn stages(code: &[u16], regs: usize, tries: &[u32], scratch: usize, offsets: usize) -> Checked
+pub fn stages(code: &[u16], regs: usize, tries: &[u32], scratch: usize, offsets: usize) -> Checked
     ensures { λ r. ⌜ r ≡ stagesOf 64 (now (code .entry)) regs (now (tries .entry)) scratch offsets ⌝ }
 {
     let v = code::registers(code::check(code), regs);

@@ -140,7 +140,7 @@ fn list_try(
 }
 
 // A set and the rows of the handlers around k, together.
-fn join_tries(
+pub fn join_tries(
     seen: [u32; 32],
     rows: &[u32],
     n: usize,
@@ -269,7 +269,7 @@ fn keep_at(
 }
 
 // The sum of the list lengths.
-fn count_all(code: &[u16], regs: usize, tries: &[u32], rows: &[u32], words: usize) -> usize
+pub fn count_all(code: &[u16], regs: usize, tries: &[u32], rows: &[u32], words: usize) -> usize
     requires { ⌜ Ready 32 32 regs (now code) words (now rows) ⌝ }
     ensures { λ r. ⌜ (r ≡ length (listsTo regs (now (code .entry)) (now (tries .entry)) (rowsBy 32 words (now (code .entry)) (now (rows .entry))) (count (now (code .entry))))) × (r ≤ 67107840) ⌝ }
 {
@@ -284,7 +284,7 @@ fn count_all(code: &[u16], regs: usize, tries: &[u32], rows: &[u32], words: usiz
 }
 
 // `each_call`: the list of each position, and where it begins.
-fn each_call(
+pub fn each_call(
     code: &[u16],
     regs: usize,
     tries: &[u32],
@@ -308,7 +308,7 @@ fn each_call(
 }
 
 // The tests of the call's input: refusals 1, 2, 3, 4, then 5 for the scratch and the offsets.
-fn stages(code: &[u16], regs: usize, tries: &[u32], scratch: usize, offsets: usize) -> Checked
+pub fn stages(code: &[u16], regs: usize, tries: &[u32], scratch: usize, offsets: usize) -> Checked
     ensures { λ r. ⌜ r ≡ stagesOf 32 (now (code .entry)) regs (now (tries .entry)) scratch offsets ⌝ }
 {
     let v = code::registers(code::check(code), regs);

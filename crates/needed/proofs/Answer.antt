@@ -107,10 +107,10 @@ least-zero f rows full lost found = subst (λ (x : ℕ). Least f x (row rows)) (
     same false = refl
 
 -- The answer equals the bit in the finished rows from start 0.
-pub needs-bit : (f : Flow) (rows : List ℕ) (full lost : ℕ) → Found f 0 rows full lost → (r k : ℕ) (b : Bool) → Says (Needs f r k) b → bit (row rows k) r ≡ cond b 1 0
-needs-bit f rows full lost found r k true s = omega (arith, needs-row f r (row rows) (least-zero f rows full lost found) s, bit-lt (row rows k) r)
-needs-bit f rows full lost found r k false s = at (decLt 0 (bit (row rows k) r))
+pub needs-bit : (f : Flow) → ((k : ℕ) → f .raises k ≡ []) → (rows : List ℕ) (full lost : ℕ) → Found f 0 rows full lost → (r k : ℕ) (b : Bool) → Says (Needs f r k) b → bit (row rows k) r ≡ cond b 1 0
+needs-bit f calm rows full lost found r k true s = omega (arith, needs-row f r (row rows) (least-zero f rows full lost found) s, bit-lt (row rows k) r)
+needs-bit f calm rows full lost found r k false s = at (decLt 0 (bit (row rows k) r))
   where
     at : Dec (0 < bit (row rows k) r) → bit (row rows k) r ≡ 0
-    at (yes h) = absurd (s (row-needs f r (row rows) (least-zero f rows full lost found) k h))
+    at (yes h) = absurd (s (row-needs f r (row rows) (least-zero f rows full lost found) calm k h))
     at (no n) = omega arith

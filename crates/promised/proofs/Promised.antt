@@ -33,11 +33,14 @@ use Rattle.exported.proofs.Folded.{folds-next, clears-next, folds-cleared, fold
 use Rattle.exported.proofs.Ran.{runs-kept, rule-left, clears-kept, runs-cleared}
 use Rattle.exported.proofs.Cleared.{clear-settles, clear-holds, cleared-twice}
 use Rattle.levels.specs.Answers.{levelAnswer}
-use Rattle.turniploom.proofs.Alone.{one-make, one-enter, one-leave, one-replay}
+use Rattle.turniploom.proofs.Alone.{one-make, one-enter, one-leave, one-replay, one-exposed}
 use Rattle.saved.proofs.Exported as exported
 use Rattle.figured.proofs.Exported.{empty-report, add-report, join-report, add-keeps, join-keeps}
 use Rattle.figured.proofs.Kept.{kept-added, kept-total}
 use Rattle.replays.proofs.Exported.{answered-recorded, recorded-answered, as-run, report, counts, no-report}
+use Rattle.sheltered.proofs.Exported.{raising-settles, raising-holds, raising-more, plain-enough, exposed-truth, no-try-shelters}
+use Rattle.sheltered.proofs.Saving.{saved-run}
+use Rattle.sheltered.proofs.Bodies.{not-enough, enough, raise-kept}
 use Rattle.promised.specs.Promised.{Promised}
 use Rattle.promised.proofs.Marked.{marked}
 use Rattle.promised.proofs.Late.{late}
@@ -165,4 +168,15 @@ promised =
       replay-steps = report;
       replay-reads = counts;
       replay-none = no-report;
+      raising = raising-settles;
+      one-exposed = one-exposed;
+      raising-holds = raising-holds;
+      raising-saved = saved-run;
+      raising-more = raising-more;
+      plain-enough = plain-enough;
+      exposed-truth = exposed-truth;
+      no-try-shelters = no-try-shelters;
+      plain-not-enough = not-enough;
+      raising-enough = enough;
+      raise-kept = raise-kept;
     }

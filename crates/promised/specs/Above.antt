@@ -6,9 +6,8 @@ use Prim.Native.Nat.{ℕ}
 use Rattle.code.specs.declared.Answer.{Answer}
 use Rattle.levels.specs.Answers.{levelAnswer}
 use Rattle.saver.specs.Saver.{Saver, regsOf}
-use Rattle.saver.specs.Frames.{Sound, Event, Matched}
-use Rattle.turniploom.specs.Answers.{EnterTold}
-use Rattle.saved.specs.Calls.{Called}
+use Rattle.saver.specs.Frames.{Sound}
+pub use Rattle.saved.specs.Calls.{Entered}
 use Rattle.exported.specs.Calls.{Lists, KeptCall}
 
 -- the kept call was answered, the level call told v of position k, a level, and the saver was made for as many registers
@@ -23,14 +22,3 @@ pub record AtLevel (bits : ℕ) (w : List ℕ) (regs : ℕ) (tries : List ℕ) (
   pub found : v .first ≡ 1
   pub sound : Sound s
   pub same : regsOf s ≡ regs
-
--- a frame was entered with a list and a result register; then exported calls came and went well bracketed, nested to any depth, and registers were
--- overwritten at will: t is the saver that is left
-pub record Entered (list : List ℕ) (result : ℕ) (s t : Saver) : Type 0 where
-  pub after : Saver
-  pub answer : Answer
-  pub entry : EnterTold s list result after answer
-  pub went : answer .refusal ≡ 0
-  pub events : List Event
-  pub bracketed : Matched events
-  pub calls : Called after events t

@@ -69,8 +69,8 @@ use Rattle.flow.specs.Demand.{Alike}
 use Rattle.steps.specs.Code.{flow}
 use Rattle.levels.specs.Answers.{levelAnswer}
 use Rattle.area.specs.Area.{freeOf, putIn}
-use Rattle.saver.specs.Saver.{Saver, Back, returned, thrown, usedOf}
-use Rattle.saver.specs.Frames.{fileOf, Open}
+use Rattle.saver.specs.Saver.{Saver, Back, returned, thrown, regsOf, usedOf}
+use Rattle.saver.specs.Frames.{fileOf, Sound, Open}
 use Rattle.figures.specs.Figures.{bodyFigures}
 use Rattle.figures.specs.Answers.{reports, addCall, joinCall}
 use Rattle.figures.specs.Month.{Body, reportOf}
@@ -83,6 +83,13 @@ use Rattle.trace.specs.Trace.{Recorded}
 use Rattle.day.specs.Count.{readsIn, levelsIn}
 use Rattle.day.specs.Day.{stagesOf}
 use Rattle.replays.specs.Positions.{slotsFrom, visited}
+use Rattle.steps.specs.Level.{isLevel}
+use Rattle.turniploom.specs.Answers.{ExposedTold}
+use Rattle.nested.specs.Machine.{Event, nested, undisturbed, Sheltered}
+use Rattle.nested.specs.Raising.{levels, mays, frame, Tidy}
+use Rattle.nested.specs.Exposed.{ToldApart}
+use Rattle.sheltered.specs.Saving.{Ran}
+use Rattle.sheltered.specs.Calls.{RaisingCall, RaisingSettles, RaisingHolds, Both, NoneExposed, NotEnough, Enough, RaiseKept}
 
 -- where a call's statement says 'the answer is x': there is one answer
 abbrev pub OneAnswer : Answer → Type 0
@@ -375,3 +382,36 @@ pub record Promised : Type 0 where
       → new ≡ filledTo (readsIn w t (stepsOf t)) regs old
   -- a refused trace has no report: the reads are as lent
   pub replay-none : (w : List ℕ) (regs : ℕ) (tries t old new : List ℕ) (r : Answer) → ReplayTold w regs tries t old new r → r .refusal ≢ 0 → new ≡ old
+  -- ---- beyond the wishes: registers that a later exception needs
+
+  -- kept_raising settles its three buffers, as kept does
+  pub raising : (w : List ℕ) (regs : ℕ) (tries : List ℕ) (all : Bool) → RaisingSettles w regs tries all
+  -- exposed settles the answer and every word of its buffer
+  pub one-exposed : (plain list out : List ℕ) (r r′ : Answer) (a a′ : List ℕ) → ExposedTold plain list out a r → ExposedTold plain list out a′ r′ → (r ≡ r′) × (a ≡ a′)
+  -- for a keeper of archives: at every level all registers but the listed ones and the result are overwritten at will, calls return or raise, what may
+  -- raise goes on in a handler around it, as often as it likes, and all that is read is what the undisturbed run reads; with least rows, none to spare
+  pub raising-holds : (w : List ℕ) (regs : ℕ) (tries : List ℕ) (all : Bool) (b : Lists) (r : Answer) (a : Lists) → RaisingCall w regs tries all b r a → r .refusal ≡ 0
+      → RaisingHolds w regs tries all r a
+  -- the same through the frame saver's calls: each call is entered with its level's list and left by a return or an exception
+  pub raising-saved : (w : List ℕ) (regs : ℕ) (tries : List ℕ) (all : Bool) (b : Lists) (r : Answer) (a : Lists) → RaisingCall w regs tries all b r a → r .refusal ≡ 0
+      → (k : ℕ) (s : Saver) → Sound s → regsOf s ≡ regs → (es : List Event) (told : List (ℕ × List ℕ)) → Ran w regs tries all (listLeft a) k s es told
+      → told ≡ nested (frame (mays all w) regs w tries) undisturbed es k (fileOf s)
+  -- at each level the list of kept_raising holds the list of kept, of any width and route
+  pub raising-more : (w : List ℕ) (regs : ℕ) (tries : List ℕ) (all : Bool) (plain list : Lists) → Both w regs tries all plain list
+      → (k : ℕ) → k < count w → isLevel (insAt w k) ≡ true → (q : ℕ) → List·Memᴰ q (listLeft plain k) → List·Memᴰ q (listLeft list k)
+  -- where exposed tells of no level any register, kept's own lists are enough too
+  pub plain-enough : (w : List ℕ) (regs : ℕ) (tries : List ℕ) (all : Bool) (plain list : Lists) → Both w regs tries all plain list
+      → ((k : ℕ) → k < count w → isLevel (insAt w k) ≡ true → NoneExposed (listLeft plain k) (listLeft list k))
+      → Sheltered (frame (mays all w) regs w tries) (listLeft plain)
+  -- each register that it tells of a level is exposed in truth: a callee that overwrites it alone, there alone, changes what some run reads
+  pub exposed-truth : (w : List ℕ) (regs : ℕ) (tries : List ℕ) (all : Bool) (plain list : Lists) → Both w regs tries all plain list
+      → (k : ℕ) → k < count w → isLevel (insAt w k) ≡ true → (o o′ : List ℕ) (s : Answer) → ExposedTold (listLeft plain k) (listLeft list k) o o′ s
+      → s .refusal ≡ 0 → (q : ℕ) → List·Memᴰ q (take (s .first) o′) → ToldApart (frame (mays all w) regs w tries) (listLeft plain) k q
+  -- where no try is lent and no dunder mark stands on ReturnR, Jump, UnpackR, WithEnter or WithExit, kept's own lists are enough
+  pub no-try-shelters : (bits : ℕ) (w : List ℕ) (regs : ℕ) (wide : Bool) (b : Lists) (r : Answer) (a : Lists) → KeptCall bits w regs [] wide b r a → r .refusal ≡ 0
+      → Tidy w → Sheltered (frame (levels w) regs w []) (listLeft a)
+  -- but not in general: the body whose handler reads r5, which the call before the try may overwrite; kept_raising keeps it at both calls
+  pub plain-not-enough : NotEnough
+  pub raising-enough : Enough
+  -- Raise is no level: only where anything may raise is r5 kept for its handler
+  pub raise-kept : RaiseKept

@@ -37,9 +37,9 @@ module _ (w t : List ℕ) (regs : ℕ) where
   step s m c choices h rest news file =
       ap (λ (b : Bool). map (λ (x : ℕ × List ℕ). x .0)
       (cond b ((slotAt t s, valuesOf (flow regs w) (flow regs w .used (slotAt t s)) file)
-      ∷ run (flow regs w) choices (drop 1 news) (chosen (flow regs w) (slotAt t s) c) (fileAfter (flow regs w) (slotAt t s) (getD news 0 []) file)) []))
+      ∷ run (flow regs w) choices (drop 1 news) (chosen (flow regs w) (slotAt t s) c) (fileAfter (flow regs w) (slotAt t s) c (getD news 0 []) file)) []))
       (lt-ltb (slotAt t s) (count w) h)
-      ∙ ap (λ (l : List ℕ). slotAt t s ∷ l) (rest (drop 1 news) (fileAfter (flow regs w) (slotAt t s) (getD news 0 []) file))
+      ∙ ap (λ (l : List ℕ). slotAt t s ∷ l) (rest (drop 1 news) (fileAfter (flow regs w) (slotAt t s) c (getD news 0 []) file))
 
   -- m steps from slot s on, each move named by "after": there are choices by which the machine visits exactly these, whatever is written
   pub stretch : (m s : ℕ) → ((j : ℕ) → s ≤ j → j < s + m → slotAt t j < count w)

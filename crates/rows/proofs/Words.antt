@@ -88,7 +88,7 @@ module _ (bits words n k : ℕ) (rows : List ℕ) (s : Step) where
   abbrev R : ℕ → ℕ
   R = row (rowsOf bits words (suc n) rows)
 
-  one : (t : Bool) (j : ℕ) → j ≤ n → cond t (value bits (window words j rows)) 0 ≡ joined R (only t j)
+  pub one : (t : Bool) (j : ℕ) → j ≤ n → cond t (value bits (window words j rows)) 0 ≡ joined R (only t j)
   unfolding joined
   one true j l = sym (rows-at bits words (suc n) rows j (omega arith)) ∙ sym (or-zero-r (R j))
   one false j l = refl
@@ -107,7 +107,7 @@ module _ (bits words n k : ℕ) (rows : List ℕ) (s : Step) where
       → Holds bits a (joined (row (rowsOf bits words (suc n) rows)) (afterOf s k))
       → Holds bits b (minus (value bits a) (setOf regs l)) → Holds bits c (minus (value bits b) (setOf regs m)) → Holds bits d (bitOr (value bits c) (setOf regs (usedOf s)))
       → givenOf s ≡ l ++ m → Holds bits d (rowAt (stepFlow regs s) (row (rowsOf bits words (suc n) rows)) k)
-  row-holds regs a b c d l m ha hb hc hd e = step-words (stepFlow regs s) R k bits a c d ha gone hd
+  row-holds regs a b c d l m ha hb hc hd e = step-words (stepFlow regs s) R k bits a c d refl ha gone hd
     where
       gone : Holds bits c (minus (value bits a) (setOf regs (givenOf s)))
       gone = as-set hc

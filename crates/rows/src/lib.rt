@@ -28,7 +28,7 @@ pub struct Counts {
 }
 
 // Every row is emptied.
-fn clear(rows: &mut [u64])
+pub fn clear(rows: &mut [u64])
     ensures { λ _. ⌜ now (rows .exit) ≡ replicate (length (now (rows .entry))) 0 ⌝ }
 {
     let mut i = 0;
@@ -256,7 +256,7 @@ pub fn join_row(set: [u64; 16], rows: &[u64], at: usize, words: usize) -> [u64; 
 }
 
 // A set and row k, if, together.
-fn join_if(t: bool, set: [u64; 16], rows: &[u64], k: usize, words: usize) -> [u64; 16]
+pub fn join_if(t: bool, set: [u64; 16], rows: &[u64], k: usize, words: usize) -> [u64; 16]
     requires { ⌜ (words ≤ 16) × (k * words + words ≤ length (now rows)) × Small 64 set × Small 64 (now rows) ⌝ }
     ensures { λ s. ⌜ Holds 64 s (bitOr (value 64 set) (cond t (value 64 (window words k (now (rows .entry)))) 0)) ⌝ }
 {
@@ -341,7 +341,7 @@ fn without_run(set: [u64; 16], regs: usize, b: usize, run: u8) -> [u64; 16]
 }
 
 // Row k, found from the rows as they are.
-fn row_wide(s: Step, regs: usize, rows: &[u64], n: usize, words: usize, k: usize) -> [u64; 16]
+pub fn row_wide(s: Step, regs: usize, rows: &[u64], n: usize, words: usize, k: usize) -> [u64; 16]
     requires { ⌜ (regs ≤ 1024) × (words ≤ 16) × (k < n) × (s .target ≤ n) × (suc n * words ≤ length (now rows)) × Small 64 (now rows) ⌝ }
     ensures { λ r. ⌜ Holds 64 r (rowAt (stepFlow regs s) (row (rowsOf 64 words (suc n) (now (rows .entry)))) k) ⌝ }
 {
@@ -352,7 +352,7 @@ fn row_wide(s: Step, regs: usize, rows: &[u64], n: usize, words: usize, k: usize
 }
 
 // The words of a set are stored in the row that starts at `at`: whether that changed one.
-fn store_row(rows: &mut [u64], at: usize, words: usize, set: [u64; 16]) -> bool
+pub fn store_row(rows: &mut [u64], at: usize, words: usize, set: [u64; 16]) -> bool
     requires { ⌜ (words ≤ 16) × (at + words ≤ length (now rows)) ⌝ }
     ensures { λ r. ⌜ Stored (now (rows .entry)) at words set (now (rows .exit)) r ⌝ }
 {

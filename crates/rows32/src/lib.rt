@@ -23,7 +23,7 @@ use rows::Counts;
 use steps::Step;
 
 // Every row is emptied.
-fn clear(rows: &mut [u32])
+pub fn clear(rows: &mut [u32])
     ensures { λ _. ⌜ now (rows .exit) ≡ replicate (length (now (rows .entry))) 0 ⌝ }
 {
     let mut i = 0;
@@ -251,7 +251,7 @@ pub fn join_row(set: [u32; 32], rows: &[u32], at: usize, words: usize) -> [u32; 
 }
 
 // A set and row k, if, together.
-fn join_if(t: bool, set: [u32; 32], rows: &[u32], k: usize, words: usize) -> [u32; 32]
+pub fn join_if(t: bool, set: [u32; 32], rows: &[u32], k: usize, words: usize) -> [u32; 32]
     requires { ⌜ (words ≤ 32) × (k * words + words ≤ length (now rows)) × Small 32 set × Small 32 (now rows) ⌝ }
     ensures { λ s. ⌜ Holds 32 s (bitOr (value 32 set) (cond t (value 32 (window words k (now (rows .entry)))) 0)) ⌝ }
 {
@@ -336,7 +336,7 @@ fn without_run(set: [u32; 32], regs: usize, b: usize, run: u8) -> [u32; 32]
 }
 
 // Row k, found from the rows as they are.
-fn row_wide(s: Step, regs: usize, rows: &[u32], n: usize, words: usize, k: usize) -> [u32; 32]
+pub fn row_wide(s: Step, regs: usize, rows: &[u32], n: usize, words: usize, k: usize) -> [u32; 32]
     requires { ⌜ (regs ≤ 1024) × (words ≤ 32) × (k < n) × (s .target ≤ n) × (suc n * words ≤ length (now rows)) × Small 32 (now rows) ⌝ }
     ensures { λ r. ⌜ Holds 32 r (rowAt (stepFlow regs s) (row (rowsOf 32 words (suc n) (now (rows .entry)))) k) ⌝ }
 {
@@ -347,7 +347,7 @@ fn row_wide(s: Step, regs: usize, rows: &[u32], n: usize, words: usize, k: usize
 }
 
 // The words of a set are stored in the row that starts at `at`: whether that changed one.
-fn store_row(rows: &mut [u32], at: usize, words: usize, set: [u32; 32]) -> bool
+pub fn store_row(rows: &mut [u32], at: usize, words: usize, set: [u32; 32]) -> bool
     requires { ⌜ (words ≤ 32) × (at + words ≤ length (now rows)) ⌝ }
     ensures { λ r. ⌜ Stored (now (rows .entry)) at words set (now (rows .exit)) r ⌝ }
 {

@@ -73,19 +73,19 @@ used-of (Listed i) h = absurd (omega arith)
 used-of (Full n) h = absurd (omega arith)
 used-of Nothing h = absurd (omega arith)
 
-by-call : (e : Ends) (s : Saver) (r : Answer) → By saverTold (λ v. e ≡ ends s v) r → r .refusal ≡ 0 → (u : ℕ) × (e .answer ≡ Used u)
+pub by-call : (e : Ends) (s : Saver) (r : Answer) → By saverTold (λ v. e ≡ ends s v) r → r .refusal ≡ 0 → (u : ℕ) × (e .answer ≡ Used u)
 by-call e s r x h =
     let (u, z) = used-of (x .told) (sym (ap (λ (a : Answer). a .refusal) (x .is)) ∙ h) in
     (u, ap (λ (y : Ends). y .answer) (x .allowed) ∙ z)
 
-left-is : (e : Ends) (s : Saver) (r : Answer) → By saverTold (λ v. e ≡ ends s v) r → e .left ≡ s
+pub left-is : (e : Ends) (s : Saver) (r : Answer) → By saverTold (λ v. e ≡ ends s v) r → e .left ≡ s
 left-is e s r x = ap (λ (y : Ends). y .left) (x .allowed)
 
 told-is : (e : Ends) (s : Saver) (r : Answer) → By saverTold (λ v. e ≡ ends s v) r → r ≡ saverTold (e .answer)
 told-is e s r x = x .is ∙ ap saverTold (sym (ap (λ (y : Ends). y .answer) (x .allowed)))
 
 -- exported calls in order are the calls inside in order
-played : {s t : Saver} {es : List Event} → Called s es t → Play s es t
+pub played : {s t : Saver} {es : List Event} → Called s es t → Play s es t
 played called.done = done
 played {t = t} (called.enter {s = s} {m = m} {l = l} {q = q} {es = es} {r = r} x h p) =
     let (u, e) = by-call (enterOf s l q) m r x h in

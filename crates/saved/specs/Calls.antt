@@ -5,7 +5,7 @@ use mathlib.Core.List.{List, [], _∷_}
 use lib.ListN.{length}
 use Rattle.code.specs.declared.Answer.{Answer}
 use Rattle.saver.specs.Saver.{Saver, saver, Back}
-use Rattle.saver.specs.Frames.{Event, enters, writes, leaves}
+use Rattle.saver.specs.Frames.{Event, enters, writes, leaves, Matched}
 use Rattle.turniploom.specs.Answers.{EnterTold, LeaveTold}
 
 -- From one saver to another by exported calls in order. An entry here is one that is answered; overwriting keeps the file's length; a leaving
@@ -17,3 +17,14 @@ pub data Called : Saver → List Event → Saver → Type 0 where
   write : {s t : Saver} {new : List ℕ} {es : List Event} → length new ≡ length (s .file) → Called (saver (s .head) (s .area) new) es t
       → Called s (writes new ∷ es) t
   leave : {s m t : Saver} {back : Back} {es : List Event} {r : Answer} → LeaveTold s back m r → Called m es t → Called s (leaves back ∷ es) t
+
+-- a frame was entered with a list and a result register; then exported calls came and went well bracketed, nested to any depth, and registers were
+-- overwritten at will: t is the saver that is left
+pub record Entered (list : List ℕ) (result : ℕ) (s t : Saver) : Type 0 where
+  pub after : Saver
+  pub answer : Answer
+  pub entry : EnterTold s list result after answer
+  pub went : answer .refusal ≡ 0
+  pub events : List Event
+  pub bracketed : Matched events
+  pub calls : Called after events t

@@ -59,4 +59,5 @@ flow regs w = record {
   used = λ k. setOf regs (usedAt w k);
   givenUp = λ k. setOf regs (givenAt w k);
   after = afterAt w;
+  raises = λ k. [];
 }

@@ -2,7 +2,7 @@
 use Prim.Native.Nat.{ℕ, _+_, _≤_}
 use mathlib.Core.Path.{_≡_}
 use mathlib.Core.Bool.{Bool, _&&_}
-use mathlib.Core.List.{List, _++_}
+use mathlib.Core.List.{List, [], _++_}
 use lib.Dec.{ltb}
 use Rattle.code.specs.Ins.{insAt, count}
 use Rattle.roles.specs.Sets.{only, from}
@@ -45,4 +45,5 @@ stepFlow regs s = record {
   used = λ k. setOf regs (usedOf s);
   givenUp = λ k. setOf regs (givenOf s);
   after = afterOf s;
+  raises = λ k. [];
 }

@@ -19,11 +19,12 @@ use Rattle.phis.proofs.Telling.{one-answer}
 use Rattle.steps.specs.Code.{flow}
 use Rattle.needed.specs.Path.{Needs}
 use Rattle.needed.specs.Answers.{uptoOf}
+use Rattle.flow.specs.Flow.{Flow}
 use Rattle.kept.proofs.Alone.{outcome-one}
 use Rattle.lent.specs.declared.Counts.{Counts}
 use Rattle.optimizer.specs.Fold.{Buffers, Called}
 use Rattle.clear.specs.Clear as clearing
-use Rattle.turniploom.specs.Answers.{By, filledTold, truthTold, keptTold, foldTold, TargetsTold, LoopsTold, DeadTold, GenTold, NeededTold, KeptTold, FoldTold, clearTold, ClearTold, MadeTold, EnterTold, LeaveTold, ReplayTold}
+use Rattle.turniploom.specs.Answers.{By, filledTold, truthTold, keptTold, foldTold, TargetsTold, LoopsTold, DeadTold, GenTold, NeededTold, ListsTold, FoldTold, clearTold, ClearTold, MadeTold, EnterTold, LeaveTold, ReplayTold, countTold, ExposedTold}
 use Rattle.saver.specs.Saver.{Saver, Back, Ends}
 use Rattle.saver.specs.Answers.{saverTold}
 use Rattle.day.specs.Answers.{dayTold}
@@ -62,10 +63,11 @@ one-needed w regs k q seen todo r r′ a a′ b b′ x y =
     (by-one truthTold x y e, z, t)
 
 -- the scratch is words of so many bits, as every lent u64 or u32 is
-pub one-kept : (bits : ℕ) → 0 < bits → (w : List ℕ) (regs : ℕ) (tries : List ℕ) (wide : Bool) (rows offsets list : List ℕ) (r r′ : Answer) (a a′ b b′ c c′ : List ℕ) → Small bits a → Small bits a′
-    → KeptTold bits w regs tries wide rows offsets list a b c r → KeptTold bits w regs tries wide rows offsets list a′ b′ c′ r′ → (r ≡ r′) × (a ≡ a′) × (b ≡ b′) × (c ≡ c′)
-one-kept bits some w regs tries wide rows offsets list r r′ a a′ b b′ c c′ s s′ x y =
-    let (p, q, t, e) = outcome-one bits some w regs tries wide rows offsets list s s′ (x .allowed) (y .allowed) in
+pub one-kept : (f : Flow) (start bits : ℕ) → 0 < bits → (w : List ℕ) (regs : ℕ) (tries rows offsets list : List ℕ) (r r′ : Answer) (a a′ b b′ c c′ : List ℕ)
+    → Small bits a → Small bits a′ → ListsTold f start bits w regs tries rows offsets list a b c r → ListsTold f start bits w regs tries rows offsets list a′ b′ c′ r′
+    → (r ≡ r′) × (a ≡ a′) × (b ≡ b′) × (c ≡ c′)
+one-kept f start bits some w regs tries rows offsets list r r′ a a′ b b′ c c′ s s′ x y =
+    let (p, q, t, e) = outcome-one f start bits some w regs tries rows offsets list s s′ (x .allowed) (y .allowed) in
     (by-one keptTold x y e, p, q, t)
 
 pub one-fold : (strict : Bool) (b : Buffers) (tries landings : List ℕ) (c : Counts) (r r′ : Answer) (a a′ : Buffers) (t t′ l l′ : List ℕ) → FoldTold strict b tries landings c r a t l
@@ -97,3 +99,7 @@ pub one-replay : (w : List ℕ) (regs : ℕ) (tries t reads : List ℕ) (r r′ 
 one-replay w regs tries t reads r r′ a a′ x y =
     let (z, e) = one-day w regs tries t reads (x .allowed) (y .allowed) in
     (by-one dayTold x y e, z)
+
+pub one-exposed : (plain list out : List ℕ) (r r′ : Answer) (a a′ : List ℕ) → ExposedTold plain list out a r → ExposedTold plain list out a′ r′ → (r ≡ r′) × (a ≡ a′)
+one-exposed plain list out r r′ a a′ x y =
+    (by-one countTold x y (x .allowed .answer ∙ sym (y .allowed .answer)), x .allowed .left ∙ sym (y .allowed .left))

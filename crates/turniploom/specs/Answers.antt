@@ -38,13 +38,18 @@ use Rattle.clear.specs.Clear as clearing
 use Rattle.clear.specs.Clear.{clearCall}
 use Rattle.clear.specs.declared.ClearAnswer.{ClearAnswer}
 use Rattle.clear.specs.declared.ClearAnswer.the-variants as clear
-use Rattle.kept.specs.Answers.{Outcome}
+use Rattle.flow.specs.Flow.{Flow}
+use Rattle.kept.specs.Answers.{ListsLeft, Outcome}
 use Rattle.kept.specs.declared.KeptAnswer.{KeptAnswer}
 use Rattle.kept.specs.declared.KeptAnswer.the-variants as kept
 use Rattle.saver.specs.Saver.{Made, Saver, Back, ends, enterOf, leaveOf}
 use Rattle.saver.specs.Answers.{saverTold}
 use Rattle.day.specs.Day.{Day}
 use Rattle.day.specs.Answers.{dayTold}
+use Rattle.code.specs.declared.Checked.{Checked}
+use Rattle.code.specs.declared.Checked.the-variants as stage
+use Rattle.nested.specs.Raising.{raising, mays, beginsAt}
+use Rattle.raises.specs.Answers.{ExposedLeft}
 
 -- truth is 1, falsehood 0
 abbrev pub truthTold : Told → Answer
@@ -126,6 +131,11 @@ abbrev pub keptTold : KeptAnswer → Answer
 keptTold (kept.Is n full abandoned) = answerOf n full abandoned 0
 keptTold (kept.No r) = refusedOf r
 
+-- by the rows of some equations, from a start on
+abbrev pub ListsTold : Flow → ℕ → ℕ → List ℕ → ℕ → List ℕ → (rows offsets list rows′ offsets′ list′ : List ℕ) → Answer → Type 0
+ListsTold f start bits w regs tries rows offsets list rows′ offsets′ list′ r =
+    By keptTold (λ v. ListsLeft f start bits w regs tries rows offsets list rows′ offsets′ list′ v) r
+
 abbrev pub KeptTold : ℕ → List ℕ → ℕ → List ℕ → Bool → List ℕ → List ℕ → List ℕ → List ℕ → List ℕ → List ℕ → Answer → Type 0
 KeptTold bits w regs tries wide rows offsets list rows′ offsets′ list′ r = By keptTold (λ v. Outcome bits w regs tries wide rows offsets list rows′ offsets′ list′ v) r
 
@@ -157,3 +167,17 @@ LeaveTold s back s′ r = By saverTold (λ v. leaveOf s back ≡ ends s′ v) r
 -- steps, levels met, and the reads of each register
 abbrev pub ReplayTold : List ℕ → ℕ → List ℕ → List ℕ → List ℕ → List ℕ → Answer → Type 0
 ReplayTold w regs tries t reads reads′ r = By dayTold (λ v. Day w regs tries t reads reads′ v) r
+
+-- a count, or the refusal
+abbrev pub countTold : Checked → Answer
+countTold (stage.Count n) = answerOf n 0 0 0
+countTold (stage.No r) = refusedOf r
+
+-- lists for frames whose calls raise: as kept answers
+abbrev pub RaisingTold : List ℕ → ℕ → List ℕ → Bool → (rows offsets list rows′ offsets′ list′ : List ℕ) → Answer → Type 0
+RaisingTold w regs tries all rows offsets list rows′ offsets′ list′ r =
+    ListsTold (raising (mays all w) regs w tries) (beginsAt regs w) 64 w regs tries rows offsets list rows′ offsets′ list′ r
+
+-- how many registers one list has and another has not
+abbrev pub ExposedTold : (plain list out out′ : List ℕ) → Answer → Type 0
+ExposedTold plain list out out′ r = By countTold (λ v. ExposedLeft plain list out out′ v) r

@@ -16,9 +16,11 @@ ghost use lib.ListN.{length};
 ghost use Rattle.figures.specs.Answers.{reports, addCall, joinCall};
 ghost use Rattle.saver.specs.Saver.{saver as words, returned, thrown};
 ghost use Rattle.turniploom.specs.Answers.{MadeTold, EnterTold, LeaveTold, ReplayTold};
+ghost use Rattle.turniploom.specs.Answers.{countTold, RaisingTold, ExposedTold};
 use callee::GlobalAnswer;
 use clear::ClearAnswer;
 use code::Answer;
+use code::Checked;
 use code::Told;
 use kept::KeptAnswer;
 use params::Bits;
@@ -431,4 +433,38 @@ pub extern "C" fn turniploom_replay(
     ensures { λ r. ⌜ ReplayTold (now (code .entry)) regs (now (tries .entry)) (now (trace .entry)) (now (reads .entry)) (now (reads .exit)) r ⌝ }
 {
     day::told(day::day(code, regs, tries, trace, reads))
+}
+
+// A count, as it is.
+fn counted(c: Checked) -> Answer
+    ensures { λ r. ⌜ r ≡ countTold c ⌝ }
+{
+    match c {
+        Checked::Count(n) => code::tell(n as u64, 0, 0, 0),
+        Checked::No(r) => code::refused(r),
+    }
+}
+
+// The registers that each level keeps where calls may raise later on; `all`: and any instruction inside a try.
+#[no_mangle]
+pub extern "C" fn turniploom_kept_raising(
+    code: &[u16],
+    regs: usize,
+    tries: &[u32],
+    all: bool,
+    rows: &mut [u64],
+    offsets: &mut [u32],
+    list: &mut [u16],
+) -> Answer
+    ensures { λ r. ⌜ RaisingTold (now (code .entry)) regs (now (tries .entry)) all (now (rows .entry)) (now (offsets .entry)) (now (list .entry)) (now (rows .exit)) (now (offsets .exit)) (now (list .exit)) r ⌝ }
+{
+    kept_told(raises::kept_raising(code, regs, tries, all, rows, offsets, list))
+}
+
+// The registers of a level's list that its plain list has not.
+#[no_mangle]
+pub extern "C" fn turniploom_exposed(plain: &[u16], list: &[u16], out: &mut [u16]) -> Answer
+    ensures { λ r. ⌜ ExposedTold (now (plain .entry)) (now (list .entry)) (now (out .entry)) (now (out .exit)) r ⌝ }
+{
+    counted(raises::exposed(plain, list, out))
 }

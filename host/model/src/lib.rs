@@ -25,6 +25,7 @@ pub fn ask(q: &Question) -> Reply {
         Fold => folding(q, &mut lent, &mut |_| fold::NAN),
         Clear => clearing(q, &mut lent),
         FiguresJoin => figures::join(q.u64("later"), lent.u64("report")),
+        Exposed => exposing(q, &mut lent),
         _ if q.call.saves() => saver::answer(q, &mut lent).map(one),
         _ => over_code(q, &mut lent),
     };
@@ -83,7 +84,7 @@ fn over_code(q: &Question, lent: &mut Lent) -> Checked<[u64; 4]> {
         }
         PushedBack => walks::pushed_back(&code, at()?, q.n("r") as u16).map_or([0; 4], |p| [1, p as u64, 0, 0]),
         StackCallee => walks::stack_callee(&code, at()?, q.n("count") as u16).map_or([0; 4], |(p, r)| [1, p as u64, r.into(), 0]),
-        Kept | Kept32 => keeping(q, &code, lent)?,
+        Kept | Kept32 | KeptRaising => keeping(q, &code, lent)?,
         Level => {
             let k = at()?;
             let (resume, result) = rows::resume(&code, k);
@@ -121,13 +122,23 @@ fn keeping(q: &Question, code: &[turniploom::Ins], lent: &mut Lent) -> Checked<[
     let bits = q.call.row_bits();
     code::room(1, lent.get("rows").numbers()[0] as usize, (n + 1) * rows::words(regs, bits))?;
     code::room(2, lent.u32("offsets").len(), n + 1)?;
-    let found = rows::rows(code, regs, bits, q.n("wide") != 0);
+    let raising = q.call == KeptRaising;
+    let found = if raising { rows::rows_raising(code, regs, &tries, q.n("all") != 0) } else { rows::rows(code, regs, bits, q.n("wide") != 0) };
     let lists = rows::kept(code, &found, &tries, false);
     lay_rows(&found.rows, lent);
     let total: usize = lists.iter().map(Vec::len).sum();
     code::room(3, lent.u16("list").len(), total)?;
     lay_lists(&lists, lent);
     Ok([total as u64, found.full, found.abandoned, 0])
+}
+
+/// The registers of a list that the plain one has not.
+fn exposing(q: &Question, lent: &mut Lent) -> Checked<[u64; 4]> {
+    let (plain, list) = (q.u16("plain"), q.u16("list"));
+    code::room(1, lent.u16("out").len(), list.len())?;
+    let more: Vec<u16> = list.iter().copied().filter(|r| !plain.contains(r)).collect();
+    lent.u16("out")[..more.len()].copy_from_slice(&more);
+    Ok(one(more.len() as u64))
 }
 
 /// Writes the rows, in words of their width.

@@ -17,7 +17,8 @@ macro_rules! calls {
 
 calls! {
     Kinds, Role, Field, Writes, Pure, Flat, Guarded, Returns, ParamsWritten, Passed, GenPure, DeadPhi, LoopsAround, Targets, GlobalOf, PushedBack,
-    StackCallee, Kept, Fold, Clear, Kept32, Level, SaverMake, SaverEnter, SaverReturn, SaverException, FiguresAdd, FiguresJoin, Replay, Touched, Needed
+    StackCallee, Kept, Fold, Clear, Kept32, Level, SaverMake, SaverEnter, SaverReturn, SaverException, FiguresAdd, FiguresJoin, Replay, Touched, Needed,
+    KeptRaising, Exposed
 }
 
 pub use Call::*;
@@ -33,13 +34,13 @@ impl Call {
     /// Whether it takes a chunk, and how many words an instruction then has.
     pub fn of_a_chunk(self) -> bool { matches!(self, Fold | Clear) }
     pub fn stride(self) -> usize { if self.of_a_chunk() { 3 } else { 6 } }
-    /// Whether it tells the kept registers, and how many bits a word of its rows then has.
+    /// Whether it tells the kept registers of document 01, and how many bits a word of its rows then has.
     pub fn keeps(self) -> bool { matches!(self, Kept | Kept32) }
     pub fn row_bits(self) -> usize { if self == Kept32 { 32 } else { 64 } }
     /// Whether it is one of the frame saver's.
     pub fn saves(self) -> bool { matches!(self, SaverMake | SaverEnter | SaverReturn | SaverException) }
     /// Whether the Rust has it not: the model alone decides what is right.
-    pub fn is_new(self) -> bool { self.saves() || matches!(self, Clear | FiguresAdd | FiguresJoin | Replay) }
+    pub fn is_new(self) -> bool { self.saves() || matches!(self, Clear | FiguresAdd | FiguresJoin | Replay | KeptRaising | Exposed) }
 }
 
 /// A number or a slice.

@@ -3,11 +3,13 @@
 use super::{code::{is_call, wide}, facts::fact, roles::*, walks::store};
 use turniploom::{DUNDER, Ins, op};
 
-/// One position's equation: row k = used with (the rows after, without the given-up).
+/// One position's equation: row k = used with (the rows after, without the given-up), and with the rows that it may leave for, whole.
 pub struct Equation {
     pub used: Vec<u16>,
     given_up: Vec<u16>,
     pub after: Vec<usize>,
+    /// Handlers, where an instruction may raise; none in document 01.
+    leaves: Vec<usize>,
     /// Where a jump goes, as it stands in the code.
     jump: Option<usize>,
 }
@@ -40,7 +42,17 @@ pub fn equation(code: &[Ins], k: usize, regs: usize) -> Equation {
     let (mut used, mut given_up) = if pending(code, k) { (vec![], vec![]) } else { (touch.uses(i), touch.gives_up(i)) };
     used.retain(|&r| (r as usize) < regs);
     given_up.retain(|&r| (r as usize) < regs);
-    Equation { used, given_up, after, jump: jumps(i).then_some(i.a as usize) }
+    Equation { used, given_up, after, leaves: vec![], jump: jumps(i).then_some(i.a as usize) }
+}
+
+/// A level by its dunder mark alone, whose call goes on at the next position though its own row does not lead there, or gives up more than its result.
+pub fn stranded(i: &Ins) -> bool { i.marks & DUNDER != 0 && matches!(i.op, op::ReturnR | op::Jump | op::UnpackR | op::WithEnter | op::WithExit) }
+
+/// The same where levels may raise, or if all any instruction.
+fn raising(code: &[Ins], k: usize, regs: usize, tries: &[(usize, usize)], all: bool) -> Equation {
+    let mut leaves = if stranded(&code[k]) { vec![k + 1] } else { vec![] };
+    if all || level(&code[k]) { leaves.extend(tries.iter().filter(|&&(s, h)| s < k && k < h).map(|&(_, h)| h.min(code.len()))) }
+    Equation { leaves, ..equation(code, k, regs) }
 }
 
 /// The rows of a code, `words` words of `bits` bits each, and the sweeps that found them.
@@ -78,6 +90,7 @@ fn sweep(equations: &[Equation], from: usize, found: &mut Rows) -> Swept {
         for &at in &e.after { for w in 0..words { row[w] |= rows[at * words + w] } }
         for &r in &e.given_up { row[r as usize / bits] &= !(1 << (r as usize % bits)) }
         for &r in &e.used { row[r as usize / bits] |= 1 << (r as usize % bits) }
+        for &at in &e.leaves { for w in 0..words { row[w] |= rows[at * words + w] } }
         let old = &mut rows[k * words..][..words];
         changed |= *old != *row;
         old.copy_from_slice(&row);
@@ -100,10 +113,20 @@ fn empty(n: usize, regs: usize, bits: usize) -> Rows {
 pub fn rows(code: &[Ins], regs: usize, bits: usize, force_wide: bool) -> Rows {
     let n = code.len();
     let equations: Vec<Equation> = (0..n).map(|k| equation(code, k, regs)).collect();
-    let mut from = if regs > bits || force_wide { 0 } else { code.iter().position(level).unwrap_or(n) };
-    let mut found = empty(n, regs, bits);
+    let from = if regs > bits || force_wide { 0 } else { code.iter().position(level).unwrap_or(n) };
+    swept(&equations, from, empty(n, regs, bits))
+}
+
+/// The rows with handlers joined, in words of 64 bits, from 0 on.
+pub fn rows_raising(code: &[Ins], regs: usize, tries: &[(usize, usize)], all: bool) -> Rows {
+    let equations: Vec<Equation> = (0..code.len()).map(|k| raising(code, k, regs, tries, all)).collect();
+    swept(&equations, 0, empty(code.len(), regs, 64))
+}
+
+/// Sweeps until nothing changes.
+fn swept(equations: &[Equation], mut from: usize, mut found: Rows) -> Rows {
     loop {
-        match sweep(&equations, from, &mut found) {
+        match sweep(equations, from, &mut found) {
             Swept::Abandoned => {
                 found.abandoned += 1;
                 found.rows.fill(0);

@@ -43,7 +43,7 @@ fn pieces(call: Call) -> &'static [(usize, Piece)] {
         PushedBack => &[(8, Pending), (2, Called), (1, Plain), (1, Push)],
         StackCallee => &[(9, Push), (6, Stack), (3, Plain), (1, Taken)],
         LoopsAround => &[(4, Loop), (3, Plain), (1, Any)],
-        Kept | Kept32 | FiguresAdd | Replay => &[
+        Kept | Kept32 | KeptRaising | FiguresAdd | Replay => &[
             (8, Plain), (6, Called), (5, Pending), (5, Branch), (2, Stack), (2, Return), (2, Loop), (2, Try), (3, With), (2, Global), (2, Unpack), (1, Any),
         ],
         _ => &[(6, Plain), (4, Called), (2, Pending), (4, Branch), (4, Stack), (2, Return), (2, Loop), (2, Try), (2, With), (2, Global), (2, Unpack), (1, Join), (1, Name), (1, Push), (6, Any)],

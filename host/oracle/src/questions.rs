@@ -9,6 +9,7 @@ pub fn random(rng: &mut Rng, call: Call) -> Question {
         Fold => return chunks::random(rng),
         Clear => return chunks::random_clear(rng),
         FiguresJoin => return figures::random_join(rng),
+        Exposed => return random_exposed(rng),
         _ if call.saves() => return saver::random(rng, call),
         _ => {}
     }
@@ -21,7 +22,7 @@ pub fn random(rng: &mut Rng, call: Call) -> Question {
 /// How many registers the code is to have.
 fn registers(rng: &mut Rng, call: Call) -> usize {
     match call {
-        Kept => rng.weighted(&[(1, 0), (1, 1), (4, 4), (8, 8), (3, 31), (2, 63), (3, 64), (3, 65), (2, 66), (2, 127), (1, 128), (1, 129), (1, 500), (1, 1_023), (1, 1_024)]),
+        Kept | KeptRaising => rng.weighted(&[(1, 0), (1, 1), (4, 4), (8, 8), (3, 31), (2, 63), (3, 64), (3, 65), (2, 66), (2, 127), (1, 128), (1, 129), (1, 500), (1, 1_023), (1, 1_024)]),
         Kept32 => rng.weighted(&[
             (1, 0), (1, 1), (4, 4), (8, 8), (2, 31), (3, 32), (3, 33), (2, 34), (2, 63), (3, 64), (2, 65), (1, 96), (1, 97), (1, 500), (1, 1_024),
         ]),
@@ -74,6 +75,7 @@ fn ask(rng: &mut Rng, call: Call, code: &[Ins], words: Vec<u16>, regs: usize) ->
         "trace" => Arg::U8(traces::random(rng, &words, &around)),
         "reads" => buffer(rng, p.kind, regs),
         "wide" => Arg::N(rng.once_in(3).into()),
+        "all" => Arg::N(rng.once_in(2).into()),
         "seen" | "todo" | "out" | "offsets" => buffer(rng, p.kind, n + 1),
         "rows" => buffer(rng, p.kind, (n + 1) * crate::model::rows::words(regs, call.row_bits())),
         "list" => { let room = if rng.once_in(12) { rng.below(8) } else { n * regs.min(1_024) }; Arg::U16(junk(rng, room)) }
@@ -215,6 +217,30 @@ fn long_codes(rng: &mut Rng, call: Call, take: &mut dyn FnMut(Question)) {
     }
 }
 
+/// Two lists of one level: the longer has the plain one's registers and some besides, in any order; or they have little to do with each other.
+fn random_exposed(rng: &mut Rng) -> Question {
+    let mut some = |most: usize| -> Vec<u16> { (0..rng.below(9)).map(|_| rng.below(most) as u16).collect() };
+    let (plain, more) = (some(12), some(12));
+    let list = if rng.once_in(4) { more } else { [&plain[..], &more].concat() };
+    let out = lend(rng, list.len());
+    Question::of(Exposed, [("plain", Arg::U16(plain)), ("list", Arg::U16(list)), ("out", Arg::U16(out))])
+}
+
+/// Every two lists of up to three of the registers 0, 1 and 65,535, with room for all, for one too few and for one too many.
+fn systematic_exposed(take: &mut dyn FnMut(Question)) {
+    let registers = [0, 1, 65_535];
+    let mut lists = vec![vec![]];
+    for k in 0.. {
+        let Some(list) = lists.get(k).cloned() else { break };
+        if list.len() < 3 { lists.extend(registers.map(|r| [&list[..], &[r]].concat())) }
+    }
+    for (plain, list) in lists.iter().flat_map(|p| lists.iter().map(move |l| (p, l))) {
+        for room in list.len().saturating_sub(1)..list.len() + 2 {
+            take(Question::of(Exposed, [("plain", Arg::U16(plain.clone())), ("list", Arg::U16(list.clone())), ("out", Arg::U16(vec![9; room]))]))
+        }
+    }
+}
+
 /// Many values pushed, and a call or a list that takes as many of them as one may, or one more.
 fn many_pushed(take: &mut dyn FnMut(Question)) {
     for (o, a, count) in [op::Call, op::BuildList].into_iter().flat_map(|o| (253..258).flat_map(move |a| (0..3).map(move |count| (o, a, count)))) {
@@ -230,6 +256,7 @@ pub fn systematic(rng: &mut Rng, call: Call, take: &mut dyn FnMut(Question)) {
         Fold => return chunks::systematic(rng, take),
         Clear => return chunks::systematic_clear(rng, take),
         FiguresJoin => return figures::systematic_join(take),
+        Exposed => return systematic_exposed(take),
         _ if call.saves() => return saver::systematic(rng, call, take),
         _ => {}
     }

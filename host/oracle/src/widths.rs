@@ -1,5 +1,6 @@
 //! What must hold of a reply, whoever gave it. Of a kept-register call: the call of the other width tells the same lists, and there are no more
-//! sweeps than the host is told before the call. Of `needed`: the rows say the same.
+//! sweeps than the host is told before the call. Of `needed`: the rows say the same. Of `kept_raising`: its lists hold those of `kept`, and are
+//! those where no try is lent and no mark stands amiss.
 
 use crate::{compare::{Ask, shown}, model::{code, rows}, question::*};
 use turniploom::most_sweeps;
@@ -35,9 +36,28 @@ fn unlike_row(q: &Question, reply: &Reply, ask: Ask) -> Option<(&'static str, St
     (bit != reply.answer.first).then(|| ("the row", format!("{bit} in the row of {k}")))
 }
 
+/// The lists of a reply, position by position.
+fn by_position(reply: &mut Reply) -> Vec<Vec<u16>> {
+    let (offsets, list) = (reply.lent.u32("offsets").clone(), reply.lent.u16("list").clone());
+    offsets.windows(2).map(|o| list.get(o[0] as usize..o[1] as usize).unwrap_or_default().to_vec()).collect()
+}
+
+/// The lists of `kept`, if some register of theirs is not in the raising ones; or, where nothing can raise and no mark stands amiss, if they differ.
+fn unlike_plain(q: &Question, reply: &Reply, ask: Ask) -> Option<(&'static str, String)> {
+    if reply.answer.refusal != 0 { return None }
+    let lent = ["code", "regs", "tries", "rows", "offsets", "list"].map(|name| (name, q.arg(name).clone()));
+    let (mut plain, n) = (ask(&Question::of(Kept, lent)), q.u16("code").len() / 6);
+    let (theirs, mine) = (by_position(&mut plain), by_position(&mut reply.clone()));
+    let within = |k: usize| theirs[k].iter().all(|r| mine[k].contains(r));
+    let alike = q.u32("tries").is_empty() && code::code(q.u16("code")).is_ok_and(|code| !code.iter().any(rows::stranded));
+    let held = plain.answer.refusal == 0 && (0..n).all(|k| if alike { theirs[k] == mine[k] } else { within(k) });
+    (!held).then(|| ("the plain lists", shown(&plain)))
+}
+
 /// Who says otherwise, and what.
 pub fn broken(q: &Question, reply: &Reply, ask: Ask) -> Option<(&'static str, String)> {
     if q.call == Needed { return unlike_row(q, reply, ask) }
+    if q.call == KeptRaising { return unlike_plain(q, reply, ask) }
     if !q.call.keeps() { return None }
     let other = ask(&other(q));
     if lists(&other) != lists(reply) { return Some(("the other width", shown(&other))) }

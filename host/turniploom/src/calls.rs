@@ -300,7 +300,7 @@ impl<W: Copy + Into<u64>> Kept<W> {
     }
 }
 
-/// One of the two kept-register calls.
+/// One of the kept-register calls.
 type Keep<W> = fn(&[u16], usize, &[u32], bool, &mut [W], &mut [u32], &mut [u16]) -> Answer;
 
 /// Asks it with rows of so many words, and again with a longer list if it says that one is needed.
@@ -371,7 +371,56 @@ pub fn kept32(ins: &(impl Code + ?Sized), regs: usize, tries: &[(usize, usize)],
     found(abi::kept32, abi::row_words32(regs.min(1_024)), ins, regs, tries, wide)
 }
 
-/// The most full sweeps that [`kept`] and [`kept32`] make of this code, whatever its registers, tries and route: as many as it has jumps to
+/// [`kept`] for a host whose calls may raise: a register that only a handler further on reads is kept at every level from which its exception may
+/// come, so that it is still there though a call before the try was free to overwrite it. Levels may raise; with `all`, which is what Python does, any
+/// instruction. Each list has what [`kept`]'s has, and [`exposed`] tells what it has besides. Rows are found from 0 on.
+///
+/// The call at 2 may overwrite r5, the call at 6 raises, and the handler at 9 reads r5:
+///
+/// ```
+/// use turniploom::{Lowered, exposed, kept, kept_raising, marked, op::*};
+/// let body = [
+///     Lowered::new(LoadGlobalR, 5, 1, 0, 0),
+///     Lowered::new(LoadGlobalR, 4, 9, 0, 0),
+///     Lowered::new(CallR, 4, 0, 0, 1),
+///     Lowered::new(StoreTopR, 1, 0, 0, 0),
+///     Lowered::new(LoadGlobalR, 4, 9, 0, 0),
+///     Lowered::new(SetupExcept, 9, 0, 0, 0),
+///     Lowered::new(CallR, 4, 1, 0, 1),
+///     Lowered::new(StoreTopR, 2, 0, 0, 0),
+///     Lowered::new(ReturnR, 0, 2, 0, 0),
+///     Lowered::new(ReturnR, 0, 5, 0, 0),
+/// ];
+/// let (body, tries) = (marked(&body, |_| false), [(5, 9)]);
+/// let (plain, safe) = (kept(&body, 6, &tries, false)?, kept_raising(&body, 6, &tries, false)?);
+/// assert_eq!((plain.at(2), plain.at(6)), (&[][..], &[5][..]));
+/// assert_eq!((safe.at(2), safe.at(6)), (&[5][..], &[5][..]));
+/// assert_eq!(exposed(&plain, &safe), [(2, vec![5])]);
+/// # Ok::<(), turniploom::Refusal>(())
+/// ```
+///
+/// # Errors
+///
+/// As [`kept`].
+pub fn kept_raising(ins: &(impl Code + ?Sized), regs: usize, tries: &[(usize, usize)], all: bool) -> Result<Kept, Refusal> {
+    found(abi::kept_raising, abi::row_words(regs.min(1_024)), ins, regs, tries, all)
+}
+
+/// The registers that a later exception needs and the plain lists do not keep: each level of `plain`, by [`kept`] or [`kept32`], that has such, with
+/// what `raising`, by [`kept_raising`], keeps there besides. Of the same code, registers and tries, each is exposed in truth, and where there are none
+/// the plain lists are enough; of two that have nothing to do with each other it tells nothing.
+pub fn exposed<V, W>(plain: &Kept<V>, raising: &Kept<W>) -> Vec<(usize, Vec<u16>)>
+where V: Copy + Into<u64>, W: Copy + Into<u64> {
+    let more = |k: usize, list: &[u16]| {
+        let mut out = vec![0; list.len()];
+        let many = abi::exposed(plain.level(k).map_or(&[], |level| level.kept()), list, &mut out).first;
+        out.truncate(many as usize);
+        out
+    };
+    raising.levels().map(|level| (level.at(), more(level.at(), level.kept()))).filter(|(_, out)| !out.is_empty()).collect()
+}
+
+/// The most full sweeps that [`kept`], [`kept32`] and [`kept_raising`] make of this code, whatever its registers, tries and route: as many as it has jumps to
 /// their own position or back, and two. At most one more is abandoned. It is known before the call, for a progress bar.
 ///
 /// The loop of P5 in document 01 has one such jump, and needs them all:

@@ -90,6 +90,12 @@ impl Stacks {
             assert_eq!(self.make("figures_join", || abi::figures_join(&[1, 2, 3, 2_000, 1, 0, 5], &mut report)).refusal, 0);
             let a = self.make("kept32", || abi::kept32(code, regs, tries, wide, &mut rows32, &mut offsets, &mut list));
             assert_eq!((a.refusal, a.first), (0, list.len() as u64));
+            let short = self.make("kept_raising", || abi::kept_raising(code, regs, tries, wide, &mut rows, &mut offsets, &mut []));
+            let mut raising = vec![9; if short.refusal == 0 { 0 } else { short.second as usize }];
+            let a = self.make("kept_raising", || abi::kept_raising(code, regs, tries, wide, &mut rows, &mut offsets, &mut raising));
+            assert!(a.refusal == 0 && a.first >= list.len() as u64);
+            let (some, mut out) = (&raising[..raising.len().min(1_024)], vec![9; 1_024]);
+            assert_eq!(self.make("exposed", || abi::exposed(&[], some, &mut out)).first, some.len() as u64);
         }
     }
 

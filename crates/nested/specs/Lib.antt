@@ -1,0 +1,4 @@
+pub mod Machine
+pub mod Raising
+pub mod Exposed
+pub mod Bodies

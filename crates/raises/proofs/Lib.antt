@@ -1,0 +1,4 @@
+pub mod Sweeps
+pub mod Calls
+pub mod Exposing
+pub mod Examples

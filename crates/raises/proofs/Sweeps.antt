@@ -1,0 +1,165 @@
+-- The sweeps that join handlers, step by step. Assumes nothing.
+use mathlib.Core.Path.{_≡_, refl, sym, ap, ap₂, _∙_}
+use mathlib.Core.Bool.{Bool, true, false, not, cond, _&&_, _||_}
+use mathlib.Core.List.{List, [], _∷_, _++_, List·Memᴰ·head, List·Memᴰ·tail}
+use Prim.Native.Nat.{ℕ, zero, suc, _+_, _-_, _*_, _^_, _≤_, _<_, zero-le}
+use native.Mathlib.Nat.{zero-lt-suc}
+use native.Mathlib.Omega.{arith}
+use borrow.Author.Tests.{not-true, not-false, le-ltb}
+use lib.Bits.{bitOr, or-zero-r}
+use lib.Dec.{ltb}
+use lib.ListN.{length, replicate}
+use Rattle.code.specs.Ins.{insAt, count}
+use Rattle.code.specs.Check.{Valid}
+use Rattle.code.specs.declared.Ins.{Ins}
+use Rattle.roles.specs.Sets.{only}
+use Rattle.flow.specs.Flow.{joined, onto, rowAt}
+use Rattle.flow.specs.Sweep.{row, below, Put, Found}
+use Rattle.flow.specs.Kept.{handlersOf}
+use Rattle.flow.specs.Words.{value, window, rowsOf, Small, Holds, Stored}
+use Rattle.flow.proofs.Bits.{bit-ext, or-bit}
+use Rattle.flow.proofs.Rows.{In, onto-bit, rowAt-lt}
+use Rattle.flow.proofs.Tally.{below-zero}
+use Rattle.flow.proofs.Tries.{handlers-past}
+use Rattle.flow.proofs.Words.{as-set}
+use Rattle.flow.proofs.Buffer.{rows-zero, rows-lt, put-row}
+use Rattle.flow.proofs.Loop.{Part, part-start, part-step, Going, togo, going-start, full-few, full-found, full-again, full-less}
+use Rattle.steps.specs.Level.{isLevel}
+use Rattle.steps.specs.Code.{afterAt}
+use Rattle.steps.specs.Step.{usedOf, StepAt, goesBefore, stepFlow}
+use Rattle.steps.specs.declared.Step.{Step}
+use Rattle.steps.proofs.Follows.{below-step}
+use Rattle.rows.proofs.Sets.{or-assoc, joined-append, set-lt}
+use Rattle.rows.proofs.Words.{one}
+use Rattle.nested.specs.Raising.{stranded, raisesAt, raising, mays}
+use Rattle.raises.specs.Step.{raisingStep}
+
+-- ---- a row is found
+
+-- joined one by one is joined together
+onto-is : (R : ℕ → ℕ) (hs : List ℕ) (x : ℕ) → onto R x hs ≡ bitOr x (joined R hs)
+onto-is R hs x = bit-ext (onto R x hs) (bitOr x (joined R hs)) (λ r. onto-bit R r hs x ∙ sym (or-bit x (joined R hs) r))
+
+module _ (words n regs k : ℕ) (tries rows : List ℕ) (s : Step) (may past : Bool) where
+  abbrev R : ℕ → ℕ
+  R = row (rowsOf 64 words (suc n) rows)
+
+  abbrev plain : ℕ
+  plain = rowAt (stepFlow regs s) R k
+
+  -- with row k + 1, if
+  with-next : (a : List ℕ) → k < n → Holds 64 a plain → bitOr (value 64 a) (cond past (value 64 (window words (k + 1) rows)) 0) ≡ bitOr plain (joined R (only past (k + 1)))
+  with-next a l ha = ap₂ bitOr (ha .is) (one 64 words n k rows s past (k + 1) (omega arith))
+
+  pub holds-level : (a b d : List ℕ) → k < n → may ≡ true → Holds 64 a (rowAt (stepFlow regs s) (row (rowsOf 64 words (suc n) rows)) k)
+      → Holds 64 b (bitOr (value 64 a) (cond past (value 64 (window words (k + 1) rows)) 0))
+      → Holds 64 d (bitOr (value 64 b) (joined (row (rowsOf 64 words (suc n) rows)) (handlersOf n k tries)))
+      → Holds 64 d (rowAt (raisingStep may past n regs tries s) (row (rowsOf 64 words (suc n) rows)) k)
+  unfolding rowAt
+  holds-level a b d l e ha hb hd = rw e (as-set hd
+      (ap (λ (x : ℕ). bitOr x (joined R (handlersOf n k tries))) (hb .is ∙ with-next a l ha) ∙ or-assoc plain (joined R (only past (k + 1))) (joined R (handlersOf n k tries))
+      ∙ ap (bitOr plain) (sym (joined-append R (only past (k + 1)) (handlersOf n k tries))) ∙ sym (onto-is R (only past (k + 1) ++ handlersOf n k tries) plain)))
+
+  pub holds-plain : (a b : List ℕ) → k < n → may ≡ false → Holds 64 a (rowAt (stepFlow regs s) (row (rowsOf 64 words (suc n) rows)) k)
+      → Holds 64 b (bitOr (value 64 a) (cond past (value 64 (window words (k + 1) rows)) 0))
+      → Holds 64 b (rowAt (raisingStep may past n regs tries s) (row (rowsOf 64 words (suc n) rows)) k)
+  unfolding rowAt joined
+  holds-plain a b l e ha hb = rw e (as-set hb
+      (with-next a l ha ∙ ap (bitOr plain) (sym (or-zero-r (joined R (only past (k + 1)))) ∙ sym (joined-append R (only past (k + 1)) []))
+      ∙ sym (onto-is R (only past (k + 1) ++ []) plain)))
+
+pub ruleset holds = (holds-level, holds-plain)
+
+pub put-is : (words n k regs : ℕ) (tries rows : List ℕ) (s : Step) (may past : Bool) (out new : List ℕ) (changed : Bool) → k < n → regs ≤ words * 64 → Small 64 rows
+    → Holds 64 new (rowAt (raisingStep may past n regs tries s) (row (rowsOf 64 words (suc n) rows)) k) → Stored rows (k * words) words new out changed
+    → Put (raisingStep may past n regs tries s) (rowsOf 64 words (suc n) rows) k (rowsOf 64 words (suc n) out) changed
+put-is words n k regs tries rows s may past out new changed l le sr h st =
+    put-row 64 words wide (suc n) rows out new k (rowAt (raisingStep may past n regs tries s) R′ k) changed (omega arith) sr h
+    (rowAt-lt (raisingStep may past n regs tries s) (words * 64) R′ k (set-lt (words * 64) regs (usedOf s) le) (rows-lt 64 words wide (suc n) rows sr)) st
+    (raisingStep may past n regs tries s) refl
+  where
+    R′ : ℕ → ℕ
+    R′ = row (rowsOf 64 words (suc n) rows)
+
+    wide : 0 < 64
+    wide = zero-lt-suc 63
+
+-- ---- the step's equation is the code's
+
+module _ (all : Bool) (w tries : List ℕ) (regs k : ℕ) (s : Step) where
+  row-same : (R : ℕ → ℕ) → StepAt w k s
+      → rowAt (raisingStep (mays all w k) (stranded (insAt w k)) (count w) regs tries s) R k ≡ rowAt (raising (mays all w) regs w tries) R k
+  unfolding rowAt raisesAt
+  row-same R h = rw (h .used, h .given, h .after)
+
+  put-same : (may past : Bool) (rows out : List ℕ) (changed : Bool) → may ≡ mays all w k → past ≡ stranded (insAt w k) → StepAt w k s
+      → Put (raisingStep may past (count w) regs tries s) rows k out changed → Put (raising (mays all w) regs w tries) rows k out changed
+  put-same may past rows out changed e e′ h p =
+      let q : Put (raisingStep (mays all w k) (stranded (insAt w k)) (count w) regs tries s) rows k out changed = rw (← e, ← e′) p in
+      record { stored = rw (row-same (row rows) h) at (q .stored); told = rw (row-same (row rows) h) at (q .told) }
+
+-- ---- handlers lie ahead, so no jump back is added
+
+below-past : (b : ℕ) (l m : List ℕ) → ((s : ℕ) → In s l → b ≤ s) → below b (l ++ m) ≡ below b m
+unfolding below
+below-past b [] m h = refl
+below-past b (x ∷ l) m h = ap (λ (t : Bool). t || below b (l ++ m)) (le-ltb x b (h x (List·Memᴰ·head refl))) ∙ below-past b l m (λ s i. h s (List·Memᴰ·tail i))
+
+pub below-same : (all : Bool) (w tries : List ℕ) (k b : ℕ) → k < count w → b ≤ k + 1 → below b (raisesAt (mays all w) w tries k ++ afterAt w k) ≡ below b (afterAt w k)
+unfolding raisesAt below
+below-same all w tries k b hi l = go (stranded (insAt w k)) (mays all w k)
+  where
+    rest : (t : Bool) → below b (cond t (handlersOf (count w) k tries) [] ++ afterAt w k) ≡ below b (afterAt w k)
+    rest true = below-past b (handlersOf (count w) k tries) (afterAt w k) (λ s m. omega (arith, handlers-past (count w) k hi tries s m .0))
+    rest false = refl
+
+    go : (p t : Bool) → below b ((only p (k + 1) ++ cond t (handlersOf (count w) k tries) []) ++ afterAt w k) ≡ below b (afterAt w k)
+    go true t = ap (λ (x : Bool). x || below b (cond t (handlersOf (count w) k tries) [] ++ afterAt w k)) (le-ltb (k + 1) b l) ∙ rest t
+    go false t = rest t
+
+-- ---- what is known between two sweeps, and in one that has come down to k
+
+pub record Between (all : Bool) (w : List ℕ) (regs : ℕ) (tries : List ℕ) (full : ℕ) (rows : List ℕ) : Type 0 where
+  pub few : count w ≤ 65535
+  pub going : Going (raising (mays all w) regs w tries) 0 0 full 0 rows
+
+pub record Turn (all : Bool) (w : List ℕ) (regs : ℕ) (tries : List ℕ) (full : ℕ) (rows₀ rows : List ℕ) (changed back : Bool) (k : ℕ) : Type 0 where
+  pub few : count w ≤ 65535
+  pub going : Going (raising (mays all w) regs w tries) 0 0 full 0 rows₀
+  pub part : Part (raising (mays all w) regs w tries) 0 rows₀ rows changed back k
+
+pub toGo : Bool → List ℕ → ℕ → List ℕ → ℕ → ℕ
+toGo all w regs tries full = togo (raising (mays all w) regs w tries) 0 full 0
+
+pub starts : (all : Bool) (w : List ℕ) (regs : ℕ) (tries : List ℕ) (words len : ℕ) (rows : List ℕ) → Valid w → rows ≡ replicate len 0 → Between all w regs tries 0 (rowsOf 64 words (suc (count w)) rows)
+starts all w regs tries words len rows v h = record { few = v .few; going = rw (h, rows-zero 64 words (zero-lt-suc 63) (suc (count w)) len) (going-start (raising (mays all w) regs w tries) 0 zero-le) }
+
+pub sweep-starts : (all : Bool) (w : List ℕ) (regs : ℕ) (tries : List ℕ) (full : ℕ) (rows : List ℕ) → Between all w regs tries full rows → Turn all w regs tries full rows rows false false (count w)
+sweep-starts all w regs tries full rows b = record { few = b .few; going = b .going; part = part-start (raising (mays all w) regs w tries) 0 0 full 0 rows (b .going) }
+
+module _ {all : Bool} {w : List ℕ} {regs : ℕ} {tries : List ℕ} {full : ℕ} {rows₀ rows : List ℕ} {changed back : Bool} {k : ℕ} (p : Turn all w regs tries full rows₀ rows changed back k) where
+  pub step : {s : Step} → StepAt w (k - 1) s → 0 < k → k ≤ count w → {level past : Bool} {i : Ins} → i ≡ insAt w (k - 1) → level ≡ isLevel i → past ≡ stranded i
+      → {out : List ℕ} {changed′ back′ : Bool}
+      → Put (raisingStep (all || level) past (count w) regs tries s) rows (k - 1) out changed′ → back′ ≡ goesBefore s k → Turn all w regs tries full rows₀ out (changed′ || changed) (back′ || back) (k - 1)
+  step {s} h l hi {level} {past} {i} place e e′ {out} {changed′} {back′} put b = record {
+    few = p .few;
+    going = p .going;
+    part = part-step (raising (mays all w) regs w tries) 0 rows₀ rows changed back k (p .part) out changed′ back′ l (below-zero (raisesAt (mays all w) w tries (k - 1) ++ afterAt w (k - 1)))
+        (put-same all w tries regs (k - 1) s (all || level) past rows out changed′ (ap (λ (t : Bool). all || t) (e ∙ ap isLevel place)) (e′ ∙ ap stranded place) h put)
+        (b ∙ below-step w (k - 1) s k h (omega arith) ∙ sym (below-same all w tries (k - 1) k (omega arith) (omega arith)));
+  }
+
+  module _ (l : k ≤ 0) where
+    pub whole-few : full + 1 < 2 ^ 32
+    whole-few = omega (arith, full-few (raising (mays all w) regs w tries) 0 0 full 0 rows₀ (p .going) rows changed back k (p .part) l, p .few)
+
+    pub whole-found : not (changed && back) ≡ true → Found (raising (mays all w) regs w tries) 0 rows (full + 1) 0
+    whole-found e = full-found (raising (mays all w) regs w tries) 0 0 full 0 rows₀ (p .going) rows changed back k (p .part) l (not-true (changed && back) e)
+
+    module _ (e : not (changed && back) ≡ false) where
+      pub whole-again : Between all w regs tries (full + 1) rows
+      whole-again = record { few = p .few; going = full-again (raising (mays all w) regs w tries) 0 0 full 0 rows₀ (p .going) rows changed back k (p .part) l (not-false (changed && back) e) }
+
+      pub whole-less : toGo all w regs tries (full + 1) < toGo all w regs tries full
+      unfolding toGo
+      whole-less = full-less (raising (mays all w) regs w tries) 0 0 full 0 rows₀ (p .going) rows changed back k (p .part) l (not-false (changed && back) e)

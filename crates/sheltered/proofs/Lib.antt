@@ -1,0 +1,4 @@
+pub mod Ahead
+pub mod Exported
+pub mod Bodies
+pub mod Saving

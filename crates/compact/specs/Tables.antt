@@ -5,7 +5,7 @@ use mathlib.Core.Bool.{cond}
 use mathlib.Core.List.{List, [], _∷_, _++_}
 use lib.ListN.{length, getD, replicate}
 use Rattle.laws.specs.Each.{each}
-use Rattle.lent.specs.Chunk.{opAt, markAt, operandAt, jumps}
+use Rattle.lent.specs.Chunk.{opAt, markAt, operandAt, originAt, jumps}
 use Rattle.compact.specs.Remap.{alive, live, remapOf, mapped}
 
 -- a jump operand maps
@@ -14,7 +14,7 @@ operandOf dead w i = cond (jumps w i) (mapped dead (operandAt w i)) (operandAt w
 
 -- what is left of instruction i: nothing of a dead one
 abbrev pub leftAt : List ℕ → List ℕ → ℕ → List ℕ
-leftAt dead w i = cond (alive dead i) (opAt w i ∷ markAt w i ∷ operandOf dead w i ∷ []) []
+leftAt dead w i = cond (alive dead i) (opAt w i ∷ markAt w i ∷ operandOf dead w i ∷ originAt w i ∷ []) []
 
 -- the live instructions, in order
 unfoldable pub left : List ℕ → List ℕ → List ℕ

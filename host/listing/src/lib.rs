@@ -6,6 +6,7 @@ pub mod figures;
 pub mod notation;
 pub mod page;
 pub mod refused;
+pub mod run;
 pub mod text;
 pub mod why;
 

@@ -1,9 +1,9 @@
 //! The command of the listing.
 
-use listing::{body, chunk, figures, notation::{self, Text}, page, refused, text, why};
+use listing::{body, chunk, figures, notation::{self, Text}, page, refused, run as runs, text, why};
 use std::{env, fs, process::ExitCode};
 
-const USE: &str = "listing FILE [--html PAGE] [--strict] [--wide] [--rows 32] [--replay TRACE] [--why K R]
+const USE: &str = "listing FILE [--html PAGE] [--strict] [--wide] [--rows 32] [--replay TRACE] [--why K R] [--run]
 listing --figures FILE.. [--html PAGE]
 FILE has a body or a chunk in the notation of document 01's examples (host/README.md); - is the standard input.
 --figures     tells of many bodies how long their lists are, and which save area a recursion needs
@@ -12,7 +12,8 @@ FILE has a body or a chunk in the notation of document 01's examples (host/READM
 --wide        takes the wide route, which looks for rows from 0 on
 --rows 32     has rows of 32 bits, where more than 32 registers take the wide route
 --replay TRACE  lays a recorded day beside the rows: visited positions, and how often each register was read
---why K R     says whether register R is needed at position K, and by which path";
+--why K R     says whether register R is needed at position K, and by which path
+--run         runs a chunk as it is, and folded and cleared in either mode, and says how each run ends";
 
 /// A number, or a register as the listing writes it.
 fn number(word: Option<String>) -> Option<usize> { word?.trim_start_matches('r').parse().ok() }
@@ -20,6 +21,7 @@ fn number(word: Option<String>) -> Option<usize> { word?.trim_start_matches('r')
 fn run() -> Result<(), String> {
     let (mut files, mut html, mut strict, mut wide, mut rows32, mut in_figures, mut trace, mut asked) =
         (vec![], None, false, false, None, false, None, None);
+    let mut in_run = false;
     let mut args = env::args().skip(1);
     while let Some(word) = args.next() {
         match word.as_str() {
@@ -28,6 +30,7 @@ fn run() -> Result<(), String> {
             "--replay" => trace = Some(args.next().ok_or("--replay wants the name of the trace")?),
             "--strict" => strict = true,
             "--wide" => wide = true,
+            "--run" => in_run = true,
             "--rows" => rows32 = Some(match args.next().as_deref() {
                 Some("32") => true,
                 Some("64") => false,
@@ -54,6 +57,7 @@ fn run() -> Result<(), String> {
     }
     let [file] = &files[..] else { return Err(USE.into()) };
     let (heading, text, table) = match read(file)? {
+        Text::Body(_) if in_run => return Err(format!("{file}: --run is for a chunk, and this is a body")),
         Text::Body(mut b) => {
             b.wide |= wide;
             b.rows32 = rows32.unwrap_or(b.rows32);
@@ -72,7 +76,8 @@ fn run() -> Result<(), String> {
         Text::Chunk(_) if trace.is_some() => return Err(format!("{file}: --replay is for a body, and this is a chunk")),
         Text::Chunk(mut c) => {
             c.strict |= strict;
-            let view = chunk::View::of(&c).map_err(|r| format!("{file}: {}", refused::chunk(r, &c)))?;
+            let mut view = chunk::View::of(&c).map_err(|r| format!("{file}: {}", refused::chunk(r, &c)))?;
+            if in_run { view.remarks.extend(runs::lines(&c).map_err(|r| format!("{file}: {}", refused::chunk(r, &c)))?) }
             (view.heading.clone(), text::chunk(&view), page::chunk(&view))
         }
     };

@@ -40,7 +40,7 @@ impl Constant {
 const INTS: std::ops::RangeInclusive<i128> = -140_737_488_355_328..=140_737_488_355_327;
 
 /// The fold of one operator over its operands. `nan` gives the bits that a NaN result becomes.
-fn folded(o: Op, operands: &[Constant], nan: &mut dyn FnMut(f64) -> u64) -> Option<Constant> {
+pub fn folded(o: Op, operands: &[Constant], nan: &mut dyn FnMut(f64) -> u64) -> Option<Constant> {
     let float = |c: Constant| match c {
         Int(i) => Some(i as f64),
         Float(f) => Some(f64::from_bits(f)),
@@ -77,7 +77,8 @@ fn folded(o: Op, operands: &[Constant], nan: &mut dyn FnMut(f64) -> u64) -> Opti
     }
 }
 
-fn whole(i: i128) -> Option<Constant> { INTS.contains(&i).then_some(Int(i as i64)) }
+/// An int in the range of folds.
+pub fn whole(i: i128) -> Option<Constant> { INTS.contains(&i).then_some(Int(i as i64)) }
 
 /// Python's integers.
 fn ints(o: Op, i: i128, j: i128) -> Option<Constant> {

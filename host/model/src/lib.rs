@@ -6,6 +6,7 @@ pub mod day;
 pub mod facts;
 pub mod figures;
 pub mod fold;
+pub mod machine;
 pub mod question;
 pub mod roles;
 pub mod rows;

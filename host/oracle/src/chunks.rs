@@ -54,6 +54,48 @@ pub fn random(rng: &mut Rng) -> Question {
     lent(rng, c)
 }
 
+/// A chunk as wish 14 has it, to be folded in strict mode: loads, operators, jumps and tests, every constant there, and room for what folds push.
+pub fn ruled(rng: &mut Rng) -> Question {
+    let constants: Vec<(u8, u64)> = (0..1 + rng.below(6)).map(|_| if rng.once_in(3) { constant(rng) } else { (1, rng.below(7) as u64) }).collect();
+    let mut c = pool(&constants, vec![]);
+    let length = 1 + rng.weighted(&[(4, 4), (8, 8), (8, 14), (2, 40)]);
+    while c.code.len() < length { ruled_piece(rng, &mut c.code, constants.len()) }
+    let n = c.code.len();
+    for k in 0..n {
+        let to = match rng.below(8) {
+            0..5 => k + 1 + rng.below(6),
+            5 => rng.pick(&[n, n + 1, 65_535]),
+            _ => rng.below(n + 1),
+        };
+        if c.code[k][1] & JUMP != 0 { c.code[k][2] = to as u16 }
+    }
+    let mut tries = vec![];
+    if rng.once_in(4) { let h = rng.below(n + 1); tries.extend([rng.below(h + 1) as u32, h as u32]) }
+    let room = constants.len() + n;
+    c.kinds.resize(room, 9);
+    c.words.resize(room, 9);
+    Question::of(Fold, [
+        ("code", Arg::U16(c.code.into_flattened())), ("kinds", Arg::U8(c.kinds)), ("words", Arg::U64(c.words)), ("constants", Arg::N(constants.len() as u64)),
+        ("phi_map", Arg::U32(vec![9; n])), ("dead", Arg::U8(vec![9; n])), ("remap", Arg::U32(vec![9; n + 1])), ("tries", Arg::U32(tries)),
+        ("landings", Arg::U64(vec![9; n + 1])), ("strict", Arg::N(1)),
+    ])
+}
+
+/// What folds, what does not since its operands are no constants, and what jumps by what was computed.
+fn ruled_piece(rng: &mut Rng, code: &mut Vec<[u16; 3]>, count: usize) {
+    let load = |rng: &mut Rng| [LoadConst.0, NAMES, rng.below(count) as u16];
+    let any = |rng: &mut Rng| if rng.once_in(3) { [rng.pick(&[LoadTrue, LoadFalse, LoadNone]).0, 0, 0] } else { load(rng) };
+    match rng.below(12) {
+        0..4 => { let (a, b) = (load(rng), load(rng)); code.extend([a, b, [rng.pick(&BINARY).0, 0, 0]]) }
+        4 => { let (a, b) = (any(rng), any(rng)); code.extend([a, b, [rng.pick(&BINARY).0, 0, 0]]) }
+        5 => { let a = any(rng); code.extend([a, [rng.pick(&[Not, Minus]).0, 0, 0]]) }
+        6 | 7 => { let a = any(rng); code.extend([a, [JumpIfFalse.0, JUMP, 0]]) }
+        8 => code.push([rng.pick(&[Jump, JumpIfFalse]).0, JUMP, 0]),
+        9 => code.push([rng.pick(&[Not, Minus, Add, Lt]).0, 0, 0]),
+        _ => { let a = any(rng); code.push(a) }
+    }
+}
+
 fn piece(rng: &mut Rng, c: &mut Chunk, count: usize) {
     let load = |rng: &mut Rng| [LoadConst.0, NAMES, if rng.once_in(30) { rng.pick(&[count, count + 1, 65_535]) } else { rng.below(count.clamp(1, 6)) } as u16];
     match rng.below(16) {

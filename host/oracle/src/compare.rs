@@ -133,7 +133,7 @@ impl Comparison {
 
     /// Round 0 is the systematic questions.
     fn job(&self, call: Call, seed: u64, round: u64, row: &mut Row) {
-        let mut rng = Rng::new(if round == 0 { 0 } else { seed }, round * 32 + call as u64);
+        let mut rng = Rng::of(if round == 0 { 0 } else { seed }, round, call);
         if round == 0 { return questions::systematic(&mut rng, call, &mut |q| self.ask(&q, row)) }
         for _ in 0..1_000 { let q = questions::random(&mut rng, call); self.ask(&q, row) }
     }

@@ -51,7 +51,7 @@ fn narrowed(mut q: Question) -> Question {
 /// Asks the questions of one round of one call, telling of each before it is asked if `each`. Says whether it came to the end: it stops
 /// at the first wrong reply, which is then the last one told.
 fn round(call: Call, seed: u64, round: u64, questions: u64, house: &mut impl House, compared: bool, each: bool) -> bool {
-    let mut rng = Rng::new(seed, round * 32 + call as u64);
+    let mut rng = Rng::of(seed, round, call);
     (0..questions).all(|k| {
         let q = narrowed(question(&mut rng, call));
         if each { println!("# {} question {k}\n{}{}", call.name(), compare::described(&q), notation::asked(&q)) }

@@ -11,6 +11,7 @@ pub mod port;
 pub mod questions;
 pub mod record;
 pub mod rng;
+pub mod runs;
 pub mod saver;
 pub mod shrink;
 pub mod traces;

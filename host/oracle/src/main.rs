@@ -1,6 +1,6 @@
 //! The command of the comparison.
 
-use oracle::{compare::{self, Comparison, Until}, hostile, model, port, question::Call, record, saver};
+use oracle::{compare::{self, Comparison, Until}, hostile, model, port, question::Call, record, runs, saver};
 use std::{env, process::ExitCode, thread};
 
 const USE: &str = "oracle [--seed S] [--rounds R | --minutes M] [--threads T]         compare the port with the Rust and the model
@@ -8,6 +8,7 @@ oracle model [--seed S] [--rounds R | --minutes M] [--threads T]   compare the m
 oracle constants [--threads T]                                     every folding operator over every pair of some 300 constants
 oracle hostile [--seed S] [--rounds R]                             hostile input, watched for bad access by guard pages and by valgrind
 oracle saver [--events E] [--seed S] [--threads T]                 random events of a saver, played on the port, the model and a plain stack
+oracle runs [--chunks C] [--seed S] [--threads T]                   random rules, run before folding, after it, after clearing and after a second fold
 oracle record FILE [--seed S]                                      write recorded answers
 --calls NAME,.. asks these calls alone; without it, every call is asked.
 A round asks 1,000 random questions of each call; the systematic questions come once, before them.";
@@ -20,6 +21,7 @@ struct Options {
     threads: usize,
     calls: Vec<Call>,
     events: Option<u64>,
+    chunks: Option<u64>,
     /// For a hostile run that another started: the questions of a round, one round only, each told, no guard pages.
     inside: bool,
     questions: u64,
@@ -31,7 +33,7 @@ struct Options {
 fn options() -> Result<Options, String> {
     let threads = thread::available_parallelism().map_or(1, usize::from);
     let mut o = Options {
-        words: vec![], seed: 1, rounds: None, minutes: None, threads, calls: vec![], events: None, inside: false, questions: 1_000, only: None, each: false, alone: false,
+        words: vec![], seed: 1, rounds: None, minutes: None, threads, calls: vec![], events: None, chunks: None, inside: false, questions: 1_000, only: None, each: false, alone: false,
     };
     let mut args = env::args().skip(1);
     while let Some(word) = args.next() {
@@ -43,6 +45,7 @@ fn options() -> Result<Options, String> {
             "--minutes" => o.minutes = Some(number(value()?)?),
             "--threads" => o.threads = number(value()?)? as usize,
             "--events" => o.events = Some(number(value()?)?),
+            "--chunks" => o.chunks = Some(number(value()?)?),
             "--questions" => o.questions = number(value()?)?,
             "--only" => o.only = Some(number(value()?)?),
             "--inside" => o.inside = true,
@@ -78,10 +81,19 @@ fn run() -> Result<bool, String> {
         println!("{played}");
         played.well()
     };
+    let ran = |chunks: u64| {
+        let ran = runs::play(port::ask, o.seed, chunks, o.threads);
+        println!("{ran}");
+        ran.well()
+    };
     match words[..] {
-        // Histories first, so that the last line is the comparison's.
-        [] => Ok((!calls.iter().any(|c| c.saves()) || played(100_000)) & compared(false, false)?),
+        // Histories and runs first, so that the last line is the comparison's.
+        [] => {
+            let before = (!calls.iter().any(|c| c.saves()) || played(100_000)) & (!calls.iter().any(|c| c.of_a_chunk()) || ran(100_000));
+            Ok(before & compared(false, false)?)
+        }
         ["saver"] => Ok(played(o.events.unwrap_or(10_000_000))),
+        ["runs"] => Ok(ran(o.chunks.unwrap_or(1_000_000))),
         ["model"] => compared(true, false),
         ["constants"] => compared(false, true),
         ["hostile"] if o.inside => {

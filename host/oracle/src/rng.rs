@@ -1,6 +1,12 @@
 //! A small random source (splitmix64): the same seed gives the same questions everywhere.
 
+use crate::question::Call;
+
 pub struct Rng(u64);
+
+/// A round has a stream for each call; there are fewer calls.
+const STREAMS: u64 = 256;
+const _: () = assert!((Call::ALL.len() as u64) < STREAMS);
 
 impl Rng {
     /// A source of its own for each seed and stream.
@@ -9,6 +15,9 @@ impl Rng {
         rng.word();
         rng
     }
+
+    /// A source of its own for each round of a call.
+    pub fn of(seed: u64, round: u64, call: Call) -> Rng { Rng::new(seed, round * STREAMS + call as u64) }
 
     pub fn word(&mut self) -> u64 {
         self.0 = self.0.wrapping_add(0x9E37_79B9_7F4A_7C15);

@@ -13,9 +13,9 @@
 
 /* The version of the calls that this header declares. */
 #define TURNIPLOOM_VERSION_MAJOR 0
-#define TURNIPLOOM_VERSION_MINOR 1
+#define TURNIPLOOM_VERSION_MINOR 2
 #define TURNIPLOOM_VERSION_PATCH 0
-#define TURNIPLOOM_VERSION "0.1.0"
+#define TURNIPLOOM_VERSION "0.2.0"
 
 /* The words of an instruction, of code and of a chunk, and the limits of what is lent. */
 #define TURNIPLOOM_CODE_WORDS 6

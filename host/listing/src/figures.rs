@@ -1,6 +1,6 @@
 //! A month of scripts in figures: a line for each body, how long the lists are, and the save area that a recursion needs.
 
-use crate::{body, count, notation::Body, page::escaped};
+use crate::{count, found, notation::Body, page::escaped};
 use std::fmt::Write;
 use turniploom::{Figures, Refusal};
 
@@ -30,7 +30,7 @@ impl View {
     /// The refusal of its kept-register call, or of the figures.
     pub fn add(&mut self, file: &str, body: &Body) -> Result<(), Refusal> {
         let words = body.words();
-        let kept = turniploom::kept(&words, body.registers, &body::tries(body)?, body.wide)?;
+        let kept = turniploom::kept(&words, body.registers, &found::tries(body)?, body.wide)?;
         let figures = Figures::of(&words, &kept)?;
         self.all.join(&figures)?;
         for level in kept.levels() {

@@ -38,6 +38,7 @@ pub fn words(code: &[Ins]) -> &[u16] {
 
 /// An exported call.
 #[derive(Clone, Copy, Debug)]
+#[non_exhaustive]
 pub struct Call {
     /// Its name; the archive has it as `turniploom_NAME`.
     pub name: &'static str,
@@ -53,6 +54,7 @@ pub struct Call {
 
 /// A parameter.
 #[derive(Clone, Copy, Debug, PartialEq, Eq)]
+#[non_exhaustive]
 pub struct Param {
     /// Its name.
     pub name: &'static str,

@@ -14,7 +14,7 @@ use Rattle.laws.specs.Each.{each}
 use Rattle.lent.specs.Chunk.{stride, opAt, markAt, operandAt, originAt}
 use Rattle.lent.proofs.Counting.{many-le, zeros-at}
 use Rattle.compact.specs.Remap.{alive, live}
-use Rattle.compact.specs.Tables.{operandOf, leftAt, left, compacted}
+use Rattle.compact.specs.Tables.{operandOf, wordsOf, leftAt, left, compacted}
 use Rattle.compact.proofs.Moves.{live-on}
 
 -- a live position goes below what a later one has before it
@@ -45,9 +45,6 @@ from dead (suc n) k h = go (eqb (getD dead n 0) 0) refl (ltb k (live dead n)) re
         absurd (omega (arith, ltb-false k (live dead n) q))
 
 -- ---- the words of a live instruction
-
-abbrev wordsOf : List ℕ → List ℕ → ℕ → List ℕ
-wordsOf dead w k = opAt w k ∷ markAt w k ∷ operandOf dead w k ∷ originAt w k ∷ []
 
 module _ (dead w : List ℕ) where
   left-on : (k : ℕ) → getD dead k 0 ≡ 0 → leftAt dead w k ≡ wordsOf dead w k

@@ -17,7 +17,7 @@ use Rattle.laws.proofs.Each.{each-more, each-word, each-at}
 use Rattle.laws.proofs.InPlace.{Walked, walk-none, walk-read, walk-pass, walk-put, walk-three, walk-at, walk-as, walk-count, walk-whole, word-put}
 use Rattle.lent.specs.Chunk.{stride, opAt, markAt, operandAt, originAt, jumps}
 use Rattle.compact.specs.Remap.{alive, live, Remap, remapOf, mapped}
-use Rattle.compact.specs.Tables.{operandOf, leftAt, left, compacted, pairAt, placed, movedAll, Compacted}
+use Rattle.compact.specs.Tables.{operandOf, wordsOf, leftAt, left, compacted, pairAt, placed, movedAll, Compacted}
 
 -- ---- remap
 
@@ -86,8 +86,7 @@ module _ (dead w : List ℕ) (i : ℕ) where
       → set (set (set (set w a o) b m) d v) f u ≡ set (set (set (set w a (opAt w i)) b (markAt w i)) d (operandOf dead w i)) f (originAt w i)
   four-words o m v u a b d f p q r s = rw (p, q, r, s)
 
-  left-on : getD dead i 0 ≡ 0
-      → each (leftAt dead w) (i + 1) ≡ each (leftAt dead w) i ++ (opAt w i ∷ markAt w i ∷ operandOf dead w i ∷ originAt w i ∷ [])
+  left-on : getD dead i 0 ≡ 0 → each (leftAt dead w) (i + 1) ≡ each (leftAt dead w) i ++ wordsOf dead w i
   left-on e = each-more (leftAt dead w) i ∙ rw (eq-eqb (getD dead i 0) 0 e)
 
   left-off : (getD dead i 0 ≡ 0 → ⊥) → each (leftAt dead w) (i + 1) ≡ each (leftAt dead w) i

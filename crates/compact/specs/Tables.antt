@@ -12,9 +12,13 @@ use Rattle.compact.specs.Remap.{alive, live, remapOf, mapped}
 unfoldable pub operandOf : List ℕ → List ℕ → ℕ → ℕ
 operandOf dead w i = cond (jumps w i) (mapped dead (operandAt w i)) (operandAt w i)
 
+-- the words of instruction i as it survives: its origin with it
+abbrev pub wordsOf : List ℕ → List ℕ → ℕ → List ℕ
+wordsOf dead w i = opAt w i ∷ markAt w i ∷ operandOf dead w i ∷ originAt w i ∷ []
+
 -- what is left of instruction i: nothing of a dead one
 abbrev pub leftAt : List ℕ → List ℕ → ℕ → List ℕ
-leftAt dead w i = cond (alive dead i) (opAt w i ∷ markAt w i ∷ operandOf dead w i ∷ originAt w i ∷ []) []
+leftAt dead w i = cond (alive dead i) (wordsOf dead w i) []
 
 -- the live instructions, in order
 unfoldable pub left : List ℕ → List ℕ → List ℕ

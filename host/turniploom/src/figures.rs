@@ -24,7 +24,6 @@ pub struct Figures {
 
 /// The longest list of a group, and where it stands first.
 #[derive(Clone, Copy, Debug, PartialEq, Eq, Hash)]
-#[non_exhaustive]
 pub struct Longest {
     /// Its registers.
     pub length: u64,

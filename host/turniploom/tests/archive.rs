@@ -162,7 +162,7 @@ fn a_host_that_saves_frames() {
 #[test]
 fn a_host_that_leaves_no_room_is_not_built() {
     let folder = folder("closed");
-    let main = include_str!("closed/main.rs");
+    let main = include_str!("closed/host.rs");
     host(&folder, "closed", here(), main);
     let manifest = fs::read_to_string(folder.join("Cargo.toml")).unwrap().replace(" }", ", default-features = false }");
     fs::write(folder.join("Cargo.toml"), manifest).unwrap();

@@ -1,6 +1,6 @@
 //! A host that takes the fields, numbers and kinds of today for all that there will be. A line that ends in `//= E` and a number must be refused with that error, and
 //! no other line; the lines between show what a host may do.
-use turniploom::{Chunk, Constant, Day, Instruction, Kept, Longest, Refusal, Touched, abi::{Call, Kind, Param}, op::PopTop};
+use turniploom::{Chunk, Constant, Day, Instruction, Kept, Refusal, Touched, abi::{Call, Kind, Param}, op::PopTop};
 
 fn matched(refusal: Refusal, kind: Kind) -> u8 {
     let number = match refusal { //= E0004
@@ -15,12 +15,11 @@ fn matched(refusal: Refusal, kind: Kind) -> u8 {
     number + width + match refusal { Refusal::Nothing => 1, _ => 0 } + match kind { Kind::Bool => 1, _ => 0 }
 }
 
-fn taken(kept: Kept, touched: Touched, day: Day, longest: Longest) -> usize {
+fn taken(kept: Kept, touched: Touched, day: Day) -> usize {
     let Touched { used, given_up, written } = touched; //= E0638
     let Day { steps, levels, reads } = day; //= E0638
-    let Longest { length, body, position } = longest; //= E0638
     let Kept { rows, words, .. } = kept;
-    used.len() + given_up.len() + written.len() + reads.len() + rows.len() + words + (steps + levels + length + body + position) as usize
+    used.len() + given_up.len() + written.len() + reads.len() + rows.len() + words + (steps + levels) as usize
 }
 
 fn made() -> (Chunk, Instruction) {

@@ -27,7 +27,7 @@ start =
     (goes {k = 3} {j = 4} {t = []} (omega arith) refl (goes {k = 4} {j = 5} {t = Known (Truth true) ∷ []} (omega arith) refl (ends {k = 5} (omega arith))))))
 
 -- P13: LoadConst 0; LoadConst 1; Add; Jump 2, with room for a constant more. At the second Add the stack is short.
-pub p13 : Ends (op.LoadConst ∷ 2 ∷ 0 ∷ 0 ∷ op.LoadConst ∷ 2 ∷ 1 ∷ 1 ∷ op.Add ∷ 0 ∷ 0 ∷ 2 ∷ op.Jump ∷ 1 ∷ 2 ∷ 3 ∷ []) (1 ∷ 1 ∷ 9 ∷ []) (2 ∷ 3 ∷ 9 ∷ []) 4 (Short (Binop Add) (Known (Int (pos 5)) ∷ []))
+pub p13 : Ends (op.LoadConst ∷ 2 ∷ 0 ∷ 0 ∷ op.LoadConst ∷ 2 ∷ 1 ∷ 0 ∷ op.Add ∷ 0 ∷ 0 ∷ 0 ∷ op.Jump ∷ 1 ∷ 2 ∷ 0 ∷ []) (1 ∷ 1 ∷ 9 ∷ []) (2 ∷ 3 ∷ 9 ∷ []) 4 (Short (Binop Add) (Known (Int (pos 5)) ∷ []))
 unfolding act apply answer binopV foldBinop ints inRange ins read plain pushOf kindOf page toVal
 p13 =
     goes {k = 0} {j = 1} {t = Known (Int (pos 2)) ∷ []} (omega arith) refl
@@ -37,7 +37,7 @@ p13 =
 
 -- the plain mode leaves LoadConst 2; Jump 1, which never ends
 abbrev plainly : ℕ → Ins
-plainly = ins (op.LoadConst ∷ 2 ∷ 2 ∷ 0 ∷ op.Jump ∷ 1 ∷ 1 ∷ 3 ∷ 0 ∷ 0 ∷ 0 ∷ 0 ∷ 0 ∷ 0 ∷ 0 ∷ 0 ∷ []) (1 ∷ 1 ∷ 1 ∷ []) (2 ∷ 3 ∷ 5 ∷ [])
+plainly = ins (op.LoadConst ∷ 2 ∷ 2 ∷ 0 ∷ op.Jump ∷ 1 ∷ 1 ∷ 0 ∷ 0 ∷ 0 ∷ 0 ∷ 0 ∷ 0 ∷ 0 ∷ 0 ∷ 0 ∷ []) (1 ∷ 1 ∷ 1 ∷ []) (2 ∷ 3 ∷ 5 ∷ [])
 
 pub endless : {k : ℕ} {s : Stack} {e : End} → Run plainly 2 k s e → k ≡ 1 → ⊥
 unfolding act ins read plain kindOf page
@@ -53,8 +53,8 @@ plain-loses (stops {e = e} h q) = let b : At 1 (Known (Int (pos 5)) ∷ []) ≡ 
 plain-loses (goes {j = j} {t = t} h q run) = let b : At 1 (Known (Int (pos 5)) ∷ []) ≡ At j t = q in endless run (let y : j ≡ 1 = cc in y)
 
 -- the plain mode does not keep what `keeps-runs` says of the strict one
-pub plain-breaks : Same (op.LoadConst ∷ 2 ∷ 0 ∷ 0 ∷ op.LoadConst ∷ 2 ∷ 1 ∷ 1 ∷ op.Add ∷ 0 ∷ 0 ∷ 2 ∷ op.Jump ∷ 1 ∷ 2 ∷ 3 ∷ []) (1 ∷ 1 ∷ 9 ∷ []) (2 ∷ 3 ∷ 9 ∷ []) 4
-    (op.LoadConst ∷ 2 ∷ 2 ∷ 0 ∷ op.Jump ∷ 1 ∷ 1 ∷ 3 ∷ 0 ∷ 0 ∷ 0 ∷ 0 ∷ 0 ∷ 0 ∷ 0 ∷ 0 ∷ []) (1 ∷ 1 ∷ 1 ∷ []) (2 ∷ 3 ∷ 5 ∷ []) 2 → ⊥
+pub plain-breaks : Same (op.LoadConst ∷ 2 ∷ 0 ∷ 0 ∷ op.LoadConst ∷ 2 ∷ 1 ∷ 0 ∷ op.Add ∷ 0 ∷ 0 ∷ 0 ∷ op.Jump ∷ 1 ∷ 2 ∷ 0 ∷ []) (1 ∷ 1 ∷ 9 ∷ []) (2 ∷ 3 ∷ 9 ∷ []) 4
+    (op.LoadConst ∷ 2 ∷ 2 ∷ 0 ∷ op.Jump ∷ 1 ∷ 1 ∷ 0 ∷ 0 ∷ 0 ∷ 0 ∷ 0 ∷ 0 ∷ 0 ∷ 0 ∷ 0 ∷ []) (1 ∷ 1 ∷ 1 ∷ []) (2 ∷ 3 ∷ 5 ∷ []) 2 → ⊥
 plain-breaks same = plain-loses (same .ends _ p13)
 
 -- none is false: LoadNone; JumpIfFalse 3; LoadTrue leaves nothing

@@ -1,9 +1,9 @@
 //! What the listing of a chunk shows: what folded into what.
 
-use crate::{and, count, notation::{Chunk, constant_text, instruction_text}, unfolded::resultless};
+use crate::{and, count, notation::{self, Chunk, constant_text, instruction_text, was}, unfolded::resultless};
 use model::facts::fact;
 use std::collections::BTreeMap;
-use turniploom::{JUMP, NAMES, Op, Refusal, op};
+use turniploom::{JUMP, NAMES, Op, Refusal, abi::CHUNK_WORDS, op};
 
 /// A chunk before and after.
 pub struct View {
@@ -18,6 +18,8 @@ pub struct Line {
     pub text: String,
     /// Its new place and what stands there.
     pub after: Option<(usize, String)>,
+    /// The origin that stands there.
+    pub was: u16,
     /// The first operand it died into.
     pub into: Option<usize>,
     /// Whether something folded into it.
@@ -30,6 +32,7 @@ pub struct Line {
 /// A chunk as the folding call left it, the dead marks of its old positions, and what became of its tables.
 struct Folded {
     code: Vec<[u16; 3]>,
+    origins: Vec<u16>,
     constants: Vec<(u8, u64)>,
     dead: Vec<bool>,
     stmt_pos: Vec<u32>,
@@ -43,8 +46,8 @@ struct Folded {
     shipped: Shipped,
 }
 
-/// Code and constants.
-type Shipped = (Vec<[u16; 3]>, Vec<(u8, u64)>);
+/// Code with its origins, and constants.
+type Shipped = (Vec<u16>, Vec<(u8, u64)>);
 
 /// Where jumps and handlers land, and the nearest instruction before each that was there when its operator was looked at.
 struct Index {
@@ -74,11 +77,11 @@ impl View {
         let n = chunk.code.len();
         let line = |k: usize| {
             let comment = chunk.comments.get(k).cloned().unwrap_or_default();
-            Line { text: shown(chunk.code[k], &chunk.constants), after: None, into: None, result: false, notes: vec![], comment }
+            Line { text: shown(chunk.code[k], &chunk.constants) + &was(chunk.origins[k], k), after: None, was: chunk.origins[k], into: None, result: false, notes: vec![], comment }
         };
         let mut before: Vec<Line> = (0..n).map(line).collect();
         let live = before.iter_mut().zip(&folded.dead).filter(|(_, dead)| !**dead);
-        for (to, (line, _)) in live.enumerate() { line.after = Some((to, shown(folded.code[to], &folded.constants))) }
+        for (to, (line, _)) in live.enumerate() { (line.after, line.was) = (Some((to, shown(folded.code[to], &folded.constants))), folded.origins[to]) }
         let index = Index::of(chunk, &folded.dead);
         for k in 0..n { note(chunk, &folded, &index, k, &mut before) }
         let mode = if chunk.strict { "strict" } else { "plain" };
@@ -86,7 +89,8 @@ impl View {
         let heading = format!("a chunk of {}, {}{tries}; {mode} mode", count(n, "instruction"), count(chunk.constants.len(), "constant"));
         let remarks = remarks(chunk, &folded);
         let Folded { shipped: (code, constants), phi_map, phi_sources, stmt_pos, call_byte_pos, tries, .. } = folded;
-        let ships = Chunk { code, constants, phi_map, phi_sources, stmt_pos, call_byte_pos, tries, strict: chunk.strict, ..Chunk::default() };
+        let (code, origins) = notation::parted(&code);
+        let ships = Chunk { code, origins, constants, phi_map, phi_sources, stmt_pos, call_byte_pos, tries, strict: chunk.strict, ..Chunk::default() };
         Ok(View { heading, before, remarks, ships })
     }
 }
@@ -118,11 +122,13 @@ fn fold(chunk: &Chunk) -> Result<Folded, Refusal> {
     ).granted()?;
     phi_map.truncate(a.third as usize);
     sources.truncate(a.fourth as usize);
-    let code: Vec<[u16; 3]> = code.chunks(3).take(a.first as usize).map(|w| [w[0], w[1], w[2]]).collect();
+    code.truncate(CHUNK_WORDS * a.first as usize);
     let constants: Vec<(u8, u64)> = (0..a.second as usize).map(|k| (kinds[k], values[k])).collect();
+    let (left, origins) = notation::parted(&code);
     Ok(Folded {
-        shipped: shipped(&code, &constants)?,
-        code,
+        shipped: shipped(code, &constants)?,
+        code: left,
+        origins,
         constants,
         dead: dead.iter().map(|&d| d != 0).collect(),
         stmt_pos: stmts,
@@ -135,10 +141,9 @@ fn fold(chunk: &Chunk) -> Result<Folded, Refusal> {
 }
 
 /// What the clearing call leaves.
-fn shipped(code: &[[u16; 3]], constants: &[(u8, u64)]) -> Result<Shipped, Refusal> {
+fn shipped(mut code: Vec<u16>, constants: &[(u8, u64)]) -> Result<Shipped, Refusal> {
     let (mut kinds, mut values): (Vec<u8>, Vec<u64>) = constants.iter().copied().unzip();
-    let mut code = code.to_vec();
-    let a = turniploom::abi::clear(code.as_flattened_mut(), &mut kinds, &mut values, constants.len(), &mut vec![0; constants.len()]).granted()?;
+    let a = turniploom::abi::clear(&mut code, &mut kinds, &mut values, constants.len(), &mut vec![0; constants.len()]).granted()?;
     Ok((code, (0..a.first as usize).map(|k| (kinds[k], values[k])).collect()))
 }
 

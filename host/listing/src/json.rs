@@ -68,7 +68,7 @@ fn body(view: &body::View) -> String {
 
 fn chunk(view: &chunk::View) -> String {
     let lines = view.before.iter().enumerate().map(|(k, l)| {
-        let after = l.after.as_ref().map(|(to, text)| format!("{{\"at\":{to},\"instruction\":{}}}", quoted(text)));
+        let after = l.after.as_ref().map(|(to, text)| format!("{{\"at\":{to},\"instruction\":{},\"was\":{}}}", quoted(text), l.was));
         let into = l.into.map(|to| to.to_string());
         format!("\n{{\"at\":{k},\"instruction\":{},\"after\":{},\"into\":{},\"notes\":{},\"comment\":{}}}", quoted(&l.text), or_null(after), or_null(into), texts(&l.notes), quoted(&l.comment))
     });

@@ -24,6 +24,8 @@ pub struct Body {
 #[derive(Clone, Debug, Default, PartialEq, Eq)]
 pub struct Chunk {
     pub code: Vec<[u16; 3]>,
+    /// Where each instruction stood in the script as first compiled.
+    pub origins: Vec<u16>,
     pub tail: Vec<u16>,
     /// A kind and a word each.
     pub constants: Vec<(u8, u64)>,
@@ -75,7 +77,18 @@ impl Body {
 }
 
 impl Chunk {
-    pub fn words(&self) -> Vec<u16> { [self.code.as_flattened(), &self.tail].concat() }
+    pub fn words(&self) -> Vec<u16> { [words(&self.code, &self.origins), self.tail.clone()].concat() }
+
+    /// The same with every instruction's position as its origin.
+    pub fn unmoved(&self) -> Chunk { Chunk { origins: (0..self.code.len()).map(|k| k as u16).collect(), ..self.clone() } }
+}
+
+/// The lent words of this code with these origins.
+pub fn words(code: &[[u16; 3]], origins: &[u16]) -> Vec<u16> { code.iter().zip(origins).flat_map(|(&[o, marks, operand], &origin)| [o, marks, operand, origin]).collect() }
+
+/// The code and the origins of lent words.
+pub fn parted(words: &[u16]) -> (Vec<[u16; 3]>, Vec<u16>) {
+    words.as_chunks::<{ abi::CHUNK_WORDS }>().0.iter().map(|&[o, marks, operand, origin]| ([o, marks, operand], origin)).unzip()
 }
 
 /// Reads a text, past a mark of its byte order.
@@ -114,6 +127,8 @@ struct Entry {
     /// Marks by word, and marks by number, which leave no default.
     marks: u16,
     exact: Option<u16>,
+    /// Where it stood, if it is said.
+    origin: Option<u16>,
     line: usize,
     comment: String,
 }
@@ -201,9 +216,10 @@ impl Reader {
     }
 
     fn instruction(&mut self, name: &str, fields: &[&str], line: usize) -> Read<()> {
-        let mut entry = Entry { op: Op::OTHER, fields: [None; 4], marks: 0, exact: None, line, comment: String::new() };
+        let mut entry = Entry { op: Op::OTHER, fields: [None; 4], marks: 0, exact: None, origin: None, line, comment: String::new() };
         let read = opcode(name).and_then(|op| {
             entry.op = op;
+            let fields = self.origin(&mut entry, name, fields)?;
             fields.iter().try_for_each(|word| self.field(&mut entry, name, word))
         });
         // It takes its position even if it is wrong.
@@ -212,7 +228,18 @@ impl Reader {
     }
 
     /// An instruction that is not there takes its position all the same.
-    fn unread(&mut self, line: usize) { self.entries.push(Entry { op: Op::OTHER, fields: [None; 4], marks: 0, exact: None, line, comment: String::new() }) }
+    fn unread(&mut self, line: usize) { self.entries.push(Entry { op: Op::OTHER, fields: [None; 4], marks: 0, exact: None, origin: None, line, comment: String::new() }) }
+
+    /// Takes `was 12` from the end of an instruction of a chunk.
+    fn origin<'a>(&self, entry: &mut Entry, name: &str, fields: &'a [&'a str]) -> Read<&'a [&'a str]> {
+        match fields {
+            [front @ .., "was", origin] if self.chunk => {
+                entry.origin = Some(number(origin, &format!("{name}: `was`"))?);
+                Ok(front)
+            }
+            _ => Ok(fields),
+        }
+    }
 
     fn field(&self, entry: &mut Entry, name: &str, word: &str) -> Read<()> {
         let mark = match word {
@@ -248,6 +275,7 @@ impl Reader {
         if self.chunk {
             let of = |e: &Entry| [e.op.0, e.exact.unwrap_or(usual_marks(e.op)) | e.marks, e.fields[0].unwrap_or(0)];
             return Ok(Text::Chunk(Chunk {
+                origins: self.entries.iter().enumerate().map(|(k, e)| e.origin.unwrap_or(k as u16)).collect(),
                 code: self.entries.iter().map(of).collect(), tail: self.tail, constants: self.constants, phi_map: self.phi_map,
                 phi_sources: self.phi_sources, stmt_pos: self.stmt_pos, call_byte_pos: self.call_byte_pos, tries: self.tries,
                 strict: self.strict, lines, comments,
@@ -380,6 +408,9 @@ pub fn instruction_text([o, marks, operand]: [u16; 3]) -> String {
     format!("{o}{operand}{mark}")
 }
 
+/// Where the instruction at `k` stood, if not there.
+pub fn was(origin: u16, k: usize) -> String { if usize::from(origin) == k { String::new() } else { format!(" was {origin}") } }
+
 fn listed<T: ToString>(word: &str, table: &[T]) -> String {
     if table.is_empty() { return String::new() }
     format!("{word} {}\n", table.iter().map(T::to_string).collect::<Vec<_>>().join(" "))
@@ -404,7 +435,7 @@ impl fmt::Display for Chunk {
         write!(f, "{}{}{}", listed("constants", &constants), listed("phi_map", &self.phi_map), listed("phi_sources", &self.phi_sources))?;
         write!(f, "{}{}", listed("stmt_pos", &self.stmt_pos), listed("call_byte_pos", &self.call_byte_pos))?;
         for pair in self.tries.chunks(2) { write!(f, "{}", listed("try", pair))? }
-        for (k, &i) in self.code.iter().enumerate() { writeln!(f, "{k} {}", instruction_text(i))? }
+        for (k, (&i, &origin)) in self.code.iter().zip(&self.origins).enumerate() { writeln!(f, "{k} {}{}", instruction_text(i), was(origin, k))? }
         write!(f, "{}", listed("words", &self.tail))
     }
 }
@@ -428,7 +459,8 @@ pub fn asked(q: &Question) -> String {
         };
         return body.to_string();
     }
-    let whole = words.len() / 3 * 3;
+    let whole = words.len() / abi::CHUNK_WORDS * abi::CHUNK_WORDS;
+    let (code, origins) = parted(words);
     // The clearing call has no table but the constants.
     let takes = |name: &str| q.call.takes(name);
     let counted = |count: &str, have: usize| (q.n(count) as usize).min(have);
@@ -441,7 +473,8 @@ pub fn asked(q: &Question) -> String {
     };
     let narrow = |t: Vec<u64>| t.into_iter().map(|w| w as u32).collect();
     Chunk {
-        code: words[..whole].chunks(3).map(|w| [w[0], w[1], w[2]]).collect(),
+        code,
+        origins,
         tail: words[whole..].to_vec(),
         constants: (1..=constants).map(|k| (kinds[k] as u8, values[k])).collect(),
         phi_map: narrow(table("phi_map", "phi_map_count")),

@@ -1,6 +1,6 @@
 //! The listing as one self-contained page: for a wide screen and a phone, light and dark, on paper and read aloud.
 
-use crate::{body::{self, Level, registers}, chunk, command::Listed, count, lanes, text, whose, why};
+use crate::{body::{self, Level, registers}, chunk, command::Listed, count, lanes, notation::was, text, whose, why};
 use std::fmt::Write;
 
 pub fn escaped(text: &str) -> String { text.replace('&', "&amp;").replace('<', "&lt;").replace('>', "&gt;").replace('"', "&quot;") }
@@ -174,7 +174,7 @@ pub fn chunk(view: &chunk::View) -> String {
         let group = if l.result || l.into.is_some() { format!(" class=\"group{colour}\"") } else { String::new() };
         write!(out, "<tr{group}><th scope=\"row\">{k}</th><td class=\"ins{}\">{}</td>", if l.after.is_none() { " dead" } else { "" }, escaped(&l.text)).unwrap();
         match (&l.after, l.into) {
-            (Some((to, text)), _) => write!(out, "<td class=\"arrow\">→</td><td class=\"at\">{to}</td><td class=\"code\">{}</td>", escaped(text)).unwrap(),
+            (Some((to, text)), _) => write!(out, "<td class=\"arrow\">→</td><td class=\"at\">{to}</td><td class=\"code\">{}{}</td>", escaped(text), was(l.was, *to)).unwrap(),
             (None, Some(to)) => write!(out, "<td class=\"arrow\">↗</td><td></td><td class=\"code\">into {to}</td>").unwrap(),
             (None, None) => out += "<td class=\"arrow\">×</td><td></td><td></td>",
         }

@@ -1,6 +1,6 @@
 //! The listing as text.
 
-use crate::{body::{self, Level, registers}, chunk, lanes};
+use crate::{body::{self, Level, registers}, chunk, lanes, notation::was};
 use std::fmt::Write;
 
 /// The widest picture.
@@ -104,7 +104,7 @@ fn legend(view: &body::View) -> String {
 pub fn chunk(view: &chunk::View) -> String {
     let place = view.before.len().to_string().len();
     let before: Vec<String> = view.before.iter().enumerate().map(|(k, l)| format!("{k:>place$} {}", l.text)).collect();
-    let after: Vec<String> = view.before.iter().map(|l| l.after.as_ref().map_or(String::new(), |(k, text)| format!("{k:>place$} {text}"))).collect();
+    let after: Vec<String> = view.before.iter().map(|l| l.after.as_ref().map_or(String::new(), |(k, text)| format!("{k:>place$} {text}{}", was(l.was, *k)))).collect();
     let (left, right) = (widest(before.iter().map(String::as_str)).max("before".len() + place + 1), widest(after.iter().map(String::as_str)).max("after".len() + place + 1));
     let mut out = String::new();
     let mut line = |a: &str, mark: char, b: &str, note: &str| writeln!(out, "{}", format!("{}  {mark}  {}  {note}", pad(a, left), pad(b, right)).trim_end()).unwrap();

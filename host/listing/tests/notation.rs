@@ -46,6 +46,17 @@ fn marks_are_the_rusts_own_tests_unless_said() {
     assert_eq!(chunk(named).to_string(), named);
 }
 
+/// An instruction of a chunk has its position as origin, unless its text says where it was.
+#[test]
+fn where_an_instruction_was() {
+    let text = "chunk\n0 LoadTrue was 12\n1 PopTop\n2 LoadName 2 names was 0\n";
+    assert_eq!((chunk(text).origins, chunk(text).to_string()), (vec![12, 1, 0], text.to_string()));
+    assert_eq!(chunk(text).words(), [op::LoadTrue.0, 0, 0, 12, op::PopTop.0, 0, 0, 1, op::LoadName.0, 2, 2, 0]);
+    assert_eq!(wrong("chunk\nAdd was 65536"), (2, "Add: `was`: 65536 is too large".into()));
+    assert_eq!(wrong("chunk\nAdd was 1 jump").1, "Add: `was` is no field (a, b, c, x, m with a number) and no mark");
+    assert_eq!(wrong("registers 4\nMove a1 was 1").1, "Move: `was` is no field (a, b, c, x, m with a number) and no mark");
+}
+
 #[test]
 fn tries_of_a_chunk() {
     let text = "chunk\nstrict\ntry 0 2\ntry 1 4294967295\n0 PopTop\n";

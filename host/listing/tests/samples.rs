@@ -65,7 +65,7 @@ fn both_widths() {
 #[test]
 fn p13() {
     let (text, _) = listed("P13.txt");
-    assert!(text.contains("0 LoadConst 0 (2)  →  0 LoadConst 2 (5)  2 + 3 = 5, new constant 2") && text.contains("3 Jump 2           →  1 Jump 1"), "{text}");
+    assert!(text.contains("0 LoadConst 0 (2)  →  0 LoadConst 2 (5)  2 + 3 = 5, new constant 2") && text.contains("3 Jump 2           →  1 Jump 1 was 3"), "{text}");
 }
 
 #[test]
@@ -73,14 +73,14 @@ fn a_handler_in_the_middle_of_a_group() {
     let (text, _) = listed("handler.txt");
     assert!(text.starts_with(
         "  before                after
-0 LoadConst 0 (4)  →  0 LoadConst 4 (20)  4 * 5 = 20, new constant 4
+0 LoadConst 0 (4)  →  0 LoadConst 4 (20)       4 * 5 = 20, new constant 4
 1 LoadConst 1 (5)  ┘
 2 Mul              ┘
-3 PopTop           →  1 PopTop
-4 LoadConst 2 (2)  →  2 LoadConst 2 (2)
-5 LoadConst 3 (3)  →  3 LoadConst 3 (3)   handler of the try at 0
-6 Add              →  4 Add               not folded: the handler of the try at 0 is at 5
-7 Jump 4           →  5 Jump 2            to 4, now 2
+3 PopTop           →  1 PopTop was 3
+4 LoadConst 2 (2)  →  2 LoadConst 2 (2) was 4
+5 LoadConst 3 (3)  →  3 LoadConst 3 (3) was 5  handler of the try at 0
+6 Add              →  4 Add was 6              not folded: the handler of the try at 0 is at 5
+7 Jump 4           →  5 Jump 2 was 7           to 4, now 2
 "), "{text}");
     assert!(text.contains("tries moved: 0 5 to 0 3.\nJumps and handlers that land in what is left: 1 on 2, 1 on 3.\n"), "{text}");
 }
@@ -160,7 +160,7 @@ fn expressions_are_bracketed() {
 fn the_code_as_it_ships() {
     let text = listed("handler.txt").0;
     let (_, ships) = text.split_once("\nAs it ships, folded and cleared:\n\n").unwrap();
-    assert_eq!(ships, "chunk\nstrict\nconstants 2 3 20\ntry 0 3\n0 LoadConst 2\n1 PopTop\n2 LoadConst 0\n3 LoadConst 1\n4 Add\n5 Jump 2\n");
+    assert_eq!(ships, "chunk\nstrict\nconstants 2 3 20\ntry 0 3\n0 LoadConst 2\n1 PopTop was 3\n2 LoadConst 0 was 4\n3 LoadConst 1 was 5\n4 Add was 6\n5 Jump 2 was 7\n");
     assert!(shown(ships).0.contains("Nothing folded."));
 }
 

@@ -23,7 +23,7 @@ fn taken(kept: Kept, touched: Touched, day: Day) -> usize {
 }
 
 fn made() -> (Chunk, Instruction) {
-    let instruction = Instruction { opcode: PopTop, marks: 0, operand: 0 }; //= E0639
+    let instruction = Instruction { opcode: PopTop, marks: 0, operand: 0, origin: None }; //= E0639
     let chunk = Chunk { instructions: vec![instruction], constants: vec![Constant::Int(1)], ..Chunk::default() }; //= E0639
     let mut grown = Chunk::new(vec![Instruction::new(PopTop, 0)], vec![]);
     grown.tries = vec![(0, 1)];

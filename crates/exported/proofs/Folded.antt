@@ -11,8 +11,8 @@ use Rattle.lent.specs.Check.{checkOf}
 use Rattle.lent.specs.declared.Counts.{Counts}
 use Rattle.optimizer.specs.Fold.{Called}
 use Rattle.optimizer.specs.declared.Folded.{Folded}
-use Rattle.optimizer.specs.declared.FoldAnswer.{FoldAnswer}
-use Rattle.optimizer.specs.declared.FoldAnswer.the-variants.{Is, No}
+use Rattle.optimizer.specs.Fold.{FoldAnswer}
+use Rattle.optimizer.specs.Fold.{Is, No}
 use Rattle.clear.specs.Unused.{AllNear}
 use Rattle.clear.specs.Clear as clearing
 use Rattle.clear.specs.Clear.{clearCall}

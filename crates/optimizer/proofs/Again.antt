@@ -45,7 +45,7 @@ use Rattle.phi_pass.specs.Phi.{marked}
 use Rattle.phi_pass.proofs.Pairs.{marked-length}
 use Rattle.finish.specs.Finish.{Tables, tables, mapOf, sourcesOf, renewed, finished}
 use Rattle.optimizer.specs.Fold.{Buffers, lensOf, needed, outcome, foldPass, constantFold, joined, foldLent, called, rejoined, foldCall}
-use Rattle.optimizer.specs.declared.FoldAnswer.the-variants.{No}
+use Rattle.optimizer.specs.Fold.{No}
 use Rattle.optimizer.proofs.Ruled.{Ruled, no-words, ruled-of}
 use Rattle.optimizer.proofs.Tested.{held-of}
 use Rattle.optimizer.proofs.Whole.{pass-kept}

@@ -16,7 +16,7 @@ use Rattle.lent.specs.declared.Counts.{Counts}
 use Rattle.fold.specs.Pass.{byScan}
 use Rattle.optimizer.specs.Fold.{Buffers, lensOf, needed, outcome, constantFold, joined, foldLent, called, rejoined, foldCall, Held, Exact}
 use Rattle.optimizer.specs.declared.Folded.{Folded}
-use Rattle.optimizer.specs.declared.FoldAnswer.the-variants.{Is, No}
+use Rattle.optimizer.specs.Fold.{Is, No}
 use Rattle.optimizer.proofs.Tested.{held-of, table-there, tries-there}
 use Rattle.optimizer.proofs.Whole.{exact-of, told-by}
 

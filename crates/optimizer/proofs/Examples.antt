@@ -23,7 +23,7 @@ use Rattle.fold.specs.Plan as plan
 use Rattle.fold.specs.Pass.{constLoad, put, landed, applied, tryFold, folded, foldAll}
 use Rattle.finish.specs.Finish.{sourcesAfter, renewed, finished}
 use Rattle.optimizer.specs.Fold.{buffers, outcome, foldPass, constantFold, joined, foldLent, called, rejoined, foldCall}
-use Rattle.optimizer.specs.declared.FoldAnswer.the-variants.{Is}
+use Rattle.optimizer.specs.Fold.{Is}
 
 -- 2 < 3: LoadTrue without a mark is left; each buffer has one word more than is needed, which stays
 pub truth : foldCall false

@@ -5,6 +5,5 @@ pub mod Tested
 pub mod Whole
 pub mod Settled
 pub mod Examples
-pub mod Readied
 pub mod Answered
 pub mod Tries

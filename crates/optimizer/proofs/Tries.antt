@@ -28,7 +28,7 @@ use Rattle.phi_pass.proofs.Pairs.{marked-length}
 use Rattle.finish.specs.Finish.{Tables, tables, mapOf, sourcesOf, renewed, finished}
 use Rattle.optimizer.specs.Fold.{Buffers, needed, foldPass, constantFold, joined, foldLent, Called, rejoined, foldCall, Exact}
 use Rattle.optimizer.specs.declared.Folded.{Folded}
-use Rattle.optimizer.specs.declared.FoldAnswer.the-variants.{Is}
+use Rattle.optimizer.specs.Fold.{Is}
 use Rattle.optimizer.proofs.Again.{fold-keeps}
 use Rattle.optimizer.proofs.Answered.{Answered, answered}
 use Rattle.optimizer.proofs.Idle.{finished-dead}

@@ -36,8 +36,8 @@ use Rattle.finish.specs.Finish.{Tables, tables, mapOf, sourcesOf, renewed, fini
 use Rattle.optimizer.specs.Fold.{Buffers, buffers, lensOf, needed, sourcesNeeded, Outcome, outcome, constantFold, foldPass, joined, Settled, settled, foldLent, Called, called, rejoined, foldCall, Held, Exact, Mapped}
 use Rattle.finish.specs.declared.Left.{Left}
 use Rattle.optimizer.specs.declared.Folded.{Folded}
-use Rattle.optimizer.specs.declared.FoldAnswer.{FoldAnswer}
-use Rattle.optimizer.specs.declared.FoldAnswer.the-variants.{Is, No}
+use Rattle.optimizer.specs.Fold.{FoldAnswer}
+use Rattle.optimizer.specs.Fold.{Is, No}
 
 pub cleared : (xs old : List ℕ) → xs ≡ take 0 old ++ replicate (length old - 0) 0 → xs ≡ replicate (length old) 0
 cleared xs old e = let z : length old - 0 ≡ length old = omega arith in rw z at e

@@ -6,6 +6,7 @@ use mathlib.Core.List.{List, _++_}
 use lib.ListN.{length, take, drop, replicate}
 use Rattle.laws.specs.All.{every, many}
 use Rattle.code.specs.Answers.{asked}
+use Rattle.code.specs.declared.Refusal.{Refusal}
 use Rattle.lent.specs.Chunk.{stride, count, opAt, folds, isPhi}
 use Rattle.lent.specs.Check.{constantRoom, sourceRoom, tallyOf, readyOf}
 use Rattle.lent.specs.declared.Counts.{Counts}
@@ -17,8 +18,11 @@ use Rattle.compact.specs.Remap.{alive, remapOf}
 use Rattle.compact.specs.Tables.{movedAll}
 use Rattle.finish.specs.Finish.{Tables, tables, finished}
 use Rattle.optimizer.specs.declared.Folded.{Folded}
-use Rattle.optimizer.specs.declared.FoldAnswer.{FoldAnswer}
-use Rattle.optimizer.specs.declared.FoldAnswer.the-variants.{Is, No}
+
+-- what the call answers: the counts of what is left, or a refusal
+pub data FoldAnswer : Type 0 where
+  Is : Folded → FoldAnswer
+  No : Refusal → FoldAnswer
 
 -- the lent buffers, in the order of the call
 pub record Buffers : Type 0 where

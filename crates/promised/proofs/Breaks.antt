@@ -7,7 +7,7 @@ use mathlib.Core.Bool.{true}
 use Rattle.code.specs.Op.{LoadConst}
 use Rattle.lent.specs.Chunk.{opAt, folds}
 use Rattle.optimizer.specs.Fold.{Outcome}
-use Rattle.optimizer.specs.declared.FoldAnswer.{FoldAnswer}
+use Rattle.optimizer.specs.Fold.{FoldAnswer}
 use Rattle.runs.specs.Machine.{Plain}
 use Rattle.runs.specs.Rule.{known, Rule}
 use Rattle.runs.specs.Kept.{Same}

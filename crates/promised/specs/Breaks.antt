@@ -2,7 +2,7 @@
 use mathlib.Core.List.{[], _∷_}
 use mathlib.Core.Bool.{false}
 use Rattle.optimizer.specs.Fold.{Outcome}
-use Rattle.optimizer.specs.declared.FoldAnswer.{FoldAnswer}
+use Rattle.optimizer.specs.Fold.{FoldAnswer}
 use Rattle.runs.specs.Rule.{Rule}
 use Rattle.runs.specs.Kept.{Same}
 use Rattle.promised.specs.Marked.{code13, called}

@@ -13,8 +13,8 @@ use Rattle.callee.specs.Answers.{globalAnswer}
 use Rattle.callee.specs.declared.GlobalAnswer.the-variants as callee
 use Rattle.lent.specs.Chunk as chunk
 use Rattle.optimizer.specs.Fold.{buffers, Outcome, outcome, foldCall}
-use Rattle.optimizer.specs.declared.FoldAnswer.{FoldAnswer}
-use Rattle.optimizer.specs.declared.FoldAnswer.the-variants as fold
+use Rattle.optimizer.specs.Fold.{FoldAnswer}
+use Rattle.optimizer.specs.Fold as fold
 
 -- an instruction without marks: opcode, a, b, c, x
 abbrev pub ins : ℕ → ℕ → ℕ → ℕ → ℕ → List ℕ

@@ -36,7 +36,7 @@ use Rattle.lent.specs.declared.Counts.{Counts}
 use Rattle.fold.specs.Plan.{Chunk, kindOf}
 use Rattle.landings.specs.Landings.{landingsOf, Unmarked}
 use Rattle.fold.specs.Pass.{Bars, byScan, byTable, folded, foldAll}
-use Rattle.optimizer.specs.declared.FoldAnswer.the-variants as fold
+use Rattle.optimizer.specs.Fold as fold
 use Rattle.clear.specs.Unused.{AllNear, named}
 use Rattle.clear.specs.Clear as clearing
 use Rattle.refold.specs.Lending.{Lending, leaving}

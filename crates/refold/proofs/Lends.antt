@@ -39,8 +39,8 @@ use Rattle.finish.specs.Finish.{Tables, tables, finished, Fit}
 use Rattle.optimizer.specs.Fold.{Buffers, lensOf, needed, sourcesNeeded, Outcome, outcome, foldPass, constantFold, joined}
 use Rattle.optimizer.specs.Fold.{foldLent, Called, rejoined, foldCall, Held, Exact}
 use Rattle.optimizer.specs.declared.Folded.{Folded}
-use Rattle.optimizer.specs.declared.FoldAnswer.{FoldAnswer}
-use Rattle.optimizer.specs.declared.FoldAnswer.the-variants.{Is, No}
+use Rattle.optimizer.specs.Fold.{FoldAnswer}
+use Rattle.optimizer.specs.Fold.{Is, No}
 use Rattle.optimizer.proofs.Whole.{pass-kept, exact-of, fit-of}
 use Rattle.optimizer.proofs.Again.{again}
 use Rattle.optimizer.proofs.Idle.{as-lent}

@@ -25,7 +25,7 @@ use Rattle.finish.specs.Finish.{Tables, tables, mapOf, sourcesOf, renewed, fini
 use Rattle.optimizer.specs.Fold.{Buffers, needed, foldPass, constantFold, joined, foldLent, rejoined}
 use Rattle.optimizer.specs.Fold.{foldCall, Exact}
 use Rattle.optimizer.specs.declared.Folded.{Folded}
-use Rattle.optimizer.specs.declared.FoldAnswer.the-variants.{Is}
+use Rattle.optimizer.specs.Fold.{Is}
 use Rattle.optimizer.proofs.Answered.{answered}
 use Rattle.runs.specs.Kept.{Same, Keeps, Strict, Fresh}
 use Rattle.runs.specs.Rule.{known, Rule}

@@ -22,7 +22,6 @@ use Rattle.needed.specs.Answers.{uptoOf}
 use Rattle.kept.proofs.Alone.{outcome-one}
 use Rattle.lent.specs.declared.Counts.{Counts}
 use Rattle.optimizer.specs.Fold.{Buffers, Called}
-use Rattle.optimizer.specs.declared.FoldAnswer.{FoldAnswer}
 use Rattle.clear.specs.Clear as clearing
 use Rattle.turniploom.specs.Answers.{By, filledTold, truthTold, keptTold, foldTold, TargetsTold, LoopsTold, DeadTold, GenTold, NeededTold, KeptTold, FoldTold, clearTold, ClearTold, MadeTold, EnterTold, LeaveTold, ReplayTold}
 use Rattle.saver.specs.Saver.{Saver, Back, Ends}
@@ -73,7 +72,7 @@ pub one-fold : (strict : Bool) (b : Buffers) (tries landings : List ℕ) (c : Co
     → FoldTold strict b tries landings c r′ a′ t′ l′ → (r ≡ r′) × (a ≡ a′) × (t ≡ t′) × (l ≡ l′)
 one-fold strict b tries landings c r r′ a a′ t t′ l l′ x y =
     let e = x .allowed ∙ sym (y .allowed) in
-    (by-one foldTold x y (ap (λ (o : Called). o .result .answer) e), ap (λ (o : Called). o .result .after) e, ap (λ (o : Called). o .tries) e, ap (λ (o : Called). o .landings) e)
+    (x .is ∙ ap (λ (o : Called). foldTold (o .result .answer)) e ∙ sym (y .is), ap (λ (o : Called). o .result .after) e, ap (λ (o : Called). o .tries) e, ap (λ (o : Called). o .landings) e)
 
 pub one-clear : (b : clearing.Buffers) (m : ℕ) (r r′ : Answer) (a a′ : clearing.Buffers) → ClearTold b m r a → ClearTold b m r′ a′ → (r ≡ r′) × (a ≡ a′)
 one-clear b m r r′ a a′ x y =

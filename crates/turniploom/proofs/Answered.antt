@@ -4,11 +4,10 @@ use mathlib.Core.Logic.{_≢_}
 use mathlib.Core.Bool.{Bool}
 use mathlib.Core.List.{List}
 use Prim.Native.Nat.{ℕ}
-use native.Mathlib.Omega.{arith}
 use Rattle.code.specs.Answers.{refusedOf}
 use Rattle.code.specs.declared.Answer.{Answer}
 use Rattle.code.specs.declared.Refusal.{Refusal}
-use Rattle.code.specs.declared.Refusal.the-variants as refusal
+use Rattle.folding.proofs.Call as folding
 use Rattle.kept.specs.Answers.{Outcome}
 use Rattle.kept.specs.declared.KeptAnswer.{KeptAnswer}
 use Rattle.kept.specs.declared.KeptAnswer.the-variants.{Is, No}
@@ -16,13 +15,7 @@ use Rattle.turniploom.specs.Answers.{keptTold, KeptTold}
 
 -- a refusal's number is not 0
 pub never-0 : (q : Refusal) → refusedOf q .refusal ≢ 0
-never-0 (refusal.Length n) h = omega arith
-never-0 (refusal.Record k) h = omega arith
-never-0 (refusal.Registers n) h = omega arith
-never-0 (refusal.Try i) h = omega arith
-never-0 (refusal.Short b n) h = omega arith
-never-0 (refusal.Position k) h = omega arith
-never-0 (refusal.Table t) h = omega arith
+never-0 q = folding.never-0 q
 
 -- an exported kept call with refusal 0 is an answer of the call inside
 pub kept-answered : (bits : ℕ) (w : List ℕ) (regs : ℕ) (tries : List ℕ) (wide : Bool) (rows offsets list new o l : List ℕ) (r : Answer)

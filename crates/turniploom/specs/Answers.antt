@@ -30,9 +30,8 @@ use Rattle.callee.specs.declared.PushAnswer.the-variants as push
 use Rattle.callee.specs.declared.StackAnswer.{StackAnswer}
 use Rattle.callee.specs.declared.StackAnswer.the-variants as stack
 use Rattle.lent.specs.declared.Counts.{Counts}
-use Rattle.optimizer.specs.Fold.{Buffers, outcome, called, foldCall}
-use Rattle.optimizer.specs.declared.FoldAnswer.{FoldAnswer}
-use Rattle.optimizer.specs.declared.FoldAnswer.the-variants as fold
+use Rattle.optimizer.specs.Fold.{FoldAnswer, Buffers}
+use Rattle.folding.specs.Answers as folding
 use Rattle.clear.specs.Clear as clearing
 use Rattle.clear.specs.Clear.{clearCall}
 use Rattle.clear.specs.declared.ClearAnswer.{ClearAnswer}
@@ -130,11 +129,10 @@ KeptTold bits w regs tries wide rows offsets list rows′ offsets′ list′ r =
 
 -- instructions, constants, phi_map count, phi_sources count
 abbrev pub foldTold : FoldAnswer → Answer
-foldTold (fold.Is f) = answerOf (f .instructions) (f .constants) (f .map) (f .sources)
-foldTold (fold.No r) = refusedOf r
+foldTold v = folding.foldTold v
 
 abbrev pub FoldTold : Bool → Buffers → List ℕ → List ℕ → Counts → Answer → Buffers → List ℕ → List ℕ → Type 0
-FoldTold strict b tries landings c r b′ tries′ landings′ = By foldTold (λ v. called (outcome v b′) tries′ landings′ ≡ foldCall strict b tries landings c) r
+FoldTold strict b tries landings c r b′ tries′ landings′ = folding.FoldTold strict b tries landings c r b′ tries′ landings′
 
 -- the new count of constants
 abbrev pub clearTold : ClearAnswer → Answer

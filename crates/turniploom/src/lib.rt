@@ -4,7 +4,7 @@ ghost use Rattle.roles.specs.Answers.{kindsAnswer, roleAnswer, fieldAnswer, wri
 ghost use Rattle.walks.specs.Answers.{pureAnswer, flatAnswer, guardedAnswer, returnsAnswer};
 ghost use Rattle.surveys.specs.Answers.{writtenAnswer, passedAnswer};
 ghost use Rattle.callee.specs.Answers.{globalAnswer, pushAnswer, stackAnswer};
-ghost use Rattle.turniploom.specs.Answers.{truthTold, kindsTold, roleTold, fieldTold, touchTold, bitsTold, filledTold, TargetsTold, LoopsTold, DeadTold, GenTold, NeededTold, globalTold, pushTold, stackTold, keptTold as keptAnswered, KeptTold, foldTold, FoldTold, clearTold, ClearTold};
+ghost use Rattle.turniploom.specs.Answers.{truthTold, kindsTold, roleTold, fieldTold, touchTold, bitsTold, filledTold, TargetsTold, LoopsTold, DeadTold, GenTold, NeededTold, globalTold, pushTold, stackTold, keptTold as keptAnswered, KeptTold, FoldTold, clearTold, ClearTold};
 ghost use Rattle.optimizer.specs.Fold.{buffers};
 ghost use Rattle.clear.specs.Clear.{buffers as clearable};
 ghost use Rattle.levels.specs.Answers.{levelAnswer};
@@ -19,7 +19,6 @@ use clear::ClearAnswer;
 use code::Answer;
 use code::Told;
 use kept::KeptAnswer;
-use optimizer::FoldAnswer;
 use roles::FieldAnswer;
 use roles::KindsAnswer;
 use roles::RoleAnswer;
@@ -69,21 +68,6 @@ fn kept_told(k: KeptAnswer) -> Answer
             0,
         ),
         KeptAnswer::No(r) => code::refused(r),
-    }
-}
-
-// The counts of what is left.
-fn folded(a: FoldAnswer) -> Answer
-    ensures { λ r. ⌜ r ≡ foldTold a ⌝ }
-{
-    match a {
-        FoldAnswer::Is(f) => code::tell(
-            f.instructions as u64,
-            f.constants as u64,
-            f.map as u64,
-            f.sources as u64,
-        ),
-        FoldAnswer::No(r) => code::refused(r),
     }
 }
 
@@ -325,7 +309,7 @@ pub extern "C" fn turniploom_fold(
 ) -> Answer
     ensures { λ r. ⌜ FoldTold strict (buffers (now (code .entry)) (now (kinds .entry)) (now (words .entry)) (now («phi_map» .entry)) (now («phi_sources» .entry)) (now («stmt_pos» .entry)) (now («call_byte_pos» .entry)) (now (dead .entry)) (now (remap .entry))) (now (tries .entry)) (now (landings .entry)) (record { constants = constants; map = «phi_map_count»; sources = «phi_sources_count»; stmts = «stmt_pos_count»; calls = «call_byte_pos_count» }) r (buffers (now (code .exit)) (now (kinds .exit)) (now (words .exit)) (now («phi_map» .exit)) (now («phi_sources» .exit)) (now («stmt_pos» .exit)) (now («call_byte_pos» .exit)) (now (dead .exit)) (now (remap .exit))) (now (tries .exit)) (now (landings .exit)) ⌝ }
 {
-    let a = optimizer::fold(
+    folding::fold(
         code,
         kinds,
         words,
@@ -343,8 +327,7 @@ pub extern "C" fn turniploom_fold(
         tries,
         landings,
         strict,
-    );
-    folded(a)
+    )
 }
 
 #[no_mangle]

@@ -1,5 +1,7 @@
 -- `turniploom::bits` meets its contract: each arm knows the case. Assumes nothing.
 use borrow.Author.Needs.{needs}
+use Rattle.turniploom.proofs.Answers.{of-case}
+use Rattle.turniploom.specs.Answers.{bitsTold}
 use Rattle.turniploom.proofs.bits.Statement.{statement}
 use Rattle.turniploom.proofs.bits.Tie as tie
 
@@ -16,10 +18,10 @@ refused-requires : tie.Need-refused-requires
 refused-requires c κs = search needs
 
 returns : tie.Need-returns
-returns c = cc
+returns c = search (of-case bitsTold)
 
 returns-2 : tie.Need-returns-2
-returns-2 c = search needs
+returns-2 c = search (of-case bitsTold)
 
 pub bits-spec : {M : Type 1} → statement M
 bits-spec =

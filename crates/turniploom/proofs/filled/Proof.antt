@@ -1,5 +1,7 @@
 -- `turniploom::filled` meets its contract: each arm knows the case. Assumes nothing.
 use borrow.Author.Needs.{needs}
+use Rattle.turniploom.proofs.Answers.{of-case}
+use Rattle.turniploom.specs.Answers.{filledTold}
 use Rattle.turniploom.proofs.filled.Statement.{statement}
 use Rattle.turniploom.proofs.filled.Tie as tie
 
@@ -16,10 +18,10 @@ refused-requires : tie.Need-refused-requires
 refused-requires c κs = search needs
 
 returns : tie.Need-returns
-returns c = cc
+returns c = search (of-case filledTold)
 
 returns-2 : tie.Need-returns-2
-returns-2 c = search needs
+returns-2 c = search (of-case filledTold)
 
 pub filled-spec : {M : Type 1} → statement M
 filled-spec =

@@ -1,5 +1,7 @@
 -- `turniploom::kept_told` meets its contract: each arm knows the case. Assumes nothing.
 use borrow.Author.Needs.{needs}
+use Rattle.turniploom.proofs.Answers.{of-case}
+use Rattle.turniploom.specs.Answers.{keptTold}
 use Rattle.turniploom.proofs.kept_told.Statement.{statement}
 use Rattle.turniploom.proofs.kept_told.Tie as tie
 
@@ -22,10 +24,10 @@ refused-requires : tie.Need-refused-requires
 refused-requires c κs = search needs
 
 returns : tie.Need-returns
-returns c = cc
+returns c = search (of-case keptTold)
 
 returns-2 : tie.Need-returns-2
-returns-2 c = search needs
+returns-2 c = search (of-case keptTold)
 
 pub kept-told-spec : {M : Type 1} → statement M
 kept-told-spec =

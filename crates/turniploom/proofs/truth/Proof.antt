@@ -1,5 +1,7 @@
 -- `turniploom::truth` meets its contract: each arm knows the case. Assumes nothing.
 use borrow.Author.Needs.{needs}
+use Rattle.turniploom.proofs.Answers.{of-case}
+use Rattle.turniploom.specs.Answers.{truthTold}
 use Rattle.turniploom.proofs.truth.Statement.{statement}
 use Rattle.turniploom.proofs.truth.Tie as tie
 
@@ -19,10 +21,10 @@ refused-requires : tie.Need-refused-requires
 refused-requires c κs = search needs
 
 returns : tie.Need-returns
-returns c = cc
+returns c = search (of-case truthTold)
 
 returns-2 : tie.Need-returns-2
-returns-2 c = search needs
+returns-2 c = search (of-case truthTold)
 
 pub truth-spec : {M : Type 1} → statement M
 truth-spec =

@@ -1,8 +1,8 @@
--- `optimizer::sources_needed` meets its contract. Assumes nothing.
+-- `folding::sources_needed` meets its contract. Assumes nothing.
 use borrow.Author.Needs.{needs}
 use Rattle.optimizer.proofs.Whole.{few-phis, room-of}
-use Rattle.optimizer.proofs.sources_needed.Statement.{statement}
-use Rattle.optimizer.proofs.sources_needed.Tie as tie
+use Rattle.folding.proofs.sources_needed.Statement.{statement}
+use Rattle.folding.proofs.sources_needed.Tie as tie
 
 tallied-requires : tie.Need-tallied-requires
 tallied-requires c κs = search needs

@@ -1,0 +1,32 @@
+-- What the folding call tells. Assumes nothing.
+use Prim.Native.Nat.{ℕ}
+use mathlib.Core.Path.{_≡_}
+use mathlib.Core.Bool.{Bool}
+use mathlib.Core.List.{List}
+use Rattle.code.specs.Answers.{asked, answerOf, refusedOf}
+use Rattle.code.specs.declared.Answer.{Answer}
+use Rattle.code.specs.declared.Checked.{Checked}
+use Rattle.lent.specs.declared.Counts.{Counts}
+use Rattle.optimizer.specs.Fold.{Buffers, outcome, called, foldCall}
+use Rattle.optimizer.specs.declared.Folded.{Folded}
+use Rattle.optimizer.specs.Fold.{FoldAnswer}
+use Rattle.optimizer.specs.Fold.{Is, No}
+
+-- what the tests found: a refusal, or nothing yet
+abbrev pub testedTold : Checked → Answer
+testedTold v = asked v refusedOf (answerOf 0 0 0 0)
+
+-- instructions, constants, phi_map count, phi_sources count
+abbrev pub foldedTold : Folded → Answer
+foldedTold f = answerOf (f .instructions) (f .constants) (f .map) (f .sources)
+
+abbrev pub foldTold : FoldAnswer → Answer
+foldTold (Is f) = foldedTold f
+foldTold (No r) = refusedOf r
+
+-- an answer that tells what the call is defined to be, with all that is lent as it leaves it
+pub record FoldTold (strict : Bool) (b : Buffers) (tries landings : List ℕ) (c : Counts) (r : Answer)
+    (b′ : Buffers) (tries′ landings′ : List ℕ) : Type 0 where
+  pub told : FoldAnswer
+  pub allowed : called (outcome told b′) tries′ landings′ ≡ foldCall strict b tries landings c
+  pub is : r ≡ foldTold told

@@ -51,7 +51,8 @@ use Rattle.exported.specs.Settles.{One, Settles}
 use Rattle.exported.specs.Calls.{TargetsCall, LoopsCall, EntriesBeyond, Marks, DeadCall, GenCall, NeededCall, MarksBeyond, Lists, KeptCall, KeptSettles}
 use Rattle.exported.specs.Calls.{FoldCall, ClearCall, ClearBeyond}
 use Rattle.exported.specs.Told.{TouchedHolds, startAt, rowLeft, OriginsKept}
-use Rattle.exported.specs.Told.{Truth, listLeft, KeptHolds, SameLists, foldedOf, FoldsNext, ClearsNext, FoldsCleared, FoldsSame, RunsKept, ClearsKept, RunsCleared, ClearHolds, ClearedTwice}
+use Rattle.exported.specs.Told.{Truth, listLeft, KeptHolds, SameLists, foldedOf, FoldsNext, ClearsNext, FoldsCleared, FoldsSame, ClearHolds, ClearedTwice}
+use Rattle.exported.specs.Told.{RunsKept, ClearsKept, RunsCleared}
 use Rattle.promised.specs.Marked.{Marked}
 use Rattle.promised.specs.Late.{Late}
 use Rattle.promised.specs.Breaks.{Breaks}

@@ -137,10 +137,23 @@ module _ {n i : ℕ} {code dead kinds words : List ℕ} {constants : ℕ} (fine 
 
 -- ---- one attempt
 
+-- one that changes nothing
+kept-same : {n : ℕ} (s : Chunk) → Fine n s → Kept n s s
+kept-same s fine =
+    record {
+      fine = fine;
+      runs = λ o. (λ run. run, λ run. run);
+      listed = λ k e. e;
+      code-long = refl;
+      dead-long = refl;
+      kinds-long = refl;
+      words-long = refl;
+    }
+
 module _ {n i : ℕ} (s : Chunk) (fine : Fine n s) (whole : n ≡ count (s .code)) (hi : i < n) (ready : Ready s i)
     (bars : ℕ → Bool) (strict : (p : ℕ) → bars p ≡ false → landsAny (s .code) p i ≡ false) where
   stay : Kept n s s
-  stay = record { fine = fine; runs = λ o. (λ run. run, λ run. run); listed = λ k e. e; code-long = refl; dead-long = refl; kinds-long = refl; words-long = refl }
+  stay = kept-same s fine
 
   -- a result with no room in the pool
   full : (v : Val) → Kept n s (chunk (s .code) (s .dead) (constLoad v (s .kinds) (s .words) (s .constants) .kinds) (constLoad v (s .kinds) (s .words)
@@ -216,20 +229,7 @@ pub record Passed (bars : Bars) (n : ℕ) (s : Chunk) (k : ℕ) : Type 0 where
 module _ (bars : Bars) (strict : Strict bars) (n : ℕ) (s : Chunk) (fine : Fine n s) (whole : n ≡ count (s .code)) (lent : Lent s) where
   pub pass : (k : ℕ) → k ≤ n → Passed bars n s k
   unfolding folded
-  pass zero h =
-      record {
-        held = held-none bars s;
-        kept =
-            record {
-              fine = fine;
-              runs = λ o. (λ run. run, λ run. run);
-              listed = λ k e. e;
-              code-long = refl;
-              dead-long = refl;
-              kinds-long = refl;
-              words-long = refl;
-            };
-      }
+  pass zero h = record { held = held-none bars s; kept = kept-same s fine }
   pass (suc k) h = go (pass k (omega arith))
     where
       go : Passed bars n s k → Passed bars n s (suc k)

@@ -49,7 +49,8 @@ fn truth_and_the_single_nan() {
     let floats = [0.0, -0.0, 0.5, f64::NAN].map(|f| (2, f.to_bits()));
     let told = |k: u16| end([(LoadConst, k), (Not, 0)], &floats);
     for (k, falsy) in [(0, true), (1, true), (2, false), (3, false)] { assert_eq!(told(k), End::Left(vec![Known(Bool(falsy))])) }
-    for (load, falsy) in [(LoadNone, true), (LoadFalse, true), (LoadTrue, false)] { assert_eq!(end([(load, 0), (Not, 0)], &[]), End::Left(vec![Known(Bool(falsy))])) }
+    let negated = |load: Op| end([(load, 0), (Not, 0)], &[]);
+    for (load, falsy) in [(LoadNone, true), (LoadFalse, true), (LoadTrue, false)] { assert_eq!(negated(load), End::Left(vec![Known(Bool(falsy))])) }
     assert_eq!(end([(LoadConst, 0)], &[(2, 0xFFF0_0000_0000_0001)]), End::Left(vec![Known(Float(NAN))]));
     assert_eq!(end([(LoadConst, 1)], &floats), End::Left(vec![Known(Float((-0.0_f64).to_bits()))]));
 }

@@ -33,7 +33,8 @@ struct Options {
 fn options() -> Result<Options, String> {
     let threads = thread::available_parallelism().map_or(1, usize::from);
     let mut o = Options {
-        words: vec![], seed: 1, rounds: None, minutes: None, threads, calls: vec![], events: None, chunks: None, inside: false, questions: 1_000, only: None, each: false, alone: false,
+        words: vec![], seed: 1, rounds: None, minutes: None, threads, calls: vec![], events: None, chunks: None, inside: false, questions: 1_000,
+        only: None, each: false, alone: false,
     };
     let mut args = env::args().skip(1);
     while let Some(word) = args.next() {

@@ -143,8 +143,8 @@ impl fmt::Display for Ran {
         let verdict = if self.well() { "" } else if self.wrong > 0 { "WRONG: " } else { "NOT ENOUGH WAS RUN: " };
         write!(
             f, "{verdict}{} chunks run before strict folding, after it, after clearing and after folding again, {} unlike, {} refused: {left} left a stack; \
-            stopped {operand} for no operand, {result} for no result, {short} at a short stack, {test} at a short test; {} never end, {} not within {MOST} steps. \
-            {} folded, and {} lost constants.",
+            stopped {operand} for no operand, {result} for no result, {short} at a short stack, {test} at a short test; {} never end, \
+            {} not within {MOST} steps. {} folded, and {} lost constants.",
             self.chunks, self.wrong, self.refused, self.returns, self.open, self.folded, self.cleared
         )
     }

@@ -6,7 +6,8 @@ use oracle::{port, question::*, runs::{Ran, play}};
 fn every_run_ends_alike() {
     let ran = play(port::ask, 7, 20_000, 2);
     assert!(ran.well() && ran.chunks == 20_000, "{ran}");
-    assert!(ran.to_string().starts_with("20000 chunks run before strict folding, after it, after clearing and after folding again, 0 unlike, 0 refused: "), "{ran}");
+    let said = ran.to_string();
+    assert!(said.starts_with("20000 chunks run before strict folding, after it, after clearing and after folding again, 0 unlike, 0 refused: "), "{said}");
 }
 
 fn changed(q: &Question, name: &str, arg: Arg) -> Question {
@@ -47,7 +48,7 @@ fn a_wrong_fold_or_clearing_is_caught() {
         let ran = play(ask, 7, 5_000, 1);
         let said = ran.to_string();
         assert!(!ran.well() && ran.wrong > 10 && said.lines().last().unwrap().starts_with("WRONG: 5000 chunks "), "{said}");
-        assert!(said.starts_with("# fold kinds=") && said.contains("\n# before: Ended(") && said.contains(&format!("\n# {stage}: ")) && said.contains("\nchunk\n"), "{said}");
+        for part in ["# fold kinds=", "\n# before: Ended(", &format!("\n# {stage}: "), "\nchunk\n"] { assert!(said.contains(part), "{part}: {said}") }
     }
 }
 

@@ -60,7 +60,7 @@ pub fn body(view: &body::View) -> String {
     let chart = if columns > WIDEST { Chart::Words } else if columns <= COLUMNS && columns * view.lines.len() <= CELLS { Chart::Cells } else { Chart::Marks };
     let lanes = lanes::of(view.lines.len() - 1, &view.tries);
     let mut out = String::from("<div class=\"chart\" role=\"region\" aria-label=\"the chart\" tabindex=\"0\">\n<table class=\"body\">\n");
-    write!(out, "<caption>Instructions with their levels, what each uses and gives up, and the registers needed before it.</caption>\n<thead>\n{}</thead>\n<tbody>\n", head(view, chart, lanes.many())).unwrap();
+    write!(out, "<caption><span>Instructions with their levels, what each uses and gives up, and the registers needed before it.</span></caption>\n<thead>\n{}</thead>\n<tbody>\n", head(view, chart, lanes.many())).unwrap();
     for (k, l) in view.lines.iter().enumerate() {
         let class = if l.level.is_some() { " class=\"level\"" } else { "" };
         write!(out, "<tr{class}><th scope=\"row\">{k}</th><td class=\"ins\">{}</td>{}", escaped(&l.text), bands(&lanes.gutter(k, false))).unwrap();
@@ -98,7 +98,7 @@ fn bands(gutter: &str) -> String {
         '└' => "to",
         _ => "",
     };
-    gutter.chars().map(|c| format!("<td class=\"band {}\" aria-hidden=\"true\">{}</td>", class(c), if c == ' ' { String::new() } else { c.to_string() })).collect()
+    gutter.chars().map(|c| format!("<td class=\"band {}\" aria-hidden=\"true\"></td>", class(c))).collect()
 }
 
 /// What is said of a position: its level and what it keeps, its jumps, the writer's comment; and for who hears the page, its row.
@@ -166,7 +166,7 @@ fn legend(view: &body::View, chart: Chart) -> String {
 
 pub fn chunk(view: &chunk::View) -> String {
     let mut out = String::from("<div class=\"chart\" role=\"region\" aria-label=\"the chunk\" tabindex=\"0\">\n<table class=\"chunk\">\n");
-    out += "<caption>Instructions before and after folding, and why something was not folded.</caption>\n<thead>\n<tr><th scope=\"col\">at</th>";
+    out += "<caption><span>Instructions before and after folding, and why something was not folded.</span></caption>\n<thead>\n<tr><th scope=\"col\">at</th>";
     out += "<th scope=\"col\" class=\"ins\">before</th><th aria-hidden=\"true\"></th><th scope=\"col\">now at</th><th scope=\"col\">after</th><th scope=\"col\">notes</th></tr>\n</thead>\n<tbody>\n";
     let mut colour = 0;
     for (k, l) in view.before.iter().enumerate() {

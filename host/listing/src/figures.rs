@@ -110,7 +110,8 @@ pub fn text(view: &View) -> String {
 
 pub fn page(view: &View) -> String {
     let heads = |heads: &[&str]| heads.iter().map(|h| format!("<th scope=\"col\">{h}</th>")).collect::<String>();
-    let mut out = format!("<div class=\"chart\" role=\"region\" aria-label=\"the bodies\" tabindex=\"0\">\n<table>\n<caption><span>Bodies.</span></caption>\n<thead>\n<tr>{}</tr>\n</thead>\n<tbody>\n", heads(&BODIES));
+    let mut out = format!("<div class=\"chart\" role=\"region\" aria-label=\"the bodies\" \
+        tabindex=\"0\">\n<table>\n<caption><span>Bodies.</span></caption>\n<thead>\n<tr>{}</tr>\n</thead>\n<tbody>\n", heads(&BODIES));
     for [file, rest @ ..] in view.bodies() {
         let cells: String = rest.iter().map(|c| format!("<td class=\"note\">{}</td>", escaped(c))).collect();
         writeln!(out, "<tr><td class=\"ins\">{}</td>{cells}</tr>", escaped(&file)).unwrap();
@@ -124,7 +125,8 @@ pub fn page(view: &View) -> String {
 fn bars(view: &View) -> String {
     let most = view.lengths.iter().max().copied().unwrap_or(0).max(1);
     let [list, levels, entry, deep] = LISTS;
-    let mut out = String::from("<div class=\"chart\" role=\"region\" aria-label=\"the lists\" tabindex=\"0\">\n<table class=\"bars\">\n<caption><span>How many levels have a list of each length.</span></caption>\n");
+    let mut out = String::from("<div class=\"chart\" role=\"region\" aria-label=\"the lists\" tabindex=\"0\">\n<table \
+        class=\"bars\">\n<caption><span>How many levels have a list of each length.</span></caption>\n");
     for head in [list, levels, entry, deep] { write!(out, "{}<th scope=\"col\">{head}</th>", if head == list { "<thead>\n<tr>" } else { "" }).unwrap() }
     out += "</tr>\n</thead>\n<tbody>\n";
     for ([length, levels, entry, deep], &of) in view.lists().iter().zip(&view.lengths) {

@@ -1,5 +1,5 @@
-//! The pages as a browser shows them: chromium lays them out at the width of a desk and of a phone, light and dark, and a script in the page tells what is seen. Where there is
-//! no chromium this is left out, and said; .ci/pages installs it, runs this and makes the pictures of docs/pages.
+//! The pages as a browser shows them: chromium lays them out at the width of a desk and of a phone, light and dark, and a script in the page tells
+//! what is seen. Where there is no chromium this is left out, and said; .ci/pages installs it, runs this and makes the pictures of docs/pages.
 
 use std::{env, fs, path::{Path, PathBuf}, process::Command};
 
@@ -11,24 +11,30 @@ addEventListener('load', () => {
   const told = [], say = (name, holds) => told.push(name + ': ' + holds);
   const all = (s) => [...document.querySelectorAll(s)], one = (s) => document.querySelector(s), box = (e) => e.getBoundingClientRect();
   const numbers = (c) => (c.match(/[\d.]+/g) || []).map(Number);
-  const light = (c) => { const [r, g, b] = numbers(c).map((v) => { v /= 255; return v <= .03928 ? v / 12.92 : ((v + .055) / 1.055) ** 2.4 }); return .2126 * r + .7152 * g + .0722 * b };
-  const behind = (e) => { for (; e; e = e.parentElement) { const c = getComputedStyle(e).backgroundColor; if (numbers(c)[3] !== 0) return c } return 'rgb(255, 255, 255)' };
+  const light = (c) => { const [r, g, b] = numbers(c).map((v) => { v /= 255; return v <= .03928 ? v / 12.92 : ((v + .055) / 1.055) ** 2.4 });
+      return .2126 * r + .7152 * g + .0722 * b };
+  const behind = (e) => { for (; e; e = e.parentElement) { const c = getComputedStyle(e).backgroundColor;
+      if (numbers(c)[3] !== 0) return c } return 'rgb(255, 255, 255)' };
   const ratio = (e) => { const [a, b] = [light(getComputedStyle(e).color), light(behind(e))]; return (Math.max(a, b) + .05) / (Math.min(a, b) + .05) };
-  const written = all('body *').filter((e) => [...e.childNodes].some((n) => n.nodeType === 3 && n.data.trim()) && box(e).width > 1 && e.tagName !== 'SCRIPT' && e.tagName !== 'STYLE');
+  const written = all('body *').filter((e) => [...e.childNodes].some((n) => n.nodeType === 3 && n.data.trim()) && box(e).width > 1
+      && e.tagName !== 'SCRIPT' && e.tagName !== 'STYLE');
   const faint = written.map((e) => [ratio(e), e.className + ' ' + e.tagName]).sort((a, b) => a[0] - b[0])[0];
   say('contrast at least 4.5', written.length > 20 && faint[0] >= 4.5 || faint.join(' '));
   say('dark', light(getComputedStyle(document.body).backgroundColor) < .2);
   say('width', innerWidth);
   say('the page is no wider than the window', document.documentElement.scrollWidth <= innerWidth);
-  const seen = (e) => { const b = box(e), at = document.elementFromPoint((b.left + b.right) / 2, (b.top + b.bottom) / 2); return b.left >= 0 && b.right <= innerWidth && b.width > 5 && !!at && (e.contains(at) || at.contains(e)) };
+  const seen = (e) => { const b = box(e), at = document.elementFromPoint((b.left + b.right) / 2, (b.top + b.bottom) / 2); return b.left >= 0
+      && b.right <= innerWidth && b.width > 5 && !!at && (e.contains(at) || at.contains(e)) };
   const level = one('tr.level');
   if (level) say('position, instruction and list in sight', ['th', 'td.ins', '.keeps'].every((s) => seen(level.querySelector(s))));
   say('cells say it by a mark too', all('td.cell.row, td.cell.kept').every((c) => c.textContent.trim()));
-  say('head cells and captions', all('table').every((t) => t.caption && [...t.tHead.rows[0].cells].every((c) => c.scope === 'col' || c.getAttribute('aria-hidden')) && [...t.tBodies[0].rows].every((r) => r.querySelector('th[scope=row], td.ins'))));
+  say('head cells and captions', all('table').every((t) => t.caption && [...t.tHead.rows[0].cells].every((c) => c.scope === 'col'
+      || c.getAttribute('aria-hidden')) && [...t.tBodies[0].rows].every((r) => r.querySelector('th[scope=row], td.ins'))));
   const chart = one('.chart'), before = box(chart), left = box(chart.querySelector('tbody th') || chart).left;
   chart.scrollLeft = 150; chart.scrollTop = 300;
   const row = all('.chart tbody tr').find((r) => box(r).top > before.top + 80), first = row && row.querySelector('th');
-  if (first) say('first columns stay', chart.scrollLeft < 20 || Math.abs(box(first).left - left) < 1 && Math.abs(box(row.querySelector('td.ins')).left - box(first).right) < 1);
+  if (first) say('first columns stay', chart.scrollLeft < 20 || Math.abs(box(first).left - left) < 1 && Math
+      .abs(box(row.querySelector('td.ins')).left - box(first).right) < 1);
   say('the head stays', chart.scrollTop < 100 || Math.abs(box(chart.querySelector('thead th')).top - before.top) < 2);
   say('scrolled', chart.scrollLeft + ' ' + chart.scrollTop);
   parent.postMessage(told.join('\n'), '*');
@@ -37,11 +43,13 @@ addEventListener('load', () => {
 "##;
 
 /// A page that shows another in a frame of a width, since no window is as narrow as a phone, and holds what that one tells.
-const FRAME: &str = r##"<!doctype html><meta charset="utf-8"><meta name="color-scheme" content="light dark"><style>body { margin: 0 } iframe { border: 0; width: WIDTHpx; height: 1000px }</style>
+const FRAME: &str = r##"<!doctype html><meta charset="utf-8"><meta name="color-scheme" content="light dark">
+<style>body { margin: 0 } iframe { border: 0; width: WIDTHpx; height: 1000px }</style>
 <pre id="told"></pre><iframe src="PAGE"></iframe><script>addEventListener('message', (e) => document.getElementById('told').textContent = e.data)</script>
 "##;
 
-fn chromium() -> Option<&'static str> { ["chromium", "chromium-browser", "google-chrome"].into_iter().find(|c| Command::new(c).arg("--version").output().is_ok_and(|o| o.status.success())) }
+fn chromium() -> Option<&'static str> { ["chromium", "chromium-browser", "google-chrome"].into_iter().find(|c| Command::new(c).arg("--version")
+    .output().is_ok_and(|o| o.status.success())) }
 
 /// Runs chromium over a page at a width.
 fn browse(chromium: &str, page: &Path, width: u32, dark: bool, more: &[String]) -> String {

@@ -29,8 +29,10 @@ fn good(output: Output) -> String {
 
 /// What stands where a system expects it.
 const FILES: [&str; 11] = [
-    "bin/turniploom-listing", "lib/libturniploom.a", "lib/libturniploom.kit", "include/turniploom.h", "lib/pkgconfig/turniploom.pc", "share/man/man1/turniploom-listing.1.gz",
-    "share/man/man3/turniploom.3.gz", "share/doc/turniploom/copyright", "share/doc/turniploom/NOTATION.md", "share/doc/turniploom/samples/host.c", "share/doc/turniploom/samples/jacket.txt",
+    "bin/turniploom-listing", "lib/libturniploom.a", "lib/libturniploom.kit", "include/turniploom.h", "lib/pkgconfig/turniploom.pc",
+        "share/man/man1/turniploom-listing.1.gz",
+    "share/man/man3/turniploom.3.gz", "share/doc/turniploom/copyright", "share/doc/turniploom/NOTATION.md", "share/doc/turniploom/samples/host.c",
+        "share/doc/turniploom/samples/jacket.txt",
 ];
 
 fn unzipped(file: &Path) -> String { String::from_utf8(Command::new("gzip").arg("-dc").arg(file).output().unwrap().stdout).unwrap() }
@@ -45,13 +47,16 @@ fn installed_for_a_system() {
     assert_eq!(version, format!("turniploom {VERSION}\narchive sha256 {ARCHIVE_SHA256}\nproved with {KIT}\n"));
     assert_eq!(fs::read_to_string(at.join("lib/libturniploom.kit")).unwrap().trim(), KIT);
     let pc = fs::read_to_string(at.join("lib/pkgconfig/turniploom.pc")).unwrap();
-    assert!(pc.starts_with("prefix=/usr/local\n") && pc.contains(&format!("\nVersion: {VERSION}\n")) && pc.contains(&format!("\nsha256={ARCHIVE_SHA256}\n")) && pc.contains("-lturniploom"), "{pc}");
+    assert!(pc.starts_with("prefix=/usr/local\n") && pc.contains(&format!("\nVersion: {VERSION}\n")) && pc
+        .contains(&format!("\nsha256={ARCHIVE_SHA256}\n")) && pc.contains("-lturniploom"), "{pc}");
     // A host in C from what is installed.
-    let gcc = Command::new("gcc").args(["-std=c11", "-Wall", "-Werror", "-I"]).arg(at.join("include")).arg(at.join("share/doc/turniploom/samples/host.c")).arg("-L").arg(at.join("lib")).arg("-lturniploom").arg("-o").arg(to.join("host")).output();
+    let gcc = Command::new("gcc").args(["-std=c11", "-Wall", "-Werror", "-I"]).arg(at.join("include")).arg(at
+        .join("share/doc/turniploom/samples/host.c")).arg("-L").arg(at.join("lib")).arg("-lturniploom").arg("-o").arg(to.join("host")).output();
     let Ok(gcc) = gcc else { return println!("left out: there is no gcc") };
     good(gcc);
     assert!(good(Command::new(to.join("host")).output().unwrap()).starts_with(&format!("turniploom {VERSION}: 2 kept")));
-    if let Ok(config) = Command::new("pkg-config").args(["--modversion", "turniploom"]).env("PKG_CONFIG_PATH", at.join("lib/pkgconfig")).output() { assert_eq!(good(config).trim(), VERSION) }
+    if let Ok(config) = Command::new("pkg-config").args(["--modversion", "turniploom"]).env("PKG_CONFIG_PATH", at.join("lib/pkgconfig")).output() {
+        assert_eq!(good(config).trim(), VERSION) }
 }
 
 /// The manuals have every option of --help and every call of the header, and whose proof it is.
@@ -64,7 +69,8 @@ fn the_manuals() {
     let options = listing::options::USE.split(|c: char| c.is_whitespace() || "=,".contains(c)).filter(|w| w.starts_with("--"));
     for option in options { assert!(command.replace("\\-", "-").contains(option), "{option}") }
     for call in abi::CALLS { assert!(calls.contains(&format!(".B turniploom_{}\n", call.name)), "{}", call.name) }
-    for page in [&command, &calls] { assert!(page.starts_with(".TH ") && page.contains(&format!("\"turniploom {VERSION}\"")) && page.contains("/opt/t/") && !page.contains('@'), "{page}") }
+    for page in [&command, &calls] { assert!(page.starts_with(".TH ") && page.contains(&format!("\"turniploom {VERSION}\"")) && page
+        .contains("/opt/t/") && !page.contains('@'), "{page}") }
     assert!(calls.contains(&format!("sha256 {ARCHIVE_SHA256}, proved with {KIT}")));
 }
 
@@ -88,7 +94,8 @@ fn a_package() {
 fn what_can_not_be_installed() {
     let to = folder("not-installed");
     let refused = |names: &[(&str, &Path)]| { let out = install(&[], names); assert_eq!(out.status.code(), Some(2)); said(&out) };
-    assert!(refused(&[("DESTDIR", &to), ("TURNIPLOOM_LIB", Path::new("/gone.a"))]).starts_with("install: there is no archive at /gone.a: run `rt staticlib turniploom`"));
+    assert!(refused(&[("DESTDIR", &to), ("TURNIPLOOM_LIB", Path::new("/gone.a"))]).starts_with("install: there is no archive at /gone.a: run `rt \
+        staticlib turniploom`"));
     assert!(refused(&[("DESTDIR", &to), ("TURNIPLOOM_LIB", Path::new("some.a"))]).contains("a relative path"));
     let other = to.join("other.a");
     fs::write(&other, "another").unwrap();

@@ -1,5 +1,5 @@
-//! The page without a browser: its colours can be told apart, its marks do not hang on them, and it is laid out for a phone, for paper and to be heard. tests/browser.rs looks
-//! at the same in chromium, where there is one.
+//! The page without a browser: its colours can be told apart, its marks do not hang on them, and it is laid out for a phone, for paper and to be
+//! heard. tests/browser.rs looks at the same in chromium, where there is one.
 
 use listing::{body, notation::{Text, read}, page::{self, STYLE}};
 use std::collections::BTreeMap;
@@ -21,7 +21,8 @@ fn contrast(a: [f64; 3], b: [f64; 3]) -> f64 {
 
 /// The letters and what is behind them.
 const PAIRS: [(&str, &[&str]); 7] = [
-    ("ink", &["paper", "cell", "level", "g1", "g2", "g3", "g4", "g5"]), ("faint", &["paper", "level", "g1", "g2", "g3", "g4", "g5"]), ("on-row", &["row", "paper"]), ("keeps", &["level", "paper"]),
+    ("ink", &["paper", "cell", "level", "g1", "g2", "g3", "g4", "g5"]), ("faint", &["paper", "level", "g1", "g2", "g3", "g4", "g5"]), ("on-row",
+        &["row", "paper"]), ("keeps", &["level", "paper"]),
     ("handler", &["paper", "level", "cell"]), ("warn", &["paper", "level"]), ("ink", &["level"]),
 ];
 
@@ -32,7 +33,8 @@ fn colours_can_be_told_apart() {
     let schemes = [colours(light), colours(dark)];
     assert!(schemes.iter().all(|c| c.len() >= 16) && contrast(schemes[0]["paper"], schemes[1]["paper"]) > 10.0);
     for scheme in &schemes {
-        for (front, backs) in PAIRS { for back in backs { let far = contrast(scheme[front], scheme[*back]); assert!(far >= 4.5, "{front} on {back}: {far:.2}") } }
+        for (front, backs) in PAIRS { for back in backs { let far = contrast(scheme[front], scheme[*back]); assert!(far >= 4.5,
+            "{front} on {back}: {far:.2}") } }
     }
     // No colour stands outside these two lists, and the one for paper.
     let rest: String = STYLE.split(":root {").map(|b| b.split_once('}').map_or("", |b| b.1)).collect();
@@ -41,11 +43,13 @@ fn colours_can_be_told_apart() {
 
 #[test]
 fn laid_out_for_a_phone_for_paper_and_for_both_schemes() {
-    for due in ["color-scheme: light dark", "@media (max-width: 600px)", "@media print", "thead { display: table-header-group; }", "thead th { position: sticky; top: 0;", "position: sticky; left: 0;", "td.ins, thead th.ins { position: sticky; left: 3.2rem;"] {
+    for due in ["color-scheme: light dark", "@media (max-width: 600px)", "@media print", "thead { display: table-header-group; }",
+        "thead th { position: sticky; top: 0;", "position: sticky; left: 0;", "td.ins, thead th.ins { position: sticky; left: 3.2rem;"] {
         assert!(STYLE.contains(due), "{due}");
     }
     let page = page::whole("a", "b", "");
-    assert!(page.contains("<html lang=\"en\">") && page.contains("content=\"width=device-width, initial-scale=1\"") && page.contains("<meta name=\"color-scheme\" content=\"light dark\">"));
+    assert!(page.contains("<html lang=\"en\">") && page.contains("content=\"width=device-width, initial-scale=1\"") && page
+        .contains("<meta name=\"color-scheme\" content=\"light dark\">"));
     // Nothing is fetched.
     for word in ["http", "url(", "@import", "<script", "src="] { assert!(!page.contains(word), "{word}") }
 }
@@ -69,10 +73,12 @@ fn the_order_of_columns() {
 #[test]
 fn not_by_colour_alone() {
     let page = shown("registers 3; try 0 2; GetAttrR a1 b0; CallR a0 x0; StoreTopR a1; ReturnR b2");
-    let cells: Vec<(&str, &str)> = page.split("<td class=\"cell").skip(1).map(|c| (c.split('"').next().unwrap(), c.split_once('>').unwrap().1.split('<').next().unwrap())).collect();
+    let cells: Vec<(&str, &str)> = page.split("<td class=\"cell").skip(1).map(|c| (c.split('"').next().unwrap(), c.split_once('>').unwrap().1
+        .split('<').next().unwrap())).collect();
     assert!(cells.len() == 15 && cells.iter().any(|c| c.0.contains("row")) && cells.iter().any(|c| c.0.contains("kept")));
     for (class, mark) in cells {
-        assert_eq!((class.contains("row"), class.contains("kept") && !class.contains("handler"), class.contains("handler")), (mark.contains('●'), mark.contains('▲'), mark.contains('△')), "{class}: {mark}");
+        assert_eq!((class.contains("row"), class.contains("kept") && !class.contains("handler"), class.contains("handler")), (mark.contains('●'), mark
+            .contains('▲'), mark.contains('△')), "{class}: {mark}");
     }
     assert!(page.contains("<caption><span>") && page.contains("<span class=\"aloud\"> needs r0 r2</span>") && page.contains("<div class=\"keeps\">keeps "));
     assert!(page.contains("role=\"region\" aria-label=\"the chart\" tabindex=\"0\""));

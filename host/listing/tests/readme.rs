@@ -1,4 +1,5 @@
-//! README is held to what is so: its listing is the real one, its five lines of C are compiled and run, its pictures and pages are there. Its Rust is a test of the documentation.
+//! README is held to what is so: its listing is the real one, its five lines of C are compiled and run, its pictures and pages are there. Its Rust is
+//! a test of the documentation.
 
 use std::{fs, path::{Path, PathBuf}, process::Command};
 
@@ -7,7 +8,8 @@ fn root() -> PathBuf { Path::new(env!("CARGO_MANIFEST_DIR")).join("../..").canon
 fn readme() -> String { fs::read_to_string(root().join("README.md")).unwrap() }
 
 /// The blocks of a language.
-fn blocks<'a>(text: &'a str, language: &str) -> Vec<&'a str> { text.split(&format!("\n```{language}\n")).skip(1).map(|b| b.split("\n```").next().unwrap()).collect() }
+fn blocks<'a>(text: &'a str, language: &str) -> Vec<&'a str> { text.split(&format!("\n```{language}\n")).skip(1).map(|b| b.split("\n```").next()
+    .unwrap()).collect() }
 
 /// The last line tells of this archive and this kit, which README does not know.
 #[test]
@@ -26,9 +28,11 @@ fn its_c_is_compiled_and_run() {
     assert!(block.lines().count() <= 5);
     let to = Path::new(env!("CARGO_TARGET_TMPDIR")).join("readme");
     fs::create_dir_all(&to).unwrap();
-    let source = format!("#include \"turniploom.h\"\n#include <stdio.h>\nstatic bool my_dunder_op(uint16_t op) {{ return op == TURNIPLOOM_GetItemR; }}\nint main(void) {{\n{block}\nreturn 0;\n}}\n");
+    let source = format!("#include \"turniploom.h\"\n#include <stdio.h>\nstatic bool my_dunder_op(uint16_t op) {{ return op == TURNIPLOOM_GetItemR; \
+        }}\nint main(void) {{\n{block}\nreturn 0;\n}}\n");
     fs::write(to.join("readme.c"), source).unwrap();
-    let gcc = Command::new("gcc").args(["-std=c11", "-Wall", "-Wextra", "-Werror", "-I"]).arg(root().join("include")).arg(to.join("readme.c")).arg(turniploom::abi::ARCHIVE).arg("-o").arg(to.join("readme")).output();
+    let gcc = Command::new("gcc").args(["-std=c11", "-Wall", "-Wextra", "-Werror", "-I"]).arg(root().join("include")).arg(to.join("readme.c"))
+        .arg(turniploom::abi::ARCHIVE).arg("-o").arg(to.join("readme")).output();
     let Ok(gcc) = gcc else { return println!("left out: there is no gcc") };
     assert!(gcc.status.success(), "{}", String::from_utf8_lossy(&gcc.stderr));
     assert_eq!(Command::new(to.join("readme")).output().unwrap().stdout, b"1 kept: r0\n");

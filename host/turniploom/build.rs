@@ -61,12 +61,14 @@ fn archive() -> PathBuf {
     ))
 }
 
-/// The kit that proved the calls: the line of the file `libturniploom.kit` beside the archive, else what `rt version` says.
+/// The kit that proved the calls: the line of the file `libturniploom.kit` beside the archive, if it is no older, else what `rt version` says.
 fn kit(archive: &Path) -> String {
     let beside = archive.with_file_name("libturniploom.kit");
+    let changed = |p: &Path| fs::metadata(p).and_then(|m| m.modified()).ok();
+    let fresh = changed(&beside).is_some_and(|kit| changed(archive).is_some_and(|made| kit >= made));
     println!("cargo::rerun-if-changed={}", beside.display());
     let asked = || Command::new("rt").arg("version").output().ok().filter(|o| o.status.success()).map(|o| String::from_utf8_lossy(&o.stdout).into_owned());
-    let told = fs::read_to_string(beside).ok().or_else(asked).unwrap_or_default();
+    let told = fs::read_to_string(beside).ok().filter(|_| fresh).or_else(asked).unwrap_or_default();
     told.lines().next().map(str::trim).filter(|l| !l.is_empty()).unwrap_or("a kit that is not known").to_string()
 }
 

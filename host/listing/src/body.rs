@@ -74,7 +74,8 @@ impl View {
         lines.push(Line { text: "end".into(), row: found.row(n).to_vec(), ..Line::default() });
         note(code, &own, &tries, &mut lines);
         let lost = handlers::lost(&lines, &tries, body.registers);
-        for l in lost.iter().flatten() { for &k in &l.levels { lines[k].notes.push(format!("WARNING: r{} is not kept for the handler at {}", l.register, l.handler)) } }
+        for l in lost.iter().flatten() { for &k in &l.levels { lines[k].notes.push(format!("WARNING: r{} is not kept for the handler at {}", l.register,
+            l.handler)) } }
         let columns = columns(&lines, body.registers);
         let width = if body.rows32 { ", rows of 32 bits" } else { "" };
         let heading = format!("{}, {}, {}{width}", count(n, "instruction"), count(body.registers, "register"), count(tries.len(), "try"));
@@ -243,15 +244,18 @@ fn may_run_a_dunder(o: Op) -> bool {
     use op::*;
     let name = o.name().unwrap_or_default();
     o.folds() || name.starts_with("JumpUnless") || [
-        AddR, SubR, MulR, DivR, ModR, FloorDivR, InPlaceAddR, InPlaceSubR, BitAndR, BitOrR, BitXorR, ShlR, ShrR, PowR, EqR, NotEqR, LtR, LtEqR, GtR, GtEqR, MinusR, NotR,
-        GetItemR, StoreItemR, SetAttrR, InR, NotInR, LenR, GetItem, StoreItem, Pow, In, NotIn, InPlaceAdd, InPlaceSub, LoadAttr, StoreAttr, DelItem, DelAttr, BitNot,
+        AddR, SubR, MulR, DivR, ModR, FloorDivR, InPlaceAddR, InPlaceSubR, BitAndR, BitOrR, BitXorR, ShlR, ShrR, PowR, EqR, NotEqR, LtR, LtEqR, GtR,
+            GtEqR, MinusR, NotR,
+        GetItemR, StoreItemR, SetAttrR, InR, NotInR, LenR, GetItem, StoreItem, Pow, In, NotIn, InPlaceAdd, InPlaceSub, LoadAttr, StoreAttr, DelItem,
+            DelAttr, BitNot,
     ].contains(&o)
 }
 
 /// With no mark `dunder` at all: which instructions would be levels if the host's test named their opcodes.
 fn dunders(code: &[Ins], found: &Found) -> Option<String> {
     if code.iter().any(|i| i.marks & DUNDER != 0) { return None }
-    let may: Vec<String> = (0..code.len()).filter(|&k| found.levels[k].is_none() && may_run_a_dunder(code[k].op)).map(|k| format!("{k} {}", code[k].op)).collect();
+    let may: Vec<String> = (0..code.len()).filter(|&k| found.levels[k].is_none() && may_run_a_dunder(code[k].op)).map(|k| format!("{k} {}",
+        code[k].op)).collect();
     let shown = match may.len() {
         0 => return None,
         1..=6 => and(&may),

@@ -1,5 +1,5 @@
-//! What each call calls, asked of the archive. Its two calls go back from the call by position alone, so what stands near it is lent first, and the whole code only
-//! where that does not tell.
+//! What each call calls, asked of the archive. Its two calls go back from the call by position alone, so what stands near it is lent first, and the
+//! whole code only where that does not tell.
 
 use std::collections::BTreeSet;
 use turniploom::{Ins, WIDE, op};

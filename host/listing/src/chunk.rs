@@ -156,7 +156,8 @@ fn note(chunk: &Chunk, f: &Folded, index: &Index, k: usize, lines: &mut [Line]) 
     for start in index.handlers.get(&k).into_iter().flatten() { lines[k].notes.push(format!("handler of the try at {start}")) }
     if f.dead[k] {
         if o == op::Phi { return lines[k].notes.push(format!("both sources are {operand}: it does nothing")) }
-        let first = lines[..k].last().and_then(|l| if l.after.is_some() { Some(k - 1) } else { l.into }).or_else(|| (0..k).rev().find(|&p| !f.dead[p])).expect("a first operand");
+        let first = lines[..k].last().and_then(|l| if l.after.is_some() { Some(k - 1) } else { l.into }).or_else(|| (0..k).rev().find(|&p| !f.dead[p]))
+            .expect("a first operand");
         lines[k].into = Some(first);
         lines[first].result = true;
         let last = f.dead.get(k + 1).is_none_or(|&d| !d) || opcode(chunk, k + 1) == op::Phi;
@@ -184,7 +185,8 @@ fn note(chunk: &Chunk, f: &Folded, index: &Index, k: usize, lines: &mut [Line]) 
 fn sign(o: Op) -> &'static str {
     let signs = [
         (op::Add, "+"), (op::Sub, "-"), (op::Mul, "*"), (op::Div, "/"), (op::Mod, "%"), (op::FloorDiv, "//"), (op::Eq, "=="), (op::NotEq, "!="), (op::Lt, "<"),
-        (op::Gt, ">"), (op::LtEq, "<="), (op::GtEq, ">="), (op::BitAnd, "&"), (op::BitOr, "|"), (op::BitXor, "^"), (op::Shl, "<<"), (op::Shr, ">>"), (op::Not, "not "), (op::Minus, "-"),
+        (op::Gt, ">"), (op::LtEq, "<="), (op::GtEq, ">="), (op::BitAnd, "&"), (op::BitOr, "|"), (op::BitXor, "^"), (op::Shl, "<<"), (op::Shr, ">>"),
+            (op::Not, "not "), (op::Minus, "-"),
     ];
     signs.iter().find(|s| s.0 == o).map_or("?", |s| s.1)
 }
@@ -217,7 +219,8 @@ fn unfolded(chunk: &Chunk, f: &Folded, index: &Index, k: usize, lines: &[Line]) 
     let operands = index.operands(k, arity);
     if !operands.iter().all(|&p| opcode(chunk, p) == op::LoadConst) { return None }
     let Some(&first) = operands.last().filter(|_| operands.len() == arity) else {
-        return Some(format!("not folded: it takes {}, and {} before it", count(arity, "operand"), if operands.is_empty() { "nothing stands" } else { "one stands" }));
+        return Some(format!("not folded: it takes {}, and {} before it", count(arity, "operand"), if operands.is_empty() { "nothing stands" } else {
+            "one stands" }));
     };
     let now = |p: usize| lines[p].after.as_ref().expect("a live position").0;
     if let Some(p) = operands.iter().rev().find(|&&p| Op(f.code[now(p)][0]) != op::LoadConst) {

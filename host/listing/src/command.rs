@@ -55,7 +55,8 @@ pub fn finished(done: Done<Vec<Trouble>>) -> ExitCode {
     for trouble in troubles.iter().filter(|t| **t != Trouble::Closed) {
         // Where not even this can be written nothing is left to be done.
         let mut errors = io::stderr().lock();
-        for line in trouble.says().lines() { let _ = if matches!(trouble, Trouble::Use(_)) { writeln!(errors, "listing: {line}") } else { writeln!(errors, "{line}") }; }
+        for line in trouble.says().lines() { let _ = if matches!(trouble, Trouble::Use(_)) { writeln!(errors, "listing: {line}") } else {
+            writeln!(errors, "{line}") }; }
     }
     ExitCode::from(troubles.iter().map(Trouble::status).max().unwrap_or(0))
 }

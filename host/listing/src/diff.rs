@@ -94,8 +94,10 @@ pub fn bodies(old: &View, new: &View) -> String {
 
 /// What differs between two chunks as they ship. Where an instruction was does not count, since that moves.
 pub fn chunks(old: &chunk::View, new: &chunk::View) -> String {
-    let lines = |v: &chunk::View| v.ships.unmoved().to_string().lines().map(|l| l.split_once(' ').filter(|(k, _)| k.parse::<u32>().is_ok()).map_or(l, |(_, rest)| rest).to_string()).collect::<Vec<_>>();
+    let unnumbered = |l: &str| l.split_once(' ').filter(|(k, _)| k.parse::<u32>().is_ok()).map_or(l, |(_, rest)| rest).to_string();
+    let lines = |v: &chunk::View| v.ships.unmoved().to_string().lines().map(unnumbered).collect::<Vec<_>>();
     let (a, b) = (lines(old), lines(new));
     let (out, [gone, came, _]) = walk(&a, &b, &mut |_, _| None, &|is_new, k| if is_new { b[k].clone() } else { a[k].clone() });
-    if gone + came == 0 { "Nothing differs in what ships.\n".into() } else { format!("{out}\nAs they ship: {} gone, {} new.\n", count(gone, "line"), count(came, "line")) }
+    if gone + came == 0 { return "Nothing differs in what ships.\n".into() }
+    format!("{out}\nAs they ship: {} gone, {} new.\n", count(gone, "line"), count(came, "line"))
 }

@@ -81,7 +81,7 @@ impl Rows<'_> {
     /// The registers that the level at `k` would have to keep, and does not.
     fn lost(&self, k: usize, resume: usize, result: Option<u16>, kept: &[u16]) -> Vec<u16> {
         let mut row = self.row(resume).to_vec();
-        if let Some(r) = result && let Some(w) = row.get_mut(usize::from(r) / 64) { *w &= !(1 << (r % 64)) }
+        if let Some((r, w)) = result.and_then(|r| Some((r, row.get_mut(usize::from(r) / 64)?))) { *w &= !(1 << (r % 64)) }
         self.caught(k, &mut row);
         let kept: BTreeSet<u16> = kept.iter().copied().collect();
         (0..64 * self.words as u16).filter(|&r| row[usize::from(r) / 64] >> (r % 64) & 1 != 0 && !kept.contains(&r)).collect()
@@ -91,11 +91,12 @@ impl Rows<'_> {
     fn reader(&self, level: usize, resume: usize, r: u16) -> Option<usize> {
         let caught = |k: usize| self.around[k].iter().copied().find(|&t| self.has(self.tries[t].1, r));
         if let Some(t) = caught(level) { return Some(t) }
-        let (mut seen, mut next) = (BTreeSet::from([resume]), VecDeque::from([resume]));
-        while let Some(k) = next.pop_front().filter(|&k| k < self.n()) {
+        let (mut seen, mut next) = (vec![false; self.n() + 1], VecDeque::from([resume.min(self.n())]));
+        while let Some(k) = next.pop_front() {
+            if seen[k] || k == self.n() { continue }
+            seen[k] = true;
             if let Some(t) = caught(k) { return Some(t) }
-            if self.lines[k].given_up.contains(&r) { continue }
-            for &after in &self.lines[k].after { if seen.insert(after) { next.push_back(after) } }
+            if !self.lines[k].given_up.contains(&r) { next.extend(&self.lines[k].after) }
         }
         None
     }

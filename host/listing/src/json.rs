@@ -57,7 +57,8 @@ fn body(view: &body::View) -> String {
         )
     });
     let lost = view.lost.iter().map(|l| {
-        format!("{{\"register\":{},\"try\":{},\"handler\":{},\"not_kept_at\":{},\"says\":{}}}", l.register, l.start, l.handler, numbers(&l.levels), quoted(&l.says()))
+        format!("{{\"register\":{},\"try\":{},\"handler\":{},\"not_kept_at\":{},\"says\":{}}}", l.register, l.start, l.handler, numbers(&l.levels),
+            quoted(&l.says()))
     });
     let tries = view.tries.iter().map(|(s, h)| format!("[{s},{h}]"));
     format!(
@@ -70,7 +71,8 @@ fn chunk(view: &chunk::View) -> String {
     let lines = view.before.iter().enumerate().map(|(k, l)| {
         let after = l.after.as_ref().map(|(to, text)| format!("{{\"at\":{to},\"instruction\":{},\"was\":{}}}", quoted(text), l.was));
         let into = l.into.map(|to| to.to_string());
-        format!("\n{{\"at\":{k},\"instruction\":{},\"after\":{},\"into\":{},\"notes\":{},\"comment\":{}}}", quoted(&l.text), or_null(after), or_null(into), texts(&l.notes), quoted(&l.comment))
+        format!("\n{{\"at\":{k},\"instruction\":{},\"after\":{},\"into\":{},\"notes\":{},\"comment\":{}}}", quoted(&l.text), or_null(after),
+            or_null(into), texts(&l.notes), quoted(&l.comment))
     });
     let constants = view.ships.constants.iter().map(|&(kind, word)| quoted(&constant_text(kind, word)));
     format!(

@@ -22,6 +22,11 @@ pub mod unfolded;
 pub mod whose;
 pub mod why;
 
+/// README's Rust is tested as documentation is.
+#[cfg(doctest)]
+#[doc = include_str!("../../../README.md")]
+pub struct Readme;
+
 /// Words joined as in a sentence.
 pub fn and<T: ToString>(words: &[T]) -> String {
     let words: Vec<String> = words.iter().map(T::to_string).collect();

@@ -26,7 +26,8 @@ pub fn files(listed: &[Listed]) -> String {
     for (k, l) in listed.iter().enumerate() { writeln!(content, "<li><a href=\"#f{k}\">{}</a>: {}</li>", escaped(&l.file), escaped(&heading(l))).unwrap() }
     content += "</ol>\n</nav>\n";
     for (k, l) in listed.iter().enumerate() {
-        write!(content, "<section id=\"f{k}\">\n<h2>{}</h2>\n<p class=\"heading\">{}</p>\n{}</section>\n", escaped(&l.file), escaped(&heading(l)), shown(l)).unwrap();
+        write!(content, "<section id=\"f{k}\">\n<h2>{}</h2>\n<p class=\"heading\">{}</p>\n{}</section>\n", escaped(&l.file), escaped(&heading(l)),
+            shown(l)).unwrap();
     }
     whole(&count(listed.len(), "file"), "Bodies and chunks, each below with all that is known of it.", &content)
 }
@@ -60,11 +61,13 @@ pub fn body(view: &body::View) -> String {
     let chart = if columns > WIDEST { Chart::Words } else if columns <= COLUMNS && columns * view.lines.len() <= CELLS { Chart::Cells } else { Chart::Marks };
     let lanes = lanes::of(view.lines.len() - 1, &view.tries);
     let mut out = String::from("<div class=\"chart\" role=\"region\" aria-label=\"the chart\" tabindex=\"0\">\n<table class=\"body\">\n");
-    write!(out, "<caption>Instructions with their levels, what each uses and gives up, and the registers needed before it.</caption>\n<thead>\n{}</thead>\n<tbody>\n", head(view, chart, lanes.many())).unwrap();
+    write!(out, "<caption><span>Instructions with their levels, what each uses and gives up, and the registers needed before \
+        it.</span></caption>\n<thead>\n{}</thead>\n<tbody>\n", head(view, chart, lanes.many())).unwrap();
     for (k, l) in view.lines.iter().enumerate() {
         let class = if l.level.is_some() { " class=\"level\"" } else { "" };
         write!(out, "<tr{class}><th scope=\"row\">{k}</th><td class=\"ins\">{}</td>{}", escaped(&l.text), bands(&lanes.gutter(k, false))).unwrap();
-        write!(out, "<td class=\"note\">{}</td><td class=\"set\">{}</td><td class=\"set\">{}</td>", note(view, k, chart), registers(&l.used), registers(&l.given_up)).unwrap();
+        write!(out, "<td class=\"note\">{}</td><td class=\"set\">{}</td><td class=\"set\">{}</td>", note(view, k, chart), registers(&l.used),
+            registers(&l.given_up)).unwrap();
         match chart {
             Chart::Cells => for &r in &view.columns { out += &cell(view, k, r) },
             Chart::Marks => write!(out, "<td class=\"marks\" aria-hidden=\"true\">{}</td>", marks(view, k)).unwrap(),
@@ -98,7 +101,7 @@ fn bands(gutter: &str) -> String {
         '└' => "to",
         _ => "",
     };
-    gutter.chars().map(|c| format!("<td class=\"band {}\" aria-hidden=\"true\">{}</td>", class(c), if c == ' ' { String::new() } else { c.to_string() })).collect()
+    gutter.chars().map(|c| format!("<td class=\"band {}\" aria-hidden=\"true\"></td>", class(c))).collect()
 }
 
 /// What is said of a position: its level and what it keeps, its jumps, the writer's comment; and for who hears the page, its row.
@@ -160,19 +163,22 @@ fn legend(view: &body::View, chart: Chart) -> String {
     told.extend([("▲", "kept", "kept for the resume point"), ("△", "kept handler", "kept for a handler")]);
     if !view.unread.is_empty() { told.push(("○", "row unread", "needed and never read on that day")) }
     if view.start > 0 { told.push(("", "unknown", "not looked for, before the first level")) }
-    let told: String = told.iter().map(|(mark, class, says)| format!("<li><span class=\"cell {class}\" aria-hidden=\"true\">{mark}</span> {says}</li>\n")).collect();
+    let told: String = told.iter().map(|(mark, class, says)| format!("<li><span class=\"cell {class}\" aria-hidden=\"true\">{mark}</span> \
+        {says}</li>\n")).collect();
     format!("<ul class=\"legend\">\n{told}</ul>\n")
 }
 
 pub fn chunk(view: &chunk::View) -> String {
     let mut out = String::from("<div class=\"chart\" role=\"region\" aria-label=\"the chunk\" tabindex=\"0\">\n<table class=\"chunk\">\n");
-    out += "<caption>Instructions before and after folding, and why something was not folded.</caption>\n<thead>\n<tr><th scope=\"col\">at</th>";
-    out += "<th scope=\"col\" class=\"ins\">before</th><th aria-hidden=\"true\"></th><th scope=\"col\">now at</th><th scope=\"col\">after</th><th scope=\"col\">notes</th></tr>\n</thead>\n<tbody>\n";
+    out += "<caption><span>Instructions before and after folding, and why something was not folded.</span></caption>\n<thead>\n<tr><th scope=\"col\">at</th>";
+    out += "<th scope=\"col\" class=\"ins\">before</th><th aria-hidden=\"true\"></th><th scope=\"col\">now at</th><th scope=\"col\">after</th><th \
+        scope=\"col\">notes</th></tr>\n</thead>\n<tbody>\n";
     let mut colour = 0;
     for (k, l) in view.before.iter().enumerate() {
         if l.result { colour = colour % 5 + 1 }
         let group = if l.result || l.into.is_some() { format!(" class=\"group{colour}\"") } else { String::new() };
-        write!(out, "<tr{group}><th scope=\"row\">{k}</th><td class=\"ins{}\">{}</td>", if l.after.is_none() { " dead" } else { "" }, escaped(&l.text)).unwrap();
+        write!(out, "<tr{group}><th scope=\"row\">{k}</th><td class=\"ins{}\">{}</td>", if l.after.is_none() { " dead" } else { "" }, escaped(&l.text))
+            .unwrap();
         match (&l.after, l.into) {
             (Some((to, text)), _) => write!(out, "<td class=\"arrow\">→</td><td class=\"at\">{to}</td><td class=\"code\">{}{}</td>", escaped(text), was(l.was, *to)).unwrap(),
             (None, Some(to)) => write!(out, "<td class=\"arrow\">↗</td><td></td><td class=\"code\">into {to}</td>").unwrap(),

@@ -54,7 +54,8 @@ pub fn body(view: &body::View) -> String {
     let mut out = String::new();
     let mut line = |k: &str, gutter: &str, cells: [&str; 3], row: &str, note: &str| {
         let [a, b, c] = [0, 1, 2].map(|i| pad(cells[i], widths[i]));
-        let text = format!("{k:>place$} {}{}{a}  {b}  {c}  {}  {note}", pad(gutter, lanes.many()), if lanes.many() > 0 { " " } else { "" }, pad(row, picture_width));
+        let text = format!("{k:>place$} {}{}{a}  {b}  {c}  {}  {note}", pad(gutter, lanes.many()), if lanes.many() > 0 { " " } else { "" }, pad(row,
+            picture_width));
         writeln!(out, "{}", text.trim_end()).unwrap();
     };
     if drawn {
@@ -104,10 +105,13 @@ fn legend(view: &body::View) -> String {
 pub fn chunk(view: &chunk::View) -> String {
     let place = view.before.len().to_string().len();
     let before: Vec<String> = view.before.iter().enumerate().map(|(k, l)| format!("{k:>place$} {}", l.text)).collect();
-    let after: Vec<String> = view.before.iter().map(|l| l.after.as_ref().map_or(String::new(), |(k, text)| format!("{k:>place$} {text}{}", was(l.was, *k)))).collect();
-    let (left, right) = (widest(before.iter().map(String::as_str)).max("before".len() + place + 1), widest(after.iter().map(String::as_str)).max("after".len() + place + 1));
+    let after = |l: &chunk::Line| l.after.as_ref().map_or(String::new(), |(k, text)| format!("{k:>place$} {text}{}", was(l.was, *k)));
+    let after: Vec<String> = view.before.iter().map(after).collect();
+    let (left, right) = (widest(before.iter().map(String::as_str)).max("before".len() + place + 1), widest(after.iter().map(String::as_str))
+        .max("after".len() + place + 1));
     let mut out = String::new();
-    let mut line = |a: &str, mark: char, b: &str, note: &str| writeln!(out, "{}", format!("{}  {mark}  {}  {note}", pad(a, left), pad(b, right)).trim_end()).unwrap();
+    let mut line = |a: &str, mark: char, b: &str, note: &str| writeln!(out, "{}", format!("{}  {mark}  {}  {note}", pad(a, left), pad(b, right))
+        .trim_end()).unwrap();
     let indent = " ".repeat(place + 1);
     line(&format!("{indent}before"), ' ', &format!("{indent}after"), "");
     for (k, l) in view.before.iter().enumerate() {

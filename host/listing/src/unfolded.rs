@@ -1,4 +1,5 @@
-//! Why an operator over constants was not folded: the rules of document 01, one sentence each, by the listing's own reckoning. Landings alone are counted by the archive.
+//! Why an operator over constants was not folded: the rules of document 01, one sentence each, by the listing's own reckoning. Landings alone are
+//! counted by the archive.
 
 use crate::notation::constant_text;
 use turniploom::{Op, op};

@@ -42,7 +42,8 @@ fn given(words: &[&str], text: &[u8]) -> Output {
 #[test]
 fn help_and_version() {
     let help = printed(&["--help"]);
-    for word in ["--html", "--json", "--kept", "--diff", "--figures", "--replay", "--why", "--rows", "--strict", "--colour", "Exit status: 0 listed, 1 refused"] { assert!(help.contains(word), "{word}") }
+    for word in ["--html", "--json", "--kept", "--diff", "--figures", "--replay", "--why", "--rows", "--strict", "--colour",
+        "Exit status: 0 listed, 1 refused"] { assert!(help.contains(word), "{word}") }
     assert_eq!(printed(&["-h"]), help);
     let version = printed(&["--version"]);
     let due = format!("turniploom {}\narchive sha256 {}\nproved with {}\n", env!("CARGO_PKG_VERSION"), turniploom::ARCHIVE_SHA256, turniploom::KIT);
@@ -55,7 +56,8 @@ fn whose_proof() {
     let sum = Command::new("sha256sum").arg(turniploom::abi::ARCHIVE).output().unwrap();
     assert_eq!(out(&sum).split(' ').next().unwrap(), turniploom::ARCHIVE_SHA256);
     let due = format!("turniploom {}; archive sha256 {}; proved with {}.", env!("CARGO_PKG_VERSION"), turniploom::ARCHIVE_SHA256, turniploom::KIT);
-    for words in [vec![sample("K.txt")], vec![sample("P13.txt")], vec!["--kept".into(), sample("K.txt")], vec!["--figures".into(), sample("K.txt")], vec!["--diff".into(), sample("K.txt"), sample("P5.txt")]] {
+    for words in [vec![sample("K.txt")], vec![sample("P13.txt")], vec!["--kept".into(), sample("K.txt")], vec!["--figures".into(), sample("K.txt")],
+        vec!["--diff".into(), sample("K.txt"), sample("P5.txt")]] {
         let words: Vec<&str> = words.iter().map(String::as_str).collect();
         assert_eq!(printed(&words).lines().last(), Some(due.as_str()), "{words:?}");
     }
@@ -71,15 +73,18 @@ fn how_it_ends() {
     let status = |words: &[&str]| run(words).status.code();
     assert_eq!(status(&[&sample("K.txt")]), Some(0));
     assert_eq!(status(&[&refused]), Some(1));
-    assert_eq!(err(&run(&[&refused])), format!("{refused}: line 3: refused (2): the instruction at 1 breaks a record rule: PushRegs pushes at most 3 registers, not 4\n"));
+    assert_eq!(err(&run(&[&refused])), format!("{refused}: line 3: refused (2): the instruction at 1 breaks a record rule: PushRegs pushes at most 3 \
+        registers, not 4\n"));
     assert_eq!(status(&[&wrong]), Some(2));
     let says = err(&run(&[&wrong]));
     assert_eq!(says.lines().count(), 2, "{says}");
-    assert!(says.contains(&format!("{wrong}: line 2: no opcode and no setting is called `Mvoe`; is `Move` meant?\n")) && says.contains(&format!("{wrong}: line 3: Move: `q1`")), "{says}");
+    assert!(says.contains(&format!("{wrong}: line 2: no opcode and no setting is called `Mvoe`; is `Move` meant?\n")) && says
+        .contains(&format!("{wrong}: line 3: Move: `q1`")), "{says}");
     // The worst of several, and what can be listed is listed.
     let both = run(&[&refused, &sample("K.txt"), &wrong]);
     assert!(both.status.code() == Some(2) && out(&both).contains("K.txt: 6 instructions") && err(&both).lines().count() == 3);
-    for words in [&[][..], &["--nothing"], &["--html"], &["--rows=16", "x"], &["--why", "1", "x", "y"], &["--strict=yes", "x"], &["--diff", "x"], &["-", "-"], &["/gone.txt"], &["--colour=pink", "x"]] {
+    for words in [&[][..], &["--nothing"], &["--html"], &["--rows=16", "x"], &["--why", "1", "x", "y"], &["--strict=yes", "x"], &["--diff", "x"], &["-",
+        "-"], &["/gone.txt"], &["--colour=pink", "x"]] {
         let output = run(words);
         assert!(output.status.code() == Some(2) && err(&output).lines().count() == 1 && out(&output).is_empty(), "{words:?}: {}", err(&output));
     }
@@ -130,7 +135,8 @@ fn files_and_folders() {
     assert_eq!(output.status.code(), Some(2));
     let text = out(&output);
     let at = |what: &str| text.find(what).unwrap_or_else(|| panic!("{what}: {text}"));
-    assert!(at("jacket.txt: 17") < at(&format!("{place}/K.txt: 6")) && at("/K.txt: 6") < at(&format!("{place}/P13.txt: a chunk")) && !text.contains("other.md"));
+    assert!(at("jacket.txt: 17") < at(&format!("{place}/K.txt: 6")) && at("/K.txt: 6") < at(&format!("{place}/P13.txt: a chunk")) && !text
+        .contains("other.md"));
     assert_eq!(text.matches("archive sha256").count(), 1);
     let page = fs::read_to_string(page).unwrap();
     for k in 0..4 { assert!(page.contains(&format!("<a href=\"#f{k}\">")) && page.contains(&format!("<section id=\"f{k}\">")), "{k}") }
@@ -186,8 +192,10 @@ fn json() {
     assert_eq!(value(&text, 0).map(str::trim), Ok(""), "{text}");
     assert_eq!(output.status.code(), Some(2));
     for due in [
-        "\"level\":{\"resumes\":9,\"result\":6,\"calls\":\"calls binding 9\",\"store_missing\":false,\"keeps\":[1,3,5],\"for_handlers\":[{\"handler\":13,\"keeps\":[5]}]}",
-        "{\"register\":5,\"try\":5,\"handler\":9,\"not_kept_at\":[2],", "\"row\":null,", "\"row\":[0,3],", "\"comment\":\"r1: the part's own reading\"", "\"kind\":\"chunk\"", "\"ships\":\"chunk\\nstrict\\n",
+        "\"level\":{\"resumes\":9,\"result\":6,\"calls\":\"calls binding \
+            9\",\"store_missing\":false,\"keeps\":[1,3,5],\"for_handlers\":[{\"handler\":13,\"keeps\":[5]}]}",
+        "{\"register\":5,\"try\":5,\"handler\":9,\"not_kept_at\":[2],", "\"row\":null,", "\"row\":[0,3],", "\"comment\":\"r1: the part's own reading\"",
+            "\"kind\":\"chunk\"", "\"ships\":\"chunk\\nstrict\\n",
         "\"file\":\"", "wrong \\\"q\\\".txt", "\"error\":", turniploom::ARCHIVE_SHA256,
     ] { assert!(text.contains(due), "{due}\n{text}") }
 }
@@ -195,7 +203,8 @@ fn json() {
 #[test]
 fn levels_alone() {
     let text = printed(&["--kept", &sample("jacket.txt")]);
-    assert!(text.contains("\n\n 0 GetAttrR a1 b0 c1  keeps r0 r3\n 1 GetAttrR a2 b0 c2  keeps r0 r1 r3\n 2 GetAttrR a5 b0 c3  keeps r1-r3\n 8 CallR a4 b3 x1     keeps r1 r3; r5 for the handler at 13\nturniploom "), "{text}");
+    assert!(text.contains("\n\n 0 GetAttrR a1 b0 c1  keeps r0 r3\n 1 GetAttrR a2 b0 c2  keeps r0 r1 r3\n 2 GetAttrR a5 b0 c3  keeps r1-r3\n 8 CallR \
+        a4 b3 x1     keeps r1 r3; r5 for the handler at 13\nturniploom "), "{text}");
     assert!(printed(&["--kept", &sample("exposed.txt")]).contains("\nWARNING: the handler at 9 needs r5"));
 }
 
@@ -203,12 +212,15 @@ fn levels_alone() {
 fn what_differs() {
     let folder = folder("diff");
     let old = file(&folder, "old.txt", &fs::read_to_string(sample("K.txt")).unwrap());
-    let new = file(&folder, "new.txt", "registers 4\n0 LoadGlobalR a0 b7\n1 Move a3 b0\n2 LoadGlobalR a1 b9\n3 CallR a1 x0\n4 StoreTopR a2\n5 AddR a3 b3 c2\n6 ReturnR b3\n");
+    let new = file(&folder, "new.txt", "registers 4\n0 LoadGlobalR a0 b7\n1 Move a3 b0\n2 LoadGlobalR a1 b9\n3 CallR a1 x0\n4 StoreTopR a2\n5 AddR a3 \
+        b3 c2\n6 ReturnR b3\n");
     let text = printed(&["--diff", &old, &new]);
     assert!(text.contains("+ 1 Move a3 b0\n") && text.contains("- 4 AddR a3 b0 c2\n+ 5 AddR a3 b3 c2\n"), "{text}");
-    assert!(text.contains("  2, now 3 CallR a1 x0\n      row    + r3  - r0\n      keeps  + r3  - r0\n") && text.contains("\n1 instruction gone, 2 instructions new, rows or lists changed at 2 others.\n"), "{text}");
+    assert!(text.contains("  2, now 3 CallR a1 x0\n      row    + r3  - r0\n      keeps  + r3  - r0\n") && text
+        .contains("\n1 instruction gone, 2 instructions new, rows or lists changed at 2 others.\n"), "{text}");
     assert!(printed(&["--diff", &old, &old]).contains("\nNothing differs: the same instructions, rows and lists.\n"));
-    assert!(printed(&["--diff", &sample("P13.txt"), &sample("ships.txt")]).contains("- Jump 1\n") && run(&["--diff", &old, &sample("P13.txt")]).status.code() == Some(2));
+    assert!(printed(&["--diff", &sample("P13.txt"), &sample("ships.txt")]).contains("- Jump 1\n") && run(&["--diff", &old, &sample("P13.txt")]).status
+        .code() == Some(2));
 }
 
 /// Colour on a terminal, unless NO_COLOR is set; `script` stands for a terminal.
@@ -223,7 +235,8 @@ fn colour() {
         script.output().map(|o| out(&o).contains('\x1b'))
     };
     match on_a_terminal(None, "") {
-        Ok(coloured) => assert!(coloured && !on_a_terminal(Some("1"), "").unwrap() && on_a_terminal(Some(""), "").unwrap() && !on_a_terminal(None, "--colour=never").unwrap()),
+        Ok(coloured) => assert!(coloured && !on_a_terminal(Some("1"), "").unwrap() && on_a_terminal(Some(""), "").unwrap() && !on_a_terminal(None,
+            "--colour=never").unwrap()),
         Err(e) => println!("left out: there is no `script`: {e}"),
     }
 }
@@ -254,7 +267,8 @@ fn the_largest_code_is_listed_in_two_seconds() {
     assert!(printed(&[&largest]).lines().any(|l| l.starts_with("65535 ") && l.contains(" end ")));
     let counted = out(&Command::new("sh").args(["-c", "\"$0\" \"$1\" > /dev/null && times", LISTING, &largest]).output().unwrap());
     // The second line has the minutes and seconds of what the shell ran, its own and the system's: 0m0.44s 0m0.11s
-    let seconds = |word: &str| { let (m, s) = word.trim_end_matches('s').split_once('m').unwrap(); 60.0 * m.parse::<f64>().unwrap() + s.parse::<f64>().unwrap() };
+    let seconds = |word: &str| { let (m, s) = word.trim_end_matches('s').split_once('m').unwrap(); 60.0 * m.parse::<f64>().unwrap() + s.parse::<f64>()
+        .unwrap() };
     let took: f64 = counted.lines().nth(1).unwrap().split(' ').map(seconds).sum();
     assert!(took > 0.0 && took < 2.0, "{took} seconds: {counted}");
 }

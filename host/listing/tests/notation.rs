@@ -101,11 +101,13 @@ fn all_errors_are_told() {
     let all = |text: &str| read(text).unwrap_err().0.into_iter().map(|w| (w.line, w.says)).collect::<Vec<_>>();
     let text = "registers four\n0 Move a0 b1\n2 Mvoe a0 b1\n3 Move q1\n5\n6 Move a1 b2\ntry x";
     let due = [
-        (1, "registers wants a number, not `four`"), (3, "position 2 stands where 1 is due"), (4, "Move: `q1` is no field (a, b, c, x, m with a number) and no mark"),
+        (1, "registers wants a number, not `four`"), (3, "position 2 stands where 1 is due"), (4,
+            "Move: `q1` is no field (a, b, c, x, m with a number) and no mark"),
         (5, "position 5 stands where 4 is due"), (7, "a try wants a number, not `x`"),
     ];
     assert_eq!(all(text), due.map(|(line, says)| (line, says.to_string())));
-    let due = [(1, "no opcode and no setting is called `Mvoe`; is `Move` meant?"), (2, "no opcode and no setting is called `Xyz`"), (2, "how many registers? Say `registers 4`, or `chunk` if this is a chunk")];
+    let due = [(1, "no opcode and no setting is called `Mvoe`; is `Move` meant?"), (2, "no opcode and no setting is called `Xyz`"), (2,
+        "how many registers? Say `registers 4`, or `chunk` if this is a chunk")];
     assert_eq!(all("Mvoe a0 b1\nXyz a1"), due.map(|(line, says)| (line, says.to_string())));
     assert_eq!(read("Mvoe a0 b1\nXyz a1").unwrap_err().to_string().lines().count(), 3);
 }
@@ -133,16 +135,20 @@ fn nan_and_the_sign_of_zero() {
 #[test]
 fn refusals_in_words() {
     let refused = |text: &str| { let b = body(text); refused::body(body::View::of(&b).err().expect("a refusal"), &b) };
-    assert_eq!(refused("registers 4\nMove a0\nPushRegs a1 x4"), "line 3: refused (2): the instruction at 1 breaks a record rule: PushRegs pushes at most 3 registers, not 4");
+    assert_eq!(refused("registers 4\nMove a0\nPushRegs a1 x4"), "line 3: refused (2): the instruction at 1 breaks a record rule: PushRegs pushes at \
+        most 3 registers, not 4");
     assert_eq!(refused("registers 1025"), "refused (3): 1025 registers are more than 1,024");
     assert_eq!(refused("registers 4\ntry 3 2"), "refused (4): try 0 breaks its rule: it starts at 3, past its handler at 2");
     assert_eq!(refused("registers 4\ntry 0 0 1"), "refused (4): try 1 breaks its rule: it has no handler: a try is two numbers, its start and its handler");
     assert_eq!(refused("registers 4\nwords 1 2"), "refused (1): a code of 2 words is no whole number of instructions, or too long");
     let refused = |text: &str| { let c = chunk(text); refused::chunk(chunk::View::of(&c).err().expect("a refusal"), &c) };
-    assert_eq!(refused("chunk\nLoadConst 0 jump"), "line 2: refused (2): the instruction at 0 breaks a record rule: LoadConst, Phi and the folding operators are no jumps");
-    assert_eq!(refused("chunk\nLoadConst 0 m0"), "line 2: refused (2): the instruction at 0 breaks a record rule: LoadConst names a constant, and lacks that mark");
+    assert_eq!(refused("chunk\nLoadConst 0 jump"), "line 2: refused (2): the instruction at 0 breaks a record rule: LoadConst, Phi and the folding \
+        operators are no jumps");
+    assert_eq!(refused("chunk\nLoadConst 0 m0"), "line 2: refused (2): the instruction at 0 breaks a record rule: LoadConst names a constant, and \
+        lacks that mark");
     for bad in ["Jump 0", "Phi 0", "Add"] {
-        assert_eq!(refused(&format!("chunk\n{bad} names")), "line 2: refused (2): the instruction at 0 breaks a record rule: a jump, a Phi and a folding operator name no constant");
+        assert_eq!(refused(&format!("chunk\n{bad} names")), "line 2: refused (2): the instruction at 0 breaks a record rule: a jump, a Phi and a \
+            folding operator name no constant");
     }
     assert_eq!(refused("chunk\ntry 0 0\ntry 2 1"), "refused (4): try 1 breaks its rule: it starts at 2, past its handler at 1");
     assert_eq!(refused("chunk\ntry 1 2"), "refused (4): try 0 breaks its rule: it starts at 1, past the end at 0");

@@ -20,7 +20,8 @@ fn every_sample_is_listed() {
         let (text, page) = listed(name);
         assert!(!text.contains("BREAK") && page.matches("<tr").count() == page.matches("</tr>").count(), "{name}");
         let opened = |tag: &str| page.matches(&format!("<{tag}>")).count() + page.matches(&format!("<{tag} ")).count();
-        for tag in ["table", "thead", "tbody", "th", "td", "span", "div", "p", "ul", "li"] { assert_eq!(opened(tag), page.matches(&format!("</{tag}>")).count(), "{name}: {tag}") }
+        for tag in ["table", "thead", "tbody", "th", "td", "span", "div", "p", "ul", "li"] { assert_eq!(opened(tag), page.matches(&format!("</{tag}>"))
+            .count(), "{name}: {tag}") }
     }
 }
 
@@ -114,11 +115,15 @@ fn each_reason_in_its_own_words() {
     };
     let two = |constants: &str, operator: &str| why(constants, &format!("LoadConst 0; LoadConst 1; {operator}"));
     for (constants, operator, reason) in [
-        ("7 2", "Div", "int / int stays"), ("7 0", "FloorDiv", "it divides by 0"), ("7 0", "Mod", "it divides by 0"), ("7.5 0", "Div", "it divides by 0"), ("1 -0.0", "Div", "it divides by 0"),
+        ("7 2", "Div", "int / int stays"), ("7 0", "FloorDiv", "it divides by 0"), ("7 0", "Mod", "it divides by 0"), ("7.5 0", "Div",
+            "it divides by 0"), ("1 -0.0", "Div", "it divides by 0"),
         ("140737488355327 1", "Add", "140737488355328 is past 48 bits"), ("140737488355328 1", "Add", "constant 0, 140737488355328, is past 48 bits"),
-        ("-140737488355328 -1", "FloorDiv", "140737488355328 is past 48 bits"), ("1 63", "Shl", "it shifts by 63, which is not 0 to 62"), ("1 47", "Shl", "140737488355328 is past 48 bits"),
-        ("1 -1", "Shr", "it shifts by -1, which is not 0 to 62"), ("7.0 2", "FloorDiv", "// and % stay where one is a float"), ("7 2.0", "BitAnd", "bits and shifts are for ints alone"),
-        ("true 2", "Add", "constant 0, true, is no number"), ("2 other", "Add", "constant 1 is neither a number nor a bool"), ("2", "Add", "constant 1 is not there"),
+        ("-140737488355328 -1", "FloorDiv", "140737488355328 is past 48 bits"), ("1 63", "Shl", "it shifts by 63, which is not 0 to 62"), ("1 47",
+            "Shl", "140737488355328 is past 48 bits"),
+        ("1 -1", "Shr", "it shifts by -1, which is not 0 to 62"), ("7.0 2", "FloorDiv", "// and % stay where one is a float"), ("7 2.0", "BitAnd",
+            "bits and shifts are for ints alone"),
+        ("true 2", "Add", "constant 0, true, is no number"), ("2 other", "Add", "constant 1 is neither a number nor a bool"), ("2", "Add",
+            "constant 1 is not there"),
     ] { assert_eq!(two(constants, operator), format!("not folded: {reason}"), "{constants} {operator}") }
     assert_eq!(why("2 3", "LoadConst 9; Minus"), "not folded: constant 9 is not there");
     assert_eq!(why("-140737488355328", "LoadConst 0; Minus"), "not folded: 140737488355328 is past 48 bits");
@@ -131,7 +136,8 @@ fn each_reason_in_its_own_words() {
 /// Every operator over telling pairs: an operator that stays has a reason that the listing knows, and one that folds is told with its value.
 #[test]
 fn no_reason_is_missing() {
-    let constants = ["0", "1", "-1", "7", "62", "63", "-140737488355328", "140737488355327", "140737488355328", "0.0", "-0.0", "1.5", "inf", "-inf", "nan", "true", "false", "other"];
+    let constants = ["0", "1", "-1", "7", "62", "63", "-140737488355328", "140737488355327", "140737488355328", "0.0", "-0.0", "1.5", "inf", "-inf",
+        "nan", "true", "false", "other"];
     let operators = ["Add", "Sub", "Mul", "Div", "Mod", "FloorDiv", "Eq", "NotEq", "Lt", "Gt", "LtEq", "GtEq", "BitAnd", "BitOr", "BitXor", "Shl", "Shr"];
     let head = format!("chunk; constants {}", constants.join(" "));
     for a in 0..constants.len() {
@@ -229,14 +235,17 @@ fn what_a_handler_loses() {
     assert!(page.contains(&format!("<p class=\"warning\">{warning}</p>")), "{page}");
     for name in ["K.txt", "P5.txt", "jacket.txt"] { assert!(!listed(name).0.contains("WARNING"), "{name}") }
     // Kept by a use after the try, or written anew before it: nothing is lost.
-    let body = |four: &str, eight: &str| shown(&format!("registers 6; try 5 9; LoadGlobalR a5 b1; LoadGlobalR a4 b9; CallR a4 b0 x1; StoreTopR a1; {four}; SetupExcept a9; CallR a4 b1 x1; StoreTopR a2; {eight}; ReturnR b5")).0;
+    let body = |four: &str, eight: &str| shown(&format!("registers 6; try 5 9; LoadGlobalR a5 b1; LoadGlobalR a4 b9; CallR a4 b0 x1; StoreTopR a1; \
+        {four}; SetupExcept a9; CallR a4 b1 x1; StoreTopR a2; {eight}; ReturnR b5")).0;
     assert!(body("LoadGlobalR a4 b9", "ReturnR b2").contains("WARNING"));
     assert!(!body("LoadGlobalR a4 b9", "ReturnR b5").contains("WARNING"));
     assert!(!body("LoadGlobalR a5 b9", "ReturnR b2").contains("WARNING"));
     // By way of a first handler, into a second try.
-    let nested = shown("registers 5; try 1 4; try 4 7; LoadGlobalR a3 b1; CallR a0 x0; StoreTopR a1; ReturnR b1; SetupExcept a7; CallR a0 x0; StoreTopR a1; ReturnR b3").0;
+    let nested = shown("registers 5; try 1 4; try 4 7; LoadGlobalR a3 b1; CallR a0 x0; StoreTopR a1; ReturnR b1; SetupExcept a7; CallR a0 x0; \
+        StoreTopR a1; ReturnR b3").0;
     assert!(nested.contains("the handler at 4 needs r3, which is not kept at the level at 1 before its try at 1."), "{nested}");
-    let nested = shown("registers 5; try 0 4; try 5 9; LoadGlobalR a3 b1; CallR a0 x0; StoreTopR a1; ReturnR b1; SetupExcept a9; Move a1 b0; CallR a0 x0; StoreTopR a1; ReturnR b1; ReturnR b3").0;
+    let nested = shown("registers 5; try 0 4; try 5 9; LoadGlobalR a3 b1; CallR a0 x0; StoreTopR a1; ReturnR b1; SetupExcept a9; Move a1 b0; CallR a0 \
+        x0; StoreTopR a1; ReturnR b1; ReturnR b3").0;
     assert!(nested.contains("the handler at 4 needs r3, which is not kept at the level at 1 inside its try at 0."), "{nested}");
 }
 

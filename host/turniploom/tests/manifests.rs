@@ -6,7 +6,8 @@ fn here() -> &'static Path { Path::new(env!("CARGO_MANIFEST_DIR")) }
 
 /// What cargo knows of a manifest's packages, as one text.
 fn metadata(manifest: &Path) -> String {
-    let out = Command::new(env!("CARGO")).args(["metadata", "--offline", "--no-deps", "--format-version", "1", "--manifest-path"]).arg(manifest).output().unwrap();
+    let out = Command::new(env!("CARGO")).args(["metadata", "--offline", "--no-deps", "--format-version", "1", "--manifest-path"]).arg(manifest)
+        .output().unwrap();
     assert!(out.status.success(), "{}", String::from_utf8_lossy(&out.stderr));
     String::from_utf8(out.stdout).unwrap()
 }

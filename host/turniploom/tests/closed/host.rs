@@ -1,5 +1,5 @@
-//! A host that takes the fields, numbers and kinds of today for all that there will be. A line that ends in `//= E` and a number must be refused with that error, and
-//! no other line; the lines between show what a host may do.
+//! A host that takes the fields, numbers and kinds of today for all that there will be. A line that ends in `//= E` and a number must be refused with
+//! that error, and no other line; the lines between show what a host may do.
 use turniploom::{Chunk, Constant, Day, Instruction, Kept, Refusal, Touched, abi::{Call, Kind, Param}, op::PopTop};
 
 fn matched(refusal: Refusal, kind: Kind) -> u8 {

@@ -13,13 +13,13 @@
 
 /* The version of the calls that this header declares. */
 #define TURNIPLOOM_VERSION_MAJOR 0
-#define TURNIPLOOM_VERSION_MINOR 1
+#define TURNIPLOOM_VERSION_MINOR 2
 #define TURNIPLOOM_VERSION_PATCH 0
-#define TURNIPLOOM_VERSION "0.1.0"
+#define TURNIPLOOM_VERSION "0.2.0"
 
 /* The words of an instruction, of code and of a chunk, and the limits of what is lent. */
 #define TURNIPLOOM_CODE_WORDS 6
-#define TURNIPLOOM_CHUNK_WORDS 3
+#define TURNIPLOOM_CHUNK_WORDS 4
 #define TURNIPLOOM_MOST_INSTRUCTIONS 65535
 #define TURNIPLOOM_MOST_REGISTERS 1024
 #define TURNIPLOOM_MOST_CONSTANTS 65536
@@ -83,7 +83,7 @@ enum turniploom_refusal {
  * is no level without its mark, so a register that must be kept is lost. turniploom_set_marks, below, sets them. */
 enum turniploom_mark { TURNIPLOOM_WIDE = 1, TURNIPLOOM_DUNDER = 2, TURNIPLOOM_IS_REGISTER = 4 };
 
-/* The marks of a chunk's instruction: three words, opcode, marks, operand. Every LoadConst names a constant; a jump, a Phi and a
+/* The marks of a chunk's instruction: four words, opcode, marks, operand, origin. Every LoadConst names a constant; a jump, a Phi and a
  * folding operator never do. A jump without its mark keeps its old target when the code shrinks; turniploom_set_chunk_marks sets both. */
 enum turniploom_chunk_mark { TURNIPLOOM_IS_JUMP = 1, TURNIPLOOM_NAMES_CONSTANT = 2 };
 
@@ -171,7 +171,7 @@ turniploom_answer turniploom_kept(const uint16_t *code, size_t code_len, size_t 
 /* Folds a chunk. kinds and words need max(count, min(65,535, count + folding operators)) entries, phi_map n, phi_sources two for each pair
  * or Phi, dead n, remap and landings n + 1. The counts of pair tables are in words. tries are pairs of a start and a handler, and follow
  * the code. In strict mode nothing folds that a jump or a handler lands in. Entry t of landings is then how many of both land on position t
- * of what is left.
+ * of what is left. Instructions keep their origins.
  * first: instructions; second: constants; third: entries of phi_map; fourth: words of phi_sources. */
 turniploom_answer turniploom_fold(uint16_t *code, size_t code_len, uint8_t *kinds, size_t kinds_len, uint64_t *words, size_t words_len,
                                   size_t constants, uint32_t *phi_map, size_t phi_map_len, size_t phi_map_count, uint16_t *phi_sources,
@@ -354,7 +354,7 @@ static inline void turniploom_set_marks(uint16_t *code, size_t code_len, bool (*
 /* Sets the marks of a chunk: jump by the opcode, and that a LoadConst names a constant. What other opcodes name is for the host to add. */
 static inline void turniploom_set_chunk_marks(uint16_t *code, size_t code_len) {
     size_t k;
-    for (k = 0; k + 3 <= code_len; k += 3)
+    for (k = 0; k + TURNIPLOOM_CHUNK_WORDS <= code_len; k += TURNIPLOOM_CHUNK_WORDS)
         code[k + 1] = turniploom_is_jump(code[k]) ? TURNIPLOOM_IS_JUMP : code[k] == TURNIPLOOM_LoadConst ? TURNIPLOOM_NAMES_CONSTANT : 0;
 }
 

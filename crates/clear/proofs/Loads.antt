@@ -13,20 +13,20 @@ use borrow.Author.Tests.{lt-ltb, le-ltb, ltb-true, ltb-false}
 use Rattle.laws.specs.Each.{each}
 use Rattle.laws.proofs.Many.{many-few}
 use Rattle.laws.proofs.Each.{each-length}
-use Rattle.lent.specs.Chunk.{stride, count, opAt, markAt, operandAt, names}
+use Rattle.lent.specs.Chunk.{stride, count, opAt, markAt, operandAt, originAt, names}
 use Rattle.clear.specs.Unused.{named, before, pooled, renumbered, operandOf, insOf, recoded, loaded}
 use Rattle.clear.proofs.Kept.{named-by, in-order, pooled-kept}
 
--- word j of place k, three words a place
-three-at : (g : ℕ → List ℕ) → ((k : ℕ) → length (g k) ≡ stride) → (n k j : ℕ) → k < n → j < stride → getD (each g n) (stride * k + j) 0 ≡ getD (g k) j 0
+-- word j of place k
+word-at : (g : ℕ → List ℕ) → ((k : ℕ) → length (g k) ≡ stride) → (n k j : ℕ) → k < n → j < stride → getD (each g n) (stride * k + j) 0 ≡ getD (g k) j 0
 unfolding each
-three-at g t zero k j h l = absurd (omega arith)
-three-at g t (suc n) k j h l =
+word-at g t zero k j h l = absurd (omega arith)
+word-at g t (suc n) k j h l =
     ⊎-elim
     (λ q.
     let e : stride * k + j ≡ length (each g n) + j = omega (arith, each-length g stride t n) in
     ap (λ (x : ℕ). getD (each g n ++ g n) x 0) e ∙ getD-append-add (each g n) (g n) j 0 ∙ ap (λ (x : ℕ). getD (g x) j 0) (sym q))
-    (λ q. List·getD-append (each g n) (g n) 0 (stride * k + j) (omega (arith, each-length g stride t n)) ∙ three-at g t n k j q l)
+    (λ q. List·getD-append (each g n) (g n) 0 (stride * k + j) (omega (arith, each-length g stride t n)) ∙ word-at g t n k j q l)
     (eq-or-lt-of-le (below k n h))
   where
     below : (k n : ℕ) → k < suc n → k ≤ n
@@ -43,15 +43,19 @@ module _ (number : ℕ → ℕ) (m : ℕ) (w : List ℕ) where
   module _ (k : ℕ) (h : k < count w) where
     pub recoded-op : opAt (recoded number m w) k ≡ opAt w k
     unfolding recoded
-    recoded-op = let e : stride * k ≡ stride * k + 0 = omega arith in ap (λ (x : ℕ). getD (each (insOf number m w) (count w)) x 0) e ∙ three-at (insOf number m w) (λ i. refl) (count w) k 0 h (omega arith)
+    recoded-op = let e : stride * k ≡ stride * k + 0 = omega arith in ap (λ (x : ℕ). getD (each (insOf number m w) (count w)) x 0) e ∙ word-at (insOf number m w) (λ i. refl) (count w) k 0 h (omega arith)
 
     pub recoded-mark : markAt (recoded number m w) k ≡ markAt w k
     unfolding recoded
-    recoded-mark = three-at (insOf number m w) (λ i. refl) (count w) k 1 h (omega arith)
+    recoded-mark = word-at (insOf number m w) (λ i. refl) (count w) k 1 h (omega arith)
 
     pub recoded-operand : operandAt (recoded number m w) k ≡ operandOf number m w k
     unfolding recoded
-    recoded-operand = three-at (insOf number m w) (λ i. refl) (count w) k 2 h (omega arith)
+    recoded-operand = word-at (insOf number m w) (λ i. refl) (count w) k 2 h (omega arith)
+
+    pub recoded-origin : originAt (recoded number m w) k ≡ originAt w k
+    unfolding recoded
+    recoded-origin = word-at (insOf number m w) (λ i. refl) (count w) k 3 h (omega arith)
 
     pub recoded-names : names (recoded number m w) k ≡ names w k
     recoded-names = ap (λ (x : ℕ). eqb (x / 2 % 2) 1) recoded-mark

@@ -14,7 +14,7 @@ use Rattle.laws.specs.Each.{each}
 use Rattle.laws.proofs.Many.{many-more, many-few}
 use Rattle.laws.proofs.Each.{each-more}
 use Rattle.laws.proofs.InPlace.{Walked, walk-none, walk-read, walk-pass, walk-put, walk-at, walk-as, walk-end, walk-whole, word-put}
-use Rattle.lent.specs.Chunk.{stride, count, opAt, markAt, operandAt, names}
+use Rattle.lent.specs.Chunk.{stride, count, opAt, markAt, operandAt, originAt, names}
 use Rattle.clear.specs.Unused.{keptAt, kept, numbered, renumbered, operandOf, insOf, recoded}
 use Rattle.clear.specs.Passes.{marked, Moved, Down, freed, Low, numberIn}
 
@@ -191,8 +191,8 @@ operand-same : (number : ℕ → ℕ) (m : ℕ) (xs old : List ℕ) (k : ℕ) �
 unfolding operandOf
 operand-same number m xs old k p q = rw (p, q)
 
-append-three : (l : List ℕ) (a b d : ℕ) → ((l ++ (a ∷ [])) ++ (b ∷ [])) ++ (d ∷ []) ≡ l ++ (a ∷ b ∷ d ∷ [])
-append-three l a b d = simp append-assoc
+append-four : (l : List ℕ) (a b d f : ℕ) → (((l ++ (a ∷ [])) ++ (b ∷ [])) ++ (d ∷ [])) ++ (f ∷ []) ≡ l ++ (a ∷ b ∷ d ∷ f ∷ [])
+append-four l a b d f = simp append-assoc
 
 module _ {number : ℕ → ℕ} {m : ℕ} {xs old : List ℕ} {k : ℕ} (r : Recoding number m xs old k) where
   pub recoding-more : (v : ℕ) → v ≡ operandOf number m xs k → k < count old → length old ≡ stride * count old → Recoding number m (set xs (stride * k + 2) v) old (k + 1)
@@ -204,10 +204,13 @@ module _ {number : ℕ → ℕ} {m : ℕ} {xs old : List ℕ} {k : ℕ} (r : Rec
       let one = rw (set-getD xs (stride * k) 0) at (walk-put w (opAt xs k) (omega arith)) in
       let two = rw (set-getD xs (stride * k + 1) 0) at (walk-put one (markAt xs k) (omega arith)) in
       let three = walk-put (walk-at two (stride * k + 2) (stride * k + 2) (omega arith) (omega arith)) v (omega arith) in
+      let ys = set xs (stride * k + 2) v in
+      let u : originAt ys k ≡ originAt old k = walk-read three (stride * k + 3) (omega arith) in
+      let four = rw (set-getD ys (stride * k + 3) 0) at (walk-put (walk-at three (stride * k + 3) (stride * k + 3) (omega arith) (omega arith)) (originAt ys k) (omega arith)) in
       let j = each (insOf number m old) k in
-      let done : ((j ++ (opAt xs k ∷ [])) ++ (markAt xs k ∷ [])) ++ (v ∷ []) ≡ each (insOf number m old) (k + 1) =
-      append-three j (opAt xs k) (markAt xs k) v ∙ rw (o, n, x) (sym (each-more (insOf number m old) k)) in
-      record { walked = walk-at (walk-as three (each (insOf number m old) (k + 1)) done) (stride * (k + 1)) (stride * (k + 1)) (omega arith) (omega arith) }
+      let done : (((j ++ (opAt xs k ∷ [])) ++ (markAt xs k ∷ [])) ++ (v ∷ [])) ++ (originAt ys k ∷ []) ≡ each (insOf number m old) (k + 1) =
+      append-four j (opAt xs k) (markAt xs k) v (originAt ys k) ∙ rw (u, o, n, x) (sym (each-more (insOf number m old) k)) in
+      record { walked = walk-at (walk-as four (each (insOf number m old) (k + 1)) done) (stride * (k + 1)) (stride * (k + 1)) (omega arith) (omega arith) }
 
   pub recoding-same : length xs ≡ length old
   recoding-same = r .walked .same

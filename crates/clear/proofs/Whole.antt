@@ -14,7 +14,7 @@ use Rattle.laws.proofs.Many.{many-few}
 use Rattle.laws.proofs.Each.{each-ext, each-word, each-at}
 use Rattle.code.specs.Check.{roomOf}
 use Rattle.code.specs.declared.Checked.{Checked}
-use Rattle.lent.specs.Chunk.{count, operandAt, markAt, opAt, names}
+use Rattle.lent.specs.Chunk.{count, operandAt, markAt, opAt, originAt, names}
 use Rattle.lent.specs.Tables.{constantsKept, tableOf}
 use Rattle.lent.specs.Check.{checkOf}
 use Rattle.lent.proofs.Counting.{many-ext}
@@ -50,7 +50,7 @@ module _ (a b : ℕ → ℕ) (m : ℕ) (h : (i : ℕ) → i < m → a i ≡ b i)
 
   pub recoded-ext : (w : List ℕ) → recoded a m w ≡ recoded b m w
   unfolding recoded
-  recoded-ext w = each-ext (insOf a m w) (insOf b m w) (count w) (λ k q. ap (λ (x : ℕ). opAt w k ∷ markAt w k ∷ x ∷ []) (operand-ext w k))
+  recoded-ext w = each-ext (insOf a m w) (insOf b m w) (count w) (λ k q. ap (λ (x : ℕ). opAt w k ∷ markAt w k ∷ x ∷ originAt w k ∷ []) (operand-ext w k))
 
 -- ---- what the passes leave
 

@@ -9,7 +9,7 @@ use lib.ListN.{getD, drop, replicate}
 use Rattle.laws.specs.All.{many}
 use Rattle.laws.specs.Some.{some}
 use Rattle.laws.specs.Each.{each}
-use Rattle.lent.specs.Chunk.{count, opAt, markAt, operandAt, names}
+use Rattle.lent.specs.Chunk.{count, opAt, markAt, operandAt, originAt, names}
 
 -- instruction k has the mark, and its operand is i
 abbrev pub namesIt : List ℕ → ℕ → ℕ → Bool
@@ -44,8 +44,9 @@ unfoldable pub operandOf : (ℕ → ℕ) → ℕ → List ℕ → ℕ → ℕ
 unfolding renumbered
 operandOf number m w k = cond (names w k) (renumbered number m (operandAt w k)) (operandAt w k)
 
+-- the words of an instruction: its operand alone changes
 abbrev pub insOf : (ℕ → ℕ) → ℕ → List ℕ → ℕ → List ℕ
-insOf number m w k = opAt w k ∷ markAt w k ∷ operandOf number m w k ∷ []
+insOf number m w k = opAt w k ∷ markAt w k ∷ operandOf number m w k ∷ originAt w k ∷ []
 
 -- the code with its operands renumbered
 unfoldable pub recoded : (ℕ → ℕ) → ℕ → List ℕ → List ℕ

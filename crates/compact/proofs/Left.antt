@@ -11,10 +11,10 @@ use borrow.Author.Tests.{ltb-true, ltb-false, eqb-true, eq-eqb}
 use mir.Val.{boolByte}
 use Rattle.laws.specs.All.{many}
 use Rattle.laws.specs.Each.{each}
-use Rattle.lent.specs.Chunk.{stride, opAt, markAt, operandAt}
+use Rattle.lent.specs.Chunk.{stride, opAt, markAt, operandAt, originAt}
 use Rattle.lent.proofs.Counting.{many-le, zeros-at}
 use Rattle.compact.specs.Remap.{alive, live}
-use Rattle.compact.specs.Tables.{operandOf, leftAt, left, compacted}
+use Rattle.compact.specs.Tables.{operandOf, wordsOf, leftAt, left, compacted}
 use Rattle.compact.proofs.Moves.{live-on}
 
 -- a live position goes below what a later one has before it
@@ -45,9 +45,6 @@ from dead (suc n) k h = go (eqb (getD dead n 0) 0) refl (ltb k (live dead n)) re
         absurd (omega (arith, ltb-false k (live dead n) q))
 
 -- ---- the words of a live instruction
-
-abbrev wordsOf : List ℕ → List ℕ → ℕ → List ℕ
-wordsOf dead w k = opAt w k ∷ markAt w k ∷ operandOf dead w k ∷ []
 
 module _ (dead w : List ℕ) where
   left-on : (k : ℕ) → getD dead k 0 ≡ 0 → leftAt dead w k ≡ wordsOf dead w k
@@ -97,6 +94,9 @@ module _ (dead w : List ℕ) where
 
     pub operand-left : operandAt (compacted dead w) (live dead k) ≡ operandOf dead w k
     operand-left = word-left k 2 h (omega arith) d
+
+    pub origin-left : originAt (compacted dead w) (live dead k) ≡ originAt w k
+    origin-left = word-left k 3 h (omega arith) d
 
   -- the words past what is left are 0
   pub mark-past : (k : ℕ) → live dead (length dead) ≤ k → markAt (compacted dead w) k ≡ 0

@@ -15,9 +15,9 @@ use Rattle.laws.specs.Each.{each}
 use Rattle.laws.proofs.Many.{many-more, many-few, counted-on}
 use Rattle.laws.proofs.Each.{each-more, each-word, each-at}
 use Rattle.laws.proofs.InPlace.{Walked, walk-none, walk-read, walk-pass, walk-put, walk-three, walk-at, walk-as, walk-count, walk-whole, word-put}
-use Rattle.lent.specs.Chunk.{stride, opAt, markAt, operandAt, jumps}
+use Rattle.lent.specs.Chunk.{stride, opAt, markAt, operandAt, originAt, jumps}
 use Rattle.compact.specs.Remap.{alive, live, Remap, remapOf, mapped}
-use Rattle.compact.specs.Tables.{operandOf, leftAt, left, compacted, pairAt, placed, movedAll, Compacted}
+use Rattle.compact.specs.Tables.{operandOf, wordsOf, leftAt, left, compacted, pairAt, placed, movedAll, Compacted}
 
 -- ---- remap
 
@@ -82,11 +82,11 @@ module _ (dead w : List ℕ) (i : ℕ) where
   unfolding operandOf
   plain-operand v t e f g = let q : jumps w i ≡ false = cc in rw q e
 
-  pub three-words : (o m v : ℕ) (a b d : ℕ) → o ≡ opAt w i → m ≡ markAt w i → v ≡ operandOf dead w i
-      → set (set (set w a o) b m) d v ≡ set (set (set w a (opAt w i)) b (markAt w i)) d (operandOf dead w i)
-  three-words o m v a b d p q r = rw (p, q, r)
+  pub four-words : (o m v u : ℕ) (a b d f : ℕ) → o ≡ opAt w i → m ≡ markAt w i → v ≡ operandOf dead w i → u ≡ originAt w i
+      → set (set (set (set w a o) b m) d v) f u ≡ set (set (set (set w a (opAt w i)) b (markAt w i)) d (operandOf dead w i)) f (originAt w i)
+  four-words o m v u a b d f p q r s = rw (p, q, r, s)
 
-  left-on : getD dead i 0 ≡ 0 → each (leftAt dead w) (i + 1) ≡ each (leftAt dead w) i ++ (opAt w i ∷ markAt w i ∷ operandOf dead w i ∷ [])
+  left-on : getD dead i 0 ≡ 0 → each (leftAt dead w) (i + 1) ≡ each (leftAt dead w) i ++ wordsOf dead w i
   left-on e = each-more (leftAt dead w) i ∙ rw (eq-eqb (getD dead i 0) 0 e)
 
   left-off : (getD dead i 0 ≡ 0 → ⊥) → each (leftAt dead w) (i + 1) ≡ each (leftAt dead w) i
@@ -95,6 +95,14 @@ module _ (dead w : List ℕ) (i : ℕ) where
 operand-same : (dead xs old : List ℕ) (i : ℕ) → markAt xs i ≡ markAt old i → operandAt xs i ≡ operandAt old i → operandOf dead xs i ≡ operandOf dead old i
 unfolding operandOf
 operand-same dead xs old i p q = rw (p, q)
+
+-- four words in place
+walk-four : {xs old done : List ℕ} {to p : ℕ} → Walked xs old done to p → (a b d f : ℕ) → p + 3 < length old
+    → Walked (set (set (set (set xs to a) (to + 1) b) (to + 2) d) (to + 3) f) old (done ++ (a ∷ b ∷ d ∷ f ∷ [])) (to + 4) (p + 4)
+walk-four {xs} {old} {done} {to} {p} w a b d f h =
+    let three = walk-three w a b d (omega arith) in
+    let four = walk-put three f (omega arith) in
+    walk-at (walk-as four (done ++ (a ∷ b ∷ d ∷ f ∷ [])) (append-assoc done (a ∷ b ∷ d ∷ []) (f ∷ []))) (to + 4) (p + 4) (omega arith) (omega arith)
 
 -- where the loop stands at instruction i, with `to` kept
 pub record Kept (dead xs old : List ℕ) (to i : ℕ) : Type 0 where
@@ -114,18 +122,21 @@ module _ {dead xs old : List ℕ} {to i : ℕ} (k : Kept dead xs old to i) where
       }
 
   pub kept-move : (ys : List ℕ) → getD dead i 0 ≡ 0 → i < length dead → length old ≡ stride * length dead
-      → ys ≡ set (set (set xs (stride * to) (opAt xs i)) (stride * to + 1) (markAt xs i)) (stride * to + 2) (operandOf dead xs i)
+      → ys
+      ≡ set (set (set (set xs (stride * to) (opAt xs i)) (stride * to + 1) (markAt xs i)) (stride * to + 2) (operandOf dead xs i)) (stride * to + 3) (originAt xs i)
       → Kept dead ys old (to + 1) (i + 1)
   kept-move ys e h l z =
       let w = k .walked in
       let o : opAt xs i ≡ opAt old i = walk-read w (stride * i) (omega arith) in
       let m : markAt xs i ≡ markAt old i = walk-read w (stride * i + 1) (omega arith) in
       let v : operandOf dead xs i ≡ operandOf dead old i = operand-same dead xs old i m (walk-read w (stride * i + 2) (omega arith)) in
-      let three = walk-three w (opAt xs i) (markAt xs i) (operandOf dead xs i) (omega arith) in
-      let done : each (leftAt dead old) i ++ (opAt xs i ∷ markAt xs i ∷ operandOf dead xs i ∷ []) ≡ each (leftAt dead old) (i + 1) = rw (o, m, v) (sym (left-on dead old i e)) in
+      let u : originAt xs i ≡ originAt old i = walk-read w (stride * i + 3) (omega arith) in
+      let four = walk-four w (opAt xs i) (markAt xs i) (operandOf dead xs i) (originAt xs i) (omega arith) in
+      let done : each (leftAt dead old) i ++ (opAt xs i ∷ markAt xs i ∷ operandOf dead xs i ∷ originAt xs i ∷ []) ≡ each (leftAt dead old) (i + 1) =
+      rw (o, m, v, u) (sym (left-on dead old i e)) in
       rw z
       (record {
-        walked = walk-at (walk-as three (each (leftAt dead old) (i + 1)) done) (stride * (to + 1)) (stride * (i + 1)) (omega arith) (omega arith);
+        walked = walk-at (walk-as four (each (leftAt dead old) (i + 1)) done) (stride * (to + 1)) (stride * (i + 1)) (omega arith) (omega arith);
         counts = ap (λ (x : ℕ). x + 1) (k .counts) ∙ sym (live-on dead i e);
       })
 

@@ -5,16 +5,20 @@ use mathlib.Core.Bool.{cond}
 use mathlib.Core.List.{List, [], _∷_, _++_}
 use lib.ListN.{length, getD, replicate}
 use Rattle.laws.specs.Each.{each}
-use Rattle.lent.specs.Chunk.{opAt, markAt, operandAt, jumps}
+use Rattle.lent.specs.Chunk.{opAt, markAt, operandAt, originAt, jumps}
 use Rattle.compact.specs.Remap.{alive, live, remapOf, mapped}
 
 -- a jump operand maps
 unfoldable pub operandOf : List ℕ → List ℕ → ℕ → ℕ
 operandOf dead w i = cond (jumps w i) (mapped dead (operandAt w i)) (operandAt w i)
 
+-- the words of instruction i as it survives: its origin with it
+abbrev pub wordsOf : List ℕ → List ℕ → ℕ → List ℕ
+wordsOf dead w i = opAt w i ∷ markAt w i ∷ operandOf dead w i ∷ originAt w i ∷ []
+
 -- what is left of instruction i: nothing of a dead one
 abbrev pub leftAt : List ℕ → List ℕ → ℕ → List ℕ
-leftAt dead w i = cond (alive dead i) (opAt w i ∷ markAt w i ∷ operandOf dead w i ∷ []) []
+leftAt dead w i = cond (alive dead i) (wordsOf dead w i) []
 
 -- the live instructions, in order
 unfoldable pub left : List ℕ → List ℕ → List ℕ

@@ -3,7 +3,7 @@ ghost use mathlib.Core.Path.{_≡_};
 ghost use mathlib.Core.List.{_++_};
 ghost use Prim.Native.Nat.{_+_, _-_, _*_, _%_, _≤_, _<_};
 ghost use lib.ListN.{length, take, replicate, set};
-ghost use Rattle.lent.specs.Chunk.{stride, count, opAt, markAt};
+ghost use Rattle.lent.specs.Chunk.{stride, count, opAt, markAt, originAt};
 ghost use Rattle.compact.specs.Remap.{live, Remap, remapOf, mapped};
 ghost use Rattle.compact.specs.Tables.{operandOf, compacted, placed, movedAll, Compacted};
 use lent::STRIDE;
@@ -51,14 +51,16 @@ fn operand_of(code: &[u16], dead: &[u8], remap: &[u32], i: usize) -> u16
 // Instruction i moves down to `to`.
 fn shift(code: &mut [u16], dead: &[u8], remap: &[u32], i: usize, to: usize)
     requires { ⌜ (i < count (now code)) × (to ≤ i) × Remap (now dead) (now remap) ⌝ }
-    ensures { λ _. ⌜ now (code .exit) ≡ set (set (set (now (code .entry)) (stride * to) (opAt (now (code .entry)) i)) (stride * to + 1) (markAt (now (code .entry)) i)) (stride * to + 2) (operandOf (now (dead .entry)) (now (code .entry)) i) ⌝ }
+    ensures { λ _. ⌜ now (code .exit) ≡ set (set (set (set (now (code .entry)) (stride * to) (opAt (now (code .entry)) i)) (stride * to + 1) (markAt (now (code .entry)) i)) (stride * to + 2) (operandOf (now (dead .entry)) (now (code .entry)) i)) (stride * to + 3) (originAt (now (code .entry)) i) ⌝ }
 {
     let op = lent::op_at(code, i);
     let marks = lent::mark_at(code, i);
     let operand = operand_of(code, dead, remap, i);
+    let origin = lent::origin_at(code, i);
     code[STRIDE * to] = op;
     code[STRIDE * to + 1] = marks;
     code[STRIDE * to + 2] = operand;
+    code[STRIDE * to + 3] = origin;
 }
 
 // 0 from a on.

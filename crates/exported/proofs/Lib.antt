@@ -6,3 +6,4 @@ pub mod Needed
 pub mod Folded
 pub mod Cleared
 pub mod Ran
+pub mod Origins

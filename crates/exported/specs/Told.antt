@@ -27,6 +27,7 @@ use Rattle.clear.specs.Clear as clearing
 use Rattle.refold.specs.Lending.{Lending}
 use Rattle.refold.specs.Lendable.{cutAt, countsLeft, clearable, clearedBuffers, withConstants, countsCleared}
 use Rattle.refold.specs.Refolded.{RefoldedAll}
+use Rattle.refold.specs.Origins.{Carried}
 use Rattle.runs.specs.Rule.{Rule}
 use Rattle.runs.specs.Kept.{Same}
 use Rattle.exported.specs.Calls.{Lists, FoldCall, ClearCall}
@@ -153,6 +154,16 @@ RunsCleared b c r a =
     (scratch : List ℕ) (s : Answer) (x : clearing.Buffers) → ClearCall (r .second) (clearable (foldedOf r) a scratch) s x → s .refusal ≡ 0
     → Same (b .buffers .code) (b .buffers .kinds) (b .buffers .words) (chunk.count (b .buffers .code)) (x .code) (x .kinds) (x .words) (r .first)
     × ((t : Answer) (y : Lending) → FoldCall true (countsCleared (foldedOf r) c (s .first)) (clearedBuffers a x) t y → t .refusal ≡ 0 → RunsKept b t y)
+
+-- what a fold left is cleared, the code cut at the answered count: every instruction has the origin of one of b's, in the same order; and so has every
+-- one that another fold leaves of that
+abbrev pub OriginsKept : Lending → Counts → Answer → Lending → Type 0
+OriginsKept b c r a =
+    let w = b .buffers .code in
+    (scratch : List ℕ) (s : Answer) (x : clearing.Buffers) → ClearCall (r .second) (clearable (foldedOf r) a scratch) s x → s .refusal ≡ 0
+    → Carried (chunk.count w) w (r .first) (x .code)
+    × ((strict : Bool) (t : Answer) (y : Lending) → FoldCall strict (countsCleared (foldedOf r) c (s .first)) (clearedBuffers a x) t y → t .refusal ≡ 0
+    → Carried (chunk.count w) w (t .first) (y .buffers .code))
 
 -- ---- clear
 

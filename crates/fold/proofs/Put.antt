@@ -8,13 +8,21 @@ use lib.Dec.{eqb}
 use lib.ListN.{length, getD, set, length-set}
 use lib.Seq.{getD-set-same, getD-set-other}
 use Rattle.code.specs.Op.{LoadConst}
-use Rattle.lent.specs.Chunk.{stride, count, opAt, markAt, operandAt, jumps}
+use Rattle.lent.specs.Chunk.{stride, count, opAt, markAt, operandAt, originAt, jumps}
 use Rattle.fold.specs.Pass.{markOf, put}
 
 module _ (w : List ℕ) (p o x : ℕ) where
   pub put-long : length (put w p o x) ≡ length w
   unfolding put
   put-long = simp length-set
+
+  -- no instruction's origin changes, that of the one at p neither
+  pub put-origin : (k : ℕ) → originAt (put w p o x) k ≡ originAt w k
+  unfolding put
+  put-origin k =
+      getD-set-other (set (set w (stride * p) o) (stride * p + 1) (markOf o)) (stride * p + 2) (stride * k + 3) x 0 (λ e. omega arith)
+      ∙ getD-set-other (set w (stride * p) o) (stride * p + 1) (stride * k + 3) (markOf o) 0 (λ e. omega arith)
+      ∙ getD-set-other w (stride * p) (stride * k + 3) o 0 (λ e. omega arith)
 
   module _ (k : ℕ) (h : k ≡ p → ⊥) where
     word-other : (j : ℕ) → j < stride → getD (put w p o x) (stride * k + j) 0 ≡ getD w (stride * k + j) 0

@@ -6,9 +6,9 @@ use lib.Dec.{eqb, leb}
 use lib.ListN.{getD, length}
 use Rattle.code.specs.Op.{last, LoadConst, Phi, Add, Sub, Mul, Div, Mod, FloorDiv, Eq, NotEq, Lt, Gt, LtEq, GtEq, BitAnd, BitOr, BitXor, Shl, Shr, Not, Minus}
 
--- three words an instruction: opcode, marks, operand
+-- four words an instruction: opcode, marks, operand, origin
 abbrev pub stride : ℕ
-stride = 3
+stride = 4
 
 -- n, how many there are
 abbrev pub count : List ℕ → ℕ
@@ -22,6 +22,10 @@ markAt w k = getD w (stride * k + 1) 0
 
 abbrev pub operandAt : List ℕ → ℕ → ℕ
 operandAt w k = getD w (stride * k + 2) 0
+
+-- the position in the script as it was first compiled: the host sets it, nothing reads it
+abbrev pub originAt : List ℕ → ℕ → ℕ
+originAt w k = getD w (stride * k + 3) 0
 
 -- mark bit 0, `is_jump`
 abbrev pub jumps : List ℕ → ℕ → Bool

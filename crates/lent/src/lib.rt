@@ -1,11 +1,11 @@
-// Lent chunks: three words an instruction, and the refusals of the folding call in document 01's order of test.
+// Lent chunks: four words an instruction, and the refusals of the folding call in document 01's order of test.
 ghost use mathlib.Core.Path.{_≡_};
 ghost use mathlib.Core.Bool.{not};
 ghost use Prim.Native.Nat.{_^_, _<_, _≤_};
 ghost use lib.ListN.{length};
 ghost use mir.Val.{boolByte};
 ghost use Rattle.laws.specs.All.{every};
-ghost use Rattle.lent.specs.Chunk.{count, opAt, markAt, operandAt, jumps, names, folds, rules};
+ghost use Rattle.lent.specs.Chunk.{count, opAt, markAt, operandAt, originAt, jumps, names, folds, rules};
 ghost use Rattle.lent.specs.Tables.{constantKept, constantsKept, mapKept, pairsKept, tableOf};
 ghost use Rattle.lent.specs.Check.{firstBad, checkOf, tablesOf, tallyOf, constantRoom, sourceRoom, ample, roomsOf, readyOf};
 use code::Checked;
@@ -40,7 +40,7 @@ pub struct Tally {
 }
 
 // The words of an instruction.
-pub const STRIDE: usize = 3;
+pub const STRIDE: usize = 4;
 
 // The opcode of instruction k.
 pub fn op_at(code: &[u16], k: usize) -> u16
@@ -64,6 +64,14 @@ pub fn operand_at(code: &[u16], k: usize) -> u16
     ensures { λ r. ⌜ r ≡ operandAt (now (code .entry)) k ⌝ }
 {
     code[STRIDE * k + 2]
+}
+
+// The origin of instruction k.
+pub fn origin_at(code: &[u16], k: usize) -> u16
+    requires { ⌜ k < count (now code) ⌝ }
+    ensures { λ r. ⌜ r ≡ originAt (now (code .entry)) k ⌝ }
+{
+    code[STRIDE * k + 3]
 }
 
 // Whether instruction k has the jump mark.

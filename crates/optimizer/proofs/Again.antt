@@ -20,7 +20,7 @@ use Rattle.code.specs.declared.Refusal.{Refusal}
 use Rattle.code.specs.declared.Refusal.the-variants.{Length, Record}
 use Rattle.code.specs.declared.Checked.{Checked}
 use Rattle.code.specs.declared.Checked.the-variants.{Count, No as Refused}
-use Rattle.lent.specs.Chunk.{stride, count, opAt, markAt, folds, rules, breaksAt}
+use Rattle.lent.specs.Chunk.{stride, count, opAt, markAt, originAt, folds, rules, breaksAt}
 use Rattle.lent.specs.Check.{uneven, firstBad, checkOf, readyOf}
 use Rattle.lent.specs.declared.Counts.{Counts}
 use Rattle.lent.proofs.Checks.{accepted}
@@ -39,7 +39,7 @@ use Rattle.fold.specs.declared.Plan.the-variants.{Stay, Put}
 use Rattle.fold.proofs.Planned.{Planned, planned}
 use Rattle.fold.proofs.Put.{put-long, put-other, mark-other, put-here, mark-here}
 use Rattle.compact.specs.Remap.{alive, live}
-use Rattle.compact.specs.Tables.{operandOf, leftAt, left, compacted}
+use Rattle.compact.specs.Tables.{operandOf, wordsOf, leftAt, left, compacted}
 use Rattle.compact.proofs.Left.{left-long}
 use Rattle.phi_pass.specs.Phi.{marked}
 use Rattle.phi_pass.proofs.Pairs.{marked-length}
@@ -146,19 +146,19 @@ append-ruled xs ys m l a b k = go (ltb k m) refl
         let r : markAt (xs ++ ys) k ≡ markAt ys (k - m) = ap (λ (i : ℕ). getD (xs ++ ys) i 0) n ∙ getD-append-add xs ys (stride * (k - m) + 1) 0 in
         rw (p, r) (b (k - m))
 
-one-ruled : (o m v : ℕ) → rules o m ≡ true → Ruled (o ∷ m ∷ v ∷ [])
-one-ruled o m v e zero = e
-one-ruled o m v e (suc k) =
-    let p : opAt (o ∷ m ∷ v ∷ []) (suc k) ≡ 0 = List·getD-eq-default (o ∷ m ∷ v ∷ []) 0 {n = stride * suc k} (omega arith) in
-    let q : markAt (o ∷ m ∷ v ∷ []) (suc k) ≡ 0 = List·getD-eq-default (o ∷ m ∷ v ∷ []) 0 {n = stride * suc k + 1} (omega arith) in
+one-ruled : (o m v u : ℕ) → rules o m ≡ true → Ruled (o ∷ m ∷ v ∷ u ∷ [])
+one-ruled o m v u e zero = e
+one-ruled o m v u e (suc k) =
+    let p : opAt (o ∷ m ∷ v ∷ u ∷ []) (suc k) ≡ 0 = List·getD-eq-default (o ∷ m ∷ v ∷ u ∷ []) 0 {n = stride * suc k} (omega arith) in
+    let q : markAt (o ∷ m ∷ v ∷ u ∷ []) (suc k) ≡ 0 = List·getD-eq-default (o ∷ m ∷ v ∷ u ∷ []) 0 {n = stride * suc k + 1} (omega arith) in
     rw (p, q) no-words
 
 zero-ruled : (n : ℕ) → Ruled (replicate n 0)
 zero-ruled n k = rw (zeros-at n (stride * k), zeros-at n (stride * k + 1)) no-words
 
 module _ (dead w : List ℕ) where
-  at-ruled : Ruled w → (k : ℕ) (t : Bool) → Ruled (cond t (opAt w k ∷ markAt w k ∷ operandOf dead w k ∷ []) [])
-  at-ruled r k true = one-ruled (opAt w k) (markAt w k) (operandOf dead w k) (r k)
+  at-ruled : Ruled w → (k : ℕ) (t : Bool) → Ruled (cond t (wordsOf dead w k) [])
+  at-ruled r k true = one-ruled (opAt w k) (markAt w k) (operandOf dead w k) (originAt w k) (r k)
   at-ruled r k false = λ j. no-words
 
   left-ruled : Ruled w → (k : ℕ) → Ruled (each (leftAt dead w) k)

@@ -30,6 +30,7 @@ use Rattle.needed.proofs.Loop.{few-turns}
 use Rattle.exported.proofs.Needed.{needed-settles, needed-truth, needed-bit, wide-zero}
 use Rattle.exported.proofs.Folded.{fold-settles, pool-kept, tables-kept, tries-kept, landings-true, code-again, none-died}
 use Rattle.exported.proofs.Folded.{folds-next, clears-next, folds-cleared, folds-same}
+use Rattle.exported.proofs.Origins.{origins-folded, origins-cleared, origins-kept}
 use Rattle.exported.proofs.Ran.{runs-kept, rule-left, clears-kept, runs-cleared}
 use Rattle.exported.proofs.Cleared.{clear-settles, clear-holds, cleared-twice}
 use Rattle.levels.specs.Answers.{levelAnswer}
@@ -121,6 +122,9 @@ promised =
       still-true = still-true;
       fold-landings = landings-true;
       fold-tries = tries-kept;
+      origins-folded = origins-folded;
+      origins-cleared = origins-cleared;
+      origins-kept = origins-kept;
       runs-kept = runs-kept;
       rule-left = rule-left;
       clears-kept = clears-kept;

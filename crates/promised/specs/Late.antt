@@ -15,7 +15,7 @@ late a b = load a ++ load b ++ operator op.Add ++ load 3
 
 -- the code that a fold leaves of it: the sum's number, and 3
 abbrev pub lateLeft : ℕ → List ℕ
-lateLeft sum = load sum ++ load 3 ++ replicate 6 0
+lateLeft sum = load sum ++ load 3 ++ replicate 8 0
 
 pub record Late : Type 0 where
   -- 7, 2 and 3, of which nobody names the first: uncleared, the sum is pushed to 3, where the last LoadConst loads it
@@ -28,5 +28,5 @@ pub record Late : Type 0 where
   pub refolded : called false (late 0 1) (1 ∷ 1 ∷ 0 ∷ 0 ∷ []) (2 ∷ 3 ∷ 0 ∷ 0 ∷ []) 2
       ≡ leaves 2 3 (lateLeft 2) (1 ∷ 1 ∷ 1 ∷ 0 ∷ []) (2 ∷ 3 ∷ 5 ∷ 0 ∷ []) (replicate 4 0) (0 ∷ 1 ∷ 1 ∷ 0 ∷ []) (0 ∷ 1 ∷ 1 ∷ 1 ∷ 2 ∷ [])
   -- P13 as folding leaves it ships one constant
-  pub p13 : clearCall (buffers (load 2 ++ jump 1 ++ replicate 6 0) (1 ∷ 1 ∷ 1 ∷ 9 ∷ []) (2 ∷ 3 ∷ 5 ∷ 9 ∷ []) (9 ∷ 9 ∷ 9 ∷ 9 ∷ [])) 3
-      ≡ outcome (Is 1) (buffers (load 0 ++ jump 1 ++ replicate 6 0) (1 ∷ 0 ∷ 0 ∷ 9 ∷ []) (5 ∷ 0 ∷ 0 ∷ 9 ∷ []) (0 ∷ 0 ∷ 0 ∷ 9 ∷ []))
+  pub p13 : clearCall (buffers (load 2 ++ jump 1 ++ replicate 8 0) (1 ∷ 1 ∷ 1 ∷ 9 ∷ []) (2 ∷ 3 ∷ 5 ∷ 9 ∷ []) (9 ∷ 9 ∷ 9 ∷ 9 ∷ [])) 3
+      ≡ outcome (Is 1) (buffers (load 0 ++ jump 1 ++ replicate 8 0) (1 ∷ 0 ∷ 0 ∷ 9 ∷ []) (5 ∷ 0 ∷ 0 ∷ 9 ∷ []) (0 ∷ 0 ∷ 0 ∷ 9 ∷ []))

@@ -53,13 +53,13 @@ RefusesTry regs w tries = (rows offsets list : List ℕ) → call.Outcome 64 w r
 
 -- an instruction of a chunk: a LoadConst, which names a constant, an operator without a mark, and a jump
 abbrev pub load : ℕ → List ℕ
-load x = op.LoadConst ∷ 2 ∷ x ∷ []
+load x = op.LoadConst ∷ 2 ∷ x ∷ 0 ∷ []
 
 abbrev pub operator : ℕ → List ℕ
-operator o = o ∷ 0 ∷ 0 ∷ []
+operator o = o ∷ 0 ∷ 0 ∷ 0 ∷ []
 
 abbrev pub jump : ℕ → List ℕ
-jump x = op.Jump ∷ 1 ∷ x ∷ []
+jump x = op.Jump ∷ 1 ∷ x ∷ 0 ∷ []
 
 -- the folding call over this code and these constants, so many of them; no Phi, no position pair, no try
 abbrev pub called : Bool → List ℕ → List ℕ → List ℕ → ℕ → Outcome FoldAnswer
@@ -95,11 +95,11 @@ folding o a b = called false (binary o) (a .0 ∷ b .0 ∷ 9 ∷ []) (a .1 ∷ b
 
 -- it becomes one LoadConst of a third constant
 abbrev pub Becomes : ℕ → Constant → Constant → Constant → Type 0
-Becomes o a b r = folding o a b ≡ leaves 1 3 (load 2 ++ replicate 6 0) (a .0 ∷ b .0 ∷ r .0 ∷ []) (a .1 ∷ b .1 ∷ r .1 ∷ []) (replicate 3 0) (0 ∷ 1 ∷ 1 ∷ []) (0 ∷ 1 ∷ 1 ∷ 1 ∷ [])
+Becomes o a b r = folding o a b ≡ leaves 1 3 (load 2 ++ replicate 8 0) (a .0 ∷ b .0 ∷ r .0 ∷ []) (a .1 ∷ b .1 ∷ r .1 ∷ []) (replicate 3 0) (0 ∷ 1 ∷ 1 ∷ []) (0 ∷ 1 ∷ 1 ∷ 1 ∷ [])
 
 -- it becomes one LoadConst of its first operand, which the result equals
 abbrev pub BecomesFirst : ℕ → Constant → Constant → Type 0
-BecomesFirst o a b = folding o a b ≡ leaves 1 2 (load 0 ++ replicate 6 0) (a .0 ∷ b .0 ∷ 9 ∷ []) (a .1 ∷ b .1 ∷ 9 ∷ []) (replicate 3 0) (0 ∷ 1 ∷ 1 ∷ []) (0 ∷ 1 ∷ 1 ∷ 1 ∷ [])
+BecomesFirst o a b = folding o a b ≡ leaves 1 2 (load 0 ++ replicate 8 0) (a .0 ∷ b .0 ∷ 9 ∷ []) (a .1 ∷ b .1 ∷ 9 ∷ []) (replicate 3 0) (0 ∷ 1 ∷ 1 ∷ []) (0 ∷ 1 ∷ 1 ∷ 1 ∷ [])
 
 -- it stays: all as lent, and no mark of death
 abbrev pub Stays : ℕ → Constant → Constant → Type 0
@@ -141,9 +141,9 @@ pub record Marked : Type 0 where
   pub p11 : Stays op.Div (int 7) (int 2) × Becomes op.Div (int 7) (float 0x4000_0000_0000_0000) (float 0x400c_0000_0000_0000)
   -- Minus on 0.0 pushes a second constant
   pub p12 : called false negation (2 ∷ 9 ∷ []) (0 ∷ 9 ∷ []) 1
-      ≡ leaves 1 2 (load 1 ++ replicate 3 0) (2 ∷ 2 ∷ []) (0 ∷ 0x8000_0000_0000_0000 ∷ []) (0 ∷ 0 ∷ []) (0 ∷ 1 ∷ []) (0 ∷ 1 ∷ 1 ∷ [])
+      ≡ leaves 1 2 (load 1 ++ replicate 4 0) (2 ∷ 2 ∷ []) (0 ∷ 0x8000_0000_0000_0000 ∷ []) (0 ∷ 0 ∷ []) (0 ∷ 1 ∷ []) (0 ∷ 1 ∷ 1 ∷ [])
   -- pool 2 and 3: becomes LoadConst 2; jump 1. In strict mode nothing folds
   pub p13 : (called false code13 (1 ∷ 1 ∷ 9 ∷ []) (2 ∷ 3 ∷ 9 ∷ []) 2
-      ≡ leaves 2 3 (load 2 ++ jump 1 ++ replicate 6 0) (1 ∷ 1 ∷ 1 ∷ []) (2 ∷ 3 ∷ 5 ∷ []) (replicate 4 0) (0 ∷ 1 ∷ 1 ∷ 0 ∷ []) (0 ∷ 1 ∷ 1 ∷ 1 ∷ 2 ∷ []))
+      ≡ leaves 2 3 (load 2 ++ jump 1 ++ replicate 8 0) (1 ∷ 1 ∷ 1 ∷ []) (2 ∷ 3 ∷ 5 ∷ []) (replicate 4 0) (0 ∷ 1 ∷ 1 ∷ 0 ∷ []) (0 ∷ 1 ∷ 1 ∷ 1 ∷ 2 ∷ []))
       × (called true code13 (1 ∷ 1 ∷ 9 ∷ []) (2 ∷ 3 ∷ 9 ∷ []) 2
       ≡ leaves 4 2 code13 (1 ∷ 1 ∷ 9 ∷ []) (2 ∷ 3 ∷ 9 ∷ []) (room 4) (replicate 4 0) (room 5))

@@ -36,7 +36,7 @@ use Rattle.values.specs.declared.Val.the-variants.{Float as Real}
 use Rattle.values.specs.declared.Maybe.the-variants.{Is}
 use Rattle.chunk.specs.Pool.{toVal, findOrPush, findOrPushConst}
 use Rattle.lent.specs.Chunk as chunk
-use Rattle.lent.specs.Chunk.{operandAt, names, folds}
+use Rattle.lent.specs.Chunk.{operandAt, originAt, names, folds}
 use Rattle.lent.specs.Check.{checkOf, readyOf}
 use Rattle.lent.specs.declared.Counts.{Counts}
 use Rattle.fold.specs.Plan.{Chunk, kindOf}
@@ -49,13 +49,14 @@ use Rattle.refold.specs.Lending.{Lending, leaving}
 use Rattle.refold.specs.Lendable.{Lendable}
 use Rattle.refold.specs.Left.{PoolLeft, FoldBeyond, NoneDied, asLent, TriesLeft, LandingsLeft, tried}
 use Rattle.refold.specs.Examples.{jumping, summed, crossed, crossedCounts, crossedLens}
+use Rattle.refold.specs.Origins.{OriginsLeft}
 use Rattle.runs.specs.Machine.{Ins, Stack, End, Run}
 use Rattle.runs.specs.Rule.{Rule}
 use Rattle.turniploom.specs.Answers.{kindsTold, roleTold, fieldTold, touchTold, truthTold, bitsTold, globalTold, pushTold, stackTold, MadeTold, EnterTold, LeaveTold, ReplayTold}
 use Rattle.exported.specs.Settles.{One, Settles}
 use Rattle.exported.specs.Calls.{TargetsCall, LoopsCall, EntriesBeyond, Marks, DeadCall, GenCall, NeededCall, MarksBeyond, Lists, KeptCall, KeptSettles}
 use Rattle.exported.specs.Calls.{FoldCall, ClearCall, ClearBeyond}
-use Rattle.exported.specs.Told.{TouchedHolds, startAt, rowLeft}
+use Rattle.exported.specs.Told.{TouchedHolds, startAt, rowLeft, OriginsKept}
 use Rattle.exported.specs.Told.{Truth, listLeft, KeptHolds, SameLists, foldedOf, FoldsNext, ClearsNext, FoldsCleared, FoldsSame, ClearHolds, ClearedTwice}
 use Rattle.exported.specs.Told.{RunsKept, ClearsKept, RunsCleared}
 use Rattle.promised.specs.Marked.{Marked}
@@ -276,6 +277,17 @@ pub record Promised : Type 0 where
   -- the tries are remapped as jump operands are, and each keeps its rule in the chunk that is left
   pub fold-tries : (strict : Bool) (c : Counts) (b : Lending) (r : Answer) (a : Lending) → FoldCall strict c b r a → r .refusal ≡ 0
       → TriesLeft b (foldedOf r) a
+  -- ---- wish 8: the origin of each instruction
+
+  -- a survivor of a fold stands where remap says and keeps its origin, survivors stand in their order, and each instruction that is left is one: what
+  -- folded has the origin of its first operand, where it stands
+  pub origins-folded : (strict : Bool) (c : Counts) (b : Lending) (r : Answer) (a : Lending) → FoldCall strict c b r a → r .refusal ≡ 0
+      → OriginsLeft (b .buffers) (foldedOf r) (a .buffers)
+  -- clearing moves none
+  pub origins-cleared : (m : ℕ) (b : clearing.Buffers) (r : Answer) (a : clearing.Buffers) → ClearCall m b r a → r .refusal ≡ 0
+      → (k : ℕ) → k < chunk.count (b .code) → originAt (a .code) k ≡ originAt (b .code) k
+  -- folded, then cleared, and then folded again: each time every instruction has the origin of one that was there before all of it, in the same order
+  pub origins-kept : (strict : Bool) (c : Counts) (b : Lending) (r : Answer) (a : Lending) → FoldCall strict c b r a → r .refusal ≡ 0 → OriginsKept b c r a
   -- ---- wish 14: folding keeps what a rule computes
 
   -- of a chunk as wish 14 has it: in strict mode a run ends before folding exactly when it ends after it, with the same stack or the same stop

@@ -18,7 +18,7 @@ use Rattle.landings.proofs.Kept.{landings-same}
 use Rattle.lent.specs.Chunk.{stride, count, opAt, markAt, operandAt, jumps, names, isPhi}
 use Rattle.fold.specs.Plan.{Chunk}
 use Rattle.compact.specs.Remap.{alive, live, remapOf, mapped}
-use Rattle.compact.specs.Tables.{operandOf, leftAt, left, compacted, placed}
+use Rattle.compact.specs.Tables.{operandOf, wordsOf, leftAt, left, compacted, placed}
 use Rattle.phi_pass.specs.Phi.{paired, noop, markAt as phiMark, marked, pairLeft, pairsLeft, indexed}
 use Rattle.lent.proofs.Counting.{many-ext}
 use Rattle.clear.proofs.Alike.{Loads, Alike}
@@ -165,11 +165,10 @@ module _ {limit : ℕ} {s t : Chunk} (a : Alike limit s t) where
         }
 
     one-like : (k : ℕ) (b : Bool)
-        → Like limit s t (cond b (opAt w k ∷ markAt w k ∷ operandOf dead w k ∷ []) []) (cond b (opAt v k ∷ markAt v k ∷ operandOf dead v k ∷ []) [])
+        → Like limit s t (cond b (wordsOf dead w k) []) (cond b (wordsOf dead v k) [])
     one-like k true zero = operand-like k
     one-like k true (suc i) =
-        like-past limit s t (opAt w k ∷ markAt w k ∷ operandOf dead w k ∷ []) (opAt v k ∷ markAt v k ∷ operandOf dead v k ∷ []) (suc i) (omega arith)
-        (omega arith)
+        like-past limit s t (wordsOf dead w k) (wordsOf dead v k) (suc i) (omega arith) (omega arith)
     one-like k false i = like-past limit s t [] [] i (omega arith) (omega arith)
 
     some-like : (k : ℕ) → Like limit s t (each (leftAt dead w) k) (each (leftAt dead v) k)

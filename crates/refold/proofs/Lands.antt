@@ -82,7 +82,7 @@ module _ (strict : Bool) (l : Lending) (c : Counts) where
     abbrev answer : Folds strict l c (o strict l c .answer) (all-left strict l c)
     answer = call-answered strict l c m q
 
-    front : take (count (l .buffers .code)) (all-left strict l c .buffers .dead) ≡ o strict l c .after .dead
+    pub front : take (count (l .buffers .code)) (all-left strict l c .buffers .dead) ≡ o strict l c .after .dead
     unfolding joined constantFold
     front =
         take-at (after strict l c .dead) (drop (count (l .buffers .code)) (l .buffers .dead)) (count (l .buffers .code))

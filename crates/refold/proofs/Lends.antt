@@ -249,7 +249,7 @@ module _ (strict : Bool) (l : Lending) (c : Counts) where
   abbrev pub after : Tables
   after = finished before
 
-  end-is : end ≡ foldAll scan clean
+  pub end-is : end ≡ foldAll scan clean
   unfolding foldPass
   end-is = refl
 

@@ -10,3 +10,4 @@ pub mod Chain
 pub mod Beside
 pub mod Refolds
 pub mod Operators
+pub mod Origins

@@ -18,9 +18,9 @@ use Rattle.laws.proofs.Branch.{and-true}
 use Rattle.laws.proofs.Each.{each-at, each-length, each-word}
 use Rattle.laws.proofs.Many.{many-few, many-fewer, many-more}
 use Rattle.code.specs.Op.{Phi}
-use Rattle.lent.specs.Chunk.{stride, count, opAt, markAt, folds, isPhi}
+use Rattle.lent.specs.Chunk.{stride, count, opAt, folds, isPhi}
 use Rattle.compact.specs.Remap.{alive, live, remapOf}
-use Rattle.compact.specs.Tables.{operandOf, leftAt, left, compacted, pairAt, placed}
+use Rattle.compact.specs.Tables.{wordsOf, leftAt, left, compacted, pairAt, placed}
 use Rattle.phi_pass.specs.Phi.{paired, firstOf, secondOf, markAt as phiMark, marked, pairLeft, pairsLeft, indexed}
 use Rattle.phi_pass.proofs.Pairs.{marked-length, dead-stays}
 use Rattle.lent.proofs.Counting.{many-ext}
@@ -34,7 +34,7 @@ module _ (dead w : List ℕ) where
   abbrev packed : ℕ → List ℕ
   packed k = each (leftAt dead w) k
 
-  one-long : (k : ℕ) (t : Bool) → length (cond t (opAt w k ∷ markAt w k ∷ operandOf dead w k ∷ []) []) ≡ stride * boolByte t
+  one-long : (k : ℕ) (t : Bool) → length (cond t (wordsOf dead w k) []) ≡ stride * boolByte t
   one-long k true = refl
   one-long k false = refl
 
@@ -72,20 +72,20 @@ module _ (g : ℕ → Bool) (dead w : List ℕ) where
       same : (rest : List ℕ) → many (λ i. g (opAt p i)) r ≡ many lived k → many (λ i. g (opAt (p ++ rest) i)) r ≡ many lived k
       same rest ih = many-ext (λ i. g (opAt (p ++ rest) i)) (λ i. g (opAt p i)) r (before rest) ∙ ih
 
-      at : (o m v : ℕ) → opAt (p ++ (o ∷ m ∷ v ∷ [])) r ≡ o
-      at o m v =
+      at : opAt (p ++ wordsOf dead w k) r ≡ opAt w k
+      at =
           let e : stride * r ≡ length p + 0 = omega (arith, packed-long dead w k) in
-          ap (λ (i : ℕ). getD (p ++ (o ∷ m ∷ v ∷ [])) i 0) e ∙ getD-append-add p (o ∷ m ∷ v ∷ []) 0 0
+          ap (λ (i : ℕ). getD (p ++ wordsOf dead w k) i 0) e ∙ getD-append-add p (wordsOf dead w k) 0 0
 
       go : (t : Bool) → many (λ i. g (opAt p i)) r ≡ many lived k
-          → many (λ i. g (opAt (p ++ cond t (opAt w k ∷ markAt w k ∷ operandOf dead w k ∷ []) []) i)) (r + boolByte t) ≡ many lived k + boolByte
+          → many (λ i. g (opAt (p ++ cond t (wordsOf dead w k) []) i)) (r + boolByte t) ≡ many lived k + boolByte
           (g (opAt w k) && t)
       go false ih =
           let z : r + 0 ≡ r = omega arith in
           ap (many (λ i. g (opAt (p ++ []) i))) z ∙ same [] ih ∙ rw (and-no (g (opAt w k))) (omega arith)
       go true ih =
-          let rest = opAt w k ∷ markAt w k ∷ operandOf dead w k ∷ [] in
-          many-more (λ i. g (opAt (p ++ rest) i)) r ∙ rw (same rest ih, at (opAt w k) (markAt w k) (operandOf dead w k), and-yes (g (opAt w k)))
+          let rest = wordsOf dead w k in
+          many-more (λ i. g (opAt (p ++ rest) i)) r ∙ rw (same rest ih, at, and-yes (g (opAt w k)))
 
 -- ---- the marks of the Phi pass
 

@@ -8,15 +8,15 @@ use Rattle.fold.specs.Plan.{Chunk, chunk}
 
 -- a jump, and 2 + 3 after it
 abbrev pub jumping : ℕ → Chunk
-jumping to = chunk (Jump ∷ 1 ∷ to ∷ LoadConst ∷ 2 ∷ 0 ∷ LoadConst ∷ 2 ∷ 1 ∷ Add ∷ 0 ∷ 0 ∷ []) (0 ∷ 0 ∷ 0 ∷ 0 ∷ []) (1 ∷ 1 ∷ 9 ∷ []) (2 ∷ 3 ∷ 9 ∷ []) 2
+jumping to = chunk (Jump ∷ 1 ∷ to ∷ 0 ∷ LoadConst ∷ 2 ∷ 0 ∷ 1 ∷ LoadConst ∷ 2 ∷ 1 ∷ 2 ∷ Add ∷ 0 ∷ 0 ∷ 3 ∷ []) (0 ∷ 0 ∷ 0 ∷ 0 ∷ []) (1 ∷ 1 ∷ 9 ∷ []) (2 ∷ 3 ∷ 9 ∷ []) 2
 
 -- the same, folded
 abbrev pub summed : ℕ → Chunk
-summed to = chunk (Jump ∷ 1 ∷ to ∷ LoadConst ∷ 2 ∷ 2 ∷ LoadConst ∷ 2 ∷ 1 ∷ Add ∷ 0 ∷ 0 ∷ []) (0 ∷ 0 ∷ 1 ∷ 1 ∷ []) (1 ∷ 1 ∷ 1 ∷ []) (2 ∷ 3 ∷ 5 ∷ []) 3
+summed to = chunk (Jump ∷ 1 ∷ to ∷ 0 ∷ LoadConst ∷ 2 ∷ 2 ∷ 1 ∷ LoadConst ∷ 2 ∷ 1 ∷ 2 ∷ Add ∷ 0 ∷ 0 ∷ 3 ∷ []) (0 ∷ 0 ∷ 1 ∷ 1 ∷ []) (1 ∷ 1 ∷ 1 ∷ []) (2 ∷ 3 ∷ 5 ∷ []) 3
 
 -- what a fold left of three Phis, of which the last died: the code, the counts as answered, and the lengths as lent
 abbrev pub crossed : List ℕ
-crossed = Phi ∷ 0 ∷ 7 ∷ Phi ∷ 0 ∷ 8 ∷ 0 ∷ 0 ∷ 0 ∷ []
+crossed = Phi ∷ 0 ∷ 7 ∷ 0 ∷ Phi ∷ 0 ∷ 8 ∷ 1 ∷ 0 ∷ 0 ∷ 0 ∷ 0 ∷ []
 
 abbrev pub crossedCounts : Counts
 crossedCounts = record { constants = 0; map = 2; sources = 4; stmts = 0; calls = 0 }

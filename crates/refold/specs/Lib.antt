@@ -4,3 +4,4 @@ pub mod Lendable
 pub mod Refolded
 pub mod Left
 pub mod Examples
+pub mod Origins

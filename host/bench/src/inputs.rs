@@ -1,6 +1,6 @@
 //! The inputs: code and chunks of a given size, the same at every run.
 
-use oracle::{question::{Arg, Fold, Question}, rng::Rng};
+use oracle::{chunks::numbered, question::{Arg, Fold, Question}, rng::Rng};
 use turniploom::{Ins, Lowered, marked, op::*};
 
 /// Code with no jump back: sums over the registers, a call with its store every eight instructions, a branch forward now and then.
@@ -93,7 +93,7 @@ fn lent(code: Vec<[u16; 3]>, pool: &[i64]) -> Question {
     let stmts: Vec<u32> = (0..n as u32).step_by(8).flat_map(|k| [k, k]).collect();
     let count = stmts.len() as u64;
     Question::of(Fold, [
-        ("code", Arg::U16(code.as_flattened().to_vec())), ("kinds", Arg::U8(kinds)), ("words", Arg::U64(words)), ("constants", Arg::N(pool.len() as u64)),
+        ("code", Arg::U16(numbered(&code))), ("kinds", Arg::U8(kinds)), ("words", Arg::U64(words)), ("constants", Arg::N(pool.len() as u64)),
         ("phi_map", Arg::U32(vec![0; n])), ("phi_sources", Arg::U16(vec![0; 2 * n])), ("stmt_pos", Arg::U32(stmts)), ("stmt_pos_count", Arg::N(count)),
         ("dead", Arg::U8(vec![0; n])), ("remap", Arg::U32(vec![0; n + 1])), ("landings", Arg::U64(vec![0; n + 1])),
     ])

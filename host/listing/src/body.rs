@@ -1,8 +1,8 @@
 //! What the listing of a body shows, found by the archive's calls.
 
-use crate::{and, count, notation::{Body, ins_text}};
-use model::{code::is_call, roles, rows};
-use turniploom::{Ins, Kept, Refusal, Touched, abi, op};
+use crate::{and, callee::Callees, count, found::{self, Found}, handlers::{self, Lost}, notation::{Body, ins_text}, own::Own};
+use model::rows;
+use turniploom::{DUNDER, Ins, Op, Refusal, op};
 
 /// A body with all that is known of it.
 pub struct View {
@@ -12,22 +12,29 @@ pub struct View {
     /// A line for each position, the end's too.
     pub lines: Vec<Line>,
     pub tries: Vec<(usize, usize)>,
+    /// From here on rows were looked for.
+    pub start: usize,
     pub remarks: Vec<String>,
+    /// What handlers need and levels do not keep.
+    pub lost: Vec<Lost>,
     /// The registers that no step of a replayed trace read; none if there is no trace.
     pub unread: Vec<u16>,
 }
 
+#[derive(Default)]
 pub struct Line {
     pub text: String,
     pub used: Vec<u16>,
     pub given_up: Vec<u16>,
     /// The positions whose rows it reads.
     pub after: Vec<usize>,
-    /// The registers needed before the instruction.
+    /// The registers needed before the instruction, if rows were looked for there.
     pub row: Vec<u16>,
     pub level: Option<Level>,
     /// Where it jumps and what jumps to it.
     pub notes: Vec<String>,
+    /// What the writer says of it.
+    pub comment: String,
 }
 
 /// An instruction that may call back into the body.
@@ -35,6 +42,8 @@ pub struct Level {
     pub resume: usize,
     pub result: Option<u16>,
     pub callee: Option<String>,
+    /// Whether it is a call with no store where its result is due.
+    pub unstored: bool,
     /// What is kept for the resume point, and what each handler adds.
     pub kept: Vec<Part>,
 }
@@ -45,27 +54,43 @@ pub struct Part {
 }
 
 impl View {
+    /// # Errors
+    ///
+    /// The refusal of the kept-register call.
     pub fn of(body: &Body) -> Result<View, Refusal> {
         let found = Found::of(body)?;
-        let code = &body.code;
-        let n = code.len();
-        let tries: Vec<(usize, usize)> = body.tries.chunks(2).map(|t| (t[0] as usize, t[1] as usize)).collect();
+        let (code, n) = (&body.code, body.code.len());
+        let tries = found::tries(body)?;
+        let own: Vec<Own> = code.iter().map(Own::of).collect();
+        let mut callees = Callees::of(code);
         let mut lines: Vec<Line> = (0..n).map(|k| {
-            let (used, given_up) = sets(code, k, body.registers);
-            let level = found.levels[k].map(|(resume, result)| {
-                Level { resume, result, callee: callee(code, k), kept: parts(&found, k, resume, result, &tries) }
+            let (used, given_up) = sets(code, k, &own[k], body.registers);
+            let level = found.levels[k].map(|(resume, result)| Level {
+                resume, result, callee: callees.at(k), unstored: unstored(code, k, resume), kept: parts(&found, k, resume, result, &tries),
             });
-            Line { text: ins_text(code, k), used, given_up, after: after(code, k), row: found.row(k), level, notes: notes(code, k, &tries) }
+            let comment = body.comments.get(k).cloned().unwrap_or_default();
+            Line { text: ins_text(code, k), used, given_up, after: after(code, k, &own[k]), row: found.row(k).to_vec(), level, notes: vec![], comment }
         }).collect();
-        lines.push(Line { text: "end".into(), used: vec![], given_up: vec![], after: vec![], row: found.row(n), level: None, notes: notes(code, n, &tries) });
+        lines.push(Line { text: "end".into(), row: found.row(n).to_vec(), ..Line::default() });
+        note(code, &own, &tries, &mut lines);
+        let lost = handlers::lost(&lines, &tries, body.registers);
+        for l in lost.iter().flatten() { for &k in &l.levels { lines[k].notes.push(format!("WARNING: r{} is not kept for the handler at {}", l.register,
+            l.handler)) } }
         let columns = columns(&lines, body.registers);
         let width = if body.rows32 { ", rows of 32 bits" } else { "" };
         let heading = format!("{}, {}, {}{width}", count(n, "instruction"), count(body.registers, "register"), count(tries.len(), "try"));
-        let remarks = remarks(body, &lines, &found);
-        Ok(View { heading, columns, lines, tries, remarks, unread: vec![] })
+        let start = found.start(body);
+        let mut remarks = remarks(body, &lines, &found, &own);
+        if callees.unasked > 0 { remarks.push(format!("{} not asked for: the way back to what they call is too long.", count(callees.unasked, "callee"))) }
+        if lost.is_none() { remarks.push("Too much is inside tries to tell here what handlers lose.".into()) }
+        Ok(View { heading, columns, lines, tries, start, remarks, lost: lost.unwrap_or_default(), unread: vec![] })
     }
 
     /// Lays a recorded day beside the rows: how often each position was visited, and how often each register was read.
+    ///
+    /// # Errors
+    ///
+    /// The refusal of the trace.
     pub fn replay(&mut self, body: &Body, trace: &[u8]) -> Result<(), Refusal> {
         let day = turniploom::replay(&body.words(), body.registers, &self.tries, trace)?;
         let mut visits = vec![0; body.code.len()];
@@ -79,6 +104,9 @@ impl View {
         if !lost.is_empty() { self.remarks.insert(1, format!("Needed by a row and never read on that day: {}.", and(&lost))) }
         Ok(())
     }
+
+    /// The warnings, a sentence each.
+    pub fn warnings(&self) -> Vec<String> { self.lost.iter().map(|l| format!("WARNING: {}.", l.says())).collect() }
 }
 
 /// How often a position was visited.
@@ -90,158 +118,110 @@ fn visited(times: u64) -> String {
     }
 }
 
-/// What the kept-register call found, with rows of either width.
-struct Found {
-    /// The rows, the end's too, and what is kept at each position.
-    rows: Vec<Vec<u16>>,
-    kept: Vec<Vec<u16>>,
-    /// Where each level resumes, and its result register.
-    levels: Vec<Option<(usize, Option<u16>)>>,
-    full: u64,
-    abandoned: u64,
-    /// The most full sweeps, known before the call.
-    most: u64,
-}
-
-impl Found {
-    fn of(body: &Body) -> Result<Found, Refusal> {
-        let (words, registers, wide) = (body.words(), body.registers, body.wide);
-        let tries = tries(body)?;
-        let most = turniploom::most_sweeps(&words);
-        if body.rows32 { Ok(Found::read(turniploom::kept32(&words, registers, &tries, wide)?, most?)) }
-        else { Ok(Found::read(turniploom::kept(&words, registers, &tries, wide)?, most?)) }
-    }
-
-    fn read<W: Copy + Into<u64>>(kept: Kept<W>, most: u64) -> Found {
-        let n = kept.offsets.len() - 1;
-        let registers = 0..(kept.words * 8 * size_of::<W>()) as u16;
-        let row = |k: usize| registers.clone().filter(|&r| kept.needed(k, r)).collect();
-        let levels = (0..n).map(|k| kept.level(k).map(|l| (l.resume(), l.result()))).collect();
-        let (rows, lists) = ((0..=n).map(row).collect(), (0..n).map(|k| kept.at(k).to_vec()).collect());
-        Found { rows, kept: lists, levels, full: kept.full, abandoned: kept.abandoned, most }
-    }
-
-    /// The row of a position, and of any past the end.
-    fn row(&self, k: usize) -> Vec<u16> { self.rows[k.min(self.kept.len())].clone() }
-}
-
-/// The tries of a body in pairs.
-pub fn tries(body: &Body) -> Result<Vec<(usize, usize)>, Refusal> {
-    // An odd last word is a try without a handler, which is refused before any buffer is looked at.
-    if !body.tries.len().is_multiple_of(2) { abi::kept(&body.words(), body.registers, &body.tries, body.wide, &mut [], &mut [], &mut []).granted()?; }
-    Ok(body.tries.chunks_exact(2).map(|t| (t[0] as usize, t[1] as usize)).collect())
-}
-
-/// What an instruction by itself touches, as the archive tells it: asked about in a code of its own, since every call tests all that it is lent.
-fn touched(i: &Ins) -> Touched { turniploom::touched(&[Ins::default(), *i, Ins { op: op::ArgsR, ..Ins::default() }], 1).expect("good code") }
-
 /// The registers used and given up, as the row equations have them.
-fn sets(code: &[Ins], k: usize, registers: usize) -> (Vec<u16>, Vec<u16>) {
+fn sets(code: &[Ins], k: usize, own: &Own, registers: usize) -> (Vec<u16>, Vec<u16>) {
     if rows::pending(code, k) { return (vec![], vec![]) }
-    let Touched { used, given_up, .. } = touched(&code[k]);
-    let inside = |mut set: Vec<u16>| {
-        set.retain(|&r| (r as usize) < registers);
+    let inside = |set: &[u16]| {
+        let mut set: Vec<u16> = set.iter().copied().filter(|&r| usize::from(r) < registers).collect();
         set.sort();
         set.dedup();
         set
     };
-    (inside(used), inside(given_up))
+    (inside(&own.touched.used), inside(&own.touched.given_up))
 }
+
+/// Whether the level at `k` is one of the four calls, and no StoreTopR stands where it resumes.
+fn unstored(code: &[Ins], k: usize, resume: usize) -> bool { code[k].op.is_call() && code.get(resume).is_none_or(|i| i.op != op::StoreTopR) }
 
 /// The kept list of the archive, taken apart by what each register is kept for.
 fn parts(found: &Found, k: usize, resume: usize, result: Option<u16>, tries: &[(usize, usize)]) -> Vec<Part> {
     let mut left = found.kept[k].iter().copied().peekable();
-    let mut take = |handler: Option<usize>, row: Vec<u16>| {
+    let mut seen = vec![];
+    let mut take = |handler: Option<usize>, row: &mut dyn Iterator<Item = u16>| {
         let mut registers = vec![];
         for r in row { if left.next_if_eq(&r).is_some() { registers.push(r) } }
         Part { handler, registers }
     };
-    let mut parts = vec![take(None, found.row(resume).into_iter().filter(|&r| Some(r) != result).collect())];
+    let mut parts = vec![take(None, &mut found.row(resume).iter().copied().filter(|&r| Some(r) != result))];
+    seen.extend(parts[0].registers.iter().copied());
     for &(_, h) in tries.iter().filter(|&&(s, h)| s < k && k < h) {
-        let seen: Vec<u16> = parts.iter().flat_map(|p| p.registers.clone()).collect();
-        parts.push(take(Some(h), found.row(h).into_iter().filter(|r| !seen.contains(r)).collect()));
+        let part = take(Some(h), &mut found.row(h).iter().copied().filter(|r| !seen.contains(r)));
+        seen.extend(part.registers.iter().copied());
+        parts.push(part);
     }
     parts
 }
 
-/// What a call calls, if the archive can trace it.
-fn callee(code: &[Ins], k: usize) -> Option<String> {
-    if is_call(&code[k]) {
-        let binding = turniploom::global_of(code, k).expect("good code");
-        return Some(binding.map_or("calls a function not known here".into(), |b| format!("calls binding {b}")));
+/// What comes after an instruction.
+fn after(code: &[Ins], k: usize, own: &Own) -> Vec<usize> {
+    let to = usize::from(code[k].a).min(code.len());
+    match code[k].op {
+        op::ReturnR => vec![],
+        op::Jump => vec![to],
+        _ if own.jumps => vec![k + 1, to],
+        _ => vec![k + 1],
     }
-    if code[k].op == op::Call && code[k].a < 256 {
-        let found = turniploom::stack_callee(code, k, code[k].a).expect("good code");
-        return Some(found.map_or("calls a function not known here".into(), |(p, r)| format!("calls r{r}, pushed at {p}")));
-    }
-    None
 }
 
-fn notes(code: &[Ins], k: usize, tries: &[(usize, usize)]) -> Vec<String> {
+/// The first of many positions, and how many more there are.
+fn few(positions: &[usize]) -> String {
+    if positions.len() <= 9 { return and(positions) }
+    format!("{} and {} more", positions[..8].iter().map(usize::to_string).collect::<Vec<_>>().join(", "), positions.len() - 8)
+}
+
+/// Says what each line writes where that is not plain, where it jumps, and what lands on it.
+fn note(code: &[Ins], own: &[Own], tries: &[(usize, usize)], lines: &mut [Line]) {
     let n = code.len();
-    let jumps = |k: usize| roles::jumps(&code[k]);
-    let mut notes = vec![];
-    if k < n && rows::pending(code, k) { notes.push("pending under the call".into()) }
-    if k < n && let Touched { given_up, written, .. } = touched(&code[k]) && written != given_up {
-        notes.push(if written.is_empty() { "writes nothing".into() } else { format!("writes {}", registers(&written)) });
+    let mut from = vec![vec![]; n + 1];
+    for (k, i) in code.iter().enumerate() {
+        let notes = &mut lines[k].notes;
+        let (to, touched) = (usize::from(i.a), &own[k].touched);
+        if rows::pending(code, k) { notes.push("pending under the call".into()) }
+        if touched.written != touched.given_up {
+            notes.push(if touched.written.is_empty() { "writes nothing".into() } else { format!("writes {}", registers(&touched.written)) });
+        }
+        if own[k].jumps {
+            notes.push(if to > n { format!("to {to}, past the end") } else { format!("to {to}") });
+            from[to.min(n)].push(k);
+        }
     }
-    if k < n && jumps(k) {
-        let to = code[k].a as usize;
-        notes.push(if to > n { format!("to {to}, past the end") } else { format!("to {to}") });
-    }
-    let from: Vec<usize> = (0..n).filter(|&j| jumps(j) && (code[j].a as usize).min(n) == k).collect();
-    if !from.is_empty() { notes.push(format!("from {}", and(&from))) }
-    for &(s, _) in tries.iter().filter(|t| t.1.min(n) == k) { notes.push(format!("handler of the try at {s}")) }
-    notes
+    for (line, from) in lines.iter_mut().zip(&from) { if !from.is_empty() { line.notes.push(format!("from {}", few(from))) } }
+    for &(s, h) in tries { lines[h.min(n)].notes.push(format!("handler of the try at {s}")) }
 }
 
 /// All registers if they are few, else those that occur.
 fn columns(lines: &[Line], registers: usize) -> Vec<u16> {
     if registers <= 16 { return (0..registers as u16).collect() }
-    let mut all: Vec<u16> = lines.iter().flat_map(|l| {
+    let mut occurs = vec![false; registers];
+    for l in lines {
         let result = l.level.iter().filter_map(|v| v.result);
-        l.used.iter().chain(&l.given_up).chain(&l.row).copied().chain(result).collect::<Vec<_>>()
-    }).filter(|&r| (r as usize) < registers).collect();
-    all.sort();
-    all.dedup();
-    all
+        for r in l.used.iter().chain(&l.given_up).chain(&l.row).copied().chain(result) { if let Some(o) = occurs.get_mut(usize::from(r)) { *o = true } }
+    }
+    (0..registers as u16).filter(|&r| occurs[usize::from(r)]).collect()
 }
 
-fn remarks(body: &Body, lines: &[Line], found: &Found) -> Vec<String> {
-    let n = body.code.len();
-    let first = body.code.iter().position(rows::level).unwrap_or(n);
-    let wide = body.wide || body.registers > if body.rows32 { 32 } else { 64 };
-    let start = if wide || found.abandoned > 0 { 0 } else { first };
+fn remarks(body: &Body, lines: &[Line], found: &Found, own: &[Own]) -> Vec<String> {
+    let (n, first, start) = (body.code.len(), found.first(), found.start(body));
     let from = match start {
         0 => String::new(),
         _ if first == n => " No level: no row is looked for.".into(),
-        _ => format!(" Rows are looked for from {start} on, the first level; before it they are empty."),
+        _ => format!(" Rows are looked for from {start} on, the first level; before it they are left blank."),
     };
     let mut remarks = vec![format!("{} of at most {}, {} abandoned.{from}", count(found.full as usize, "full sweep"), found.most, found.abandoned)];
-    let untrue = untrue(body, lines, start);
-    if !untrue.is_empty() { remarks.push(format!("ROWS THAT BREAK THEIR EQUATION: {}", and(&untrue))) }
-    let outside = outside(body);
-    if !outside.is_empty() { remarks.push(format!("Not below the register count, so never kept: {}.", and(&outside))) }
+    let untrue = untrue(lines, start);
+    if !untrue.is_empty() { remarks.push(format!("ROWS THAT BREAK THEIR EQUATION: {}", few(&untrue))) }
+    let outside = outside(body, own);
+    if !outside.is_empty() { remarks.push(format!("Not below the register count, so never kept: {}.", registers(&outside))) }
+    remarks.extend(dunders(&body.code, found));
     remarks.extend(section(&body.code));
-    remarks.push("Uses and gives up: by the archive, nothing where a value is pending under a call.".into());
+    remarks.push("By the archive: rows, lists, levels, callees, jumps, uses and gives up.".into());
+    remarks.push("By the listing's own reckoning: what is pending under a call, and so touches no register; paths; warnings.".into());
     remarks
 }
 
-/// What comes after an instruction.
-fn after(code: &[Ins], k: usize) -> Vec<usize> {
-    let (i, to) = (&code[k], (code[k].a as usize).min(code.len()));
-    match i.op {
-        op::ReturnR => vec![],
-        op::Jump => vec![to],
-        _ if roles::jumps(i) => vec![k + 1, to],
-        _ => vec![k + 1],
-    }
-}
-
 /// The rows of the archive that are not what the sets on their lines make of the rows after.
-fn untrue(body: &Body, lines: &[Line], start: usize) -> Vec<usize> {
-    let n = body.code.len();
-    (start..n).filter(|&k| {
+fn untrue(lines: &[Line], start: usize) -> Vec<usize> {
+    (start..lines.len() - 1).filter(|&k| {
         let live = lines[k].after.iter().flat_map(|&k| &lines[k].row).filter(|r| !lines[k].given_up.contains(r));
         let mut row: Vec<u16> = live.chain(&lines[k].used).copied().collect();
         row.sort();
@@ -251,13 +231,37 @@ fn untrue(body: &Body, lines: &[Line], start: usize) -> Vec<usize> {
 }
 
 /// Registers that an instruction touches and that are not below the count.
-fn outside(body: &Body) -> Vec<String> {
-    let n = body.code.len();
-    let mut all: Vec<u16> = (0..n).flat_map(|k| { let (used, given_up) = sets(&body.code, k, 65_536); [used, given_up].concat() }).collect();
-    all.retain(|&r| r as usize >= body.registers);
+fn outside(body: &Body, own: &[Own]) -> Vec<u16> {
+    let touched = |k: usize| own[k].touched.used.iter().chain(&own[k].touched.given_up).copied().filter(|&r| usize::from(r) >= body.registers);
+    let mut all: Vec<u16> = (0..own.len()).filter(|&k| touched(k).next().is_some() && !rows::pending(&body.code, k)).flat_map(touched).collect();
     all.sort();
     all.dedup();
-    all.iter().map(|r| format!("r{r}")).collect()
+    all
+}
+
+/// Whether a dunder may run at an opcode, as far as its name tells: operators, comparisons, items and lengths. The Rust's own test is not given.
+fn may_run_a_dunder(o: Op) -> bool {
+    use op::*;
+    let name = o.name().unwrap_or_default();
+    o.folds() || name.starts_with("JumpUnless") || [
+        AddR, SubR, MulR, DivR, ModR, FloorDivR, InPlaceAddR, InPlaceSubR, BitAndR, BitOrR, BitXorR, ShlR, ShrR, PowR, EqR, NotEqR, LtR, LtEqR, GtR,
+            GtEqR, MinusR, NotR,
+        GetItemR, StoreItemR, SetAttrR, InR, NotInR, LenR, GetItem, StoreItem, Pow, In, NotIn, InPlaceAdd, InPlaceSub, LoadAttr, StoreAttr, DelItem,
+            DelAttr, BitNot,
+    ].contains(&o)
+}
+
+/// With no mark `dunder` at all: which instructions would be levels if the host's test named their opcodes.
+fn dunders(code: &[Ins], found: &Found) -> Option<String> {
+    if code.iter().any(|i| i.marks & DUNDER != 0) { return None }
+    let may: Vec<String> = (0..code.len()).filter(|&k| found.levels[k].is_none() && may_run_a_dunder(code[k].op)).map(|k| format!("{k} {}",
+        code[k].op)).collect();
+    let shown = match may.len() {
+        0 => return None,
+        1..=6 => and(&may),
+        many => format!("{} and {} more", may[..5].join(", "), many - 5),
+    };
+    Some(format!("No mark `dunder` is given, which the host alone knows: if its dunder_op says so, these are levels too and keep registers: {shown}."))
 }
 
 /// What the walks say of the body as a whole.
@@ -275,7 +279,8 @@ impl Level {
     pub fn says(&self) -> String {
         let result = self.result.map_or("no result register".into(), |r| format!("result in r{r}"));
         let callee = self.callee.as_ref().map_or(String::new(), |c| format!("{c}, "));
-        format!("{callee}resumes at {}, {result}", self.resume)
+        let store = if self.unstored { format!("; its store is missing, a StoreTopR at {}", self.resume) } else { String::new() };
+        format!("{callee}resumes at {}, {result}{store}", self.resume)
     }
 
     /// What is kept, in words.
@@ -286,6 +291,9 @@ impl Level {
         }).collect();
         if told.is_empty() { "nothing".into() } else { told.join("; ") }
     }
+
+    /// All that is kept, in the list's order.
+    pub fn registers(&self) -> Vec<u16> { self.kept.iter().flat_map(|p| p.registers.iter().copied()).collect() }
 }
 
 /// Registers in a row: `r0 r3-r7`.

@@ -1,6 +1,6 @@
 //! A month of scripts in figures: a line for each body, how long the lists are, and the save area that a recursion needs.
 
-use crate::{body, count, notation::Body, page::escaped};
+use crate::{count, found, notation::Body, page::escaped};
 use std::fmt::Write;
 use turniploom::{Figures, Refusal};
 
@@ -30,7 +30,7 @@ impl View {
     /// The refusal of its kept-register call, or of the figures.
     pub fn add(&mut self, file: &str, body: &Body) -> Result<(), Refusal> {
         let words = body.words();
-        let kept = turniploom::kept(&words, body.registers, &body::tries(body)?, body.wide)?;
+        let kept = turniploom::kept(&words, body.registers, &found::tries(body)?, body.wide)?;
         let figures = Figures::of(&words, &kept)?;
         self.all.join(&figures)?;
         for level in kept.levels() {
@@ -109,13 +109,14 @@ pub fn text(view: &View) -> String {
 }
 
 pub fn page(view: &View) -> String {
-    let heads = |heads: &[&str]| heads.iter().map(|h| format!("<th class=\"left\">{h}</th>")).collect::<String>();
-    let mut out = format!("<table>\n<tr>{}</tr>\n", heads(&BODIES));
+    let heads = |heads: &[&str]| heads.iter().map(|h| format!("<th scope=\"col\">{h}</th>")).collect::<String>();
+    let mut out = format!("<div class=\"chart\" role=\"region\" aria-label=\"the bodies\" \
+        tabindex=\"0\">\n<table>\n<caption><span>Bodies.</span></caption>\n<thead>\n<tr>{}</tr>\n</thead>\n<tbody>\n", heads(&BODIES));
     for [file, rest @ ..] in view.bodies() {
         let cells: String = rest.iter().map(|c| format!("<td class=\"note\">{}</td>", escaped(c))).collect();
         writeln!(out, "<tr><td class=\"ins\">{}</td>{cells}</tr>", escaped(&file)).unwrap();
     }
-    out += "</table>\n";
+    out += "</tbody>\n</table>\n</div>\n";
     if !view.lengths.is_empty() { out += &bars(view) }
     out + &view.remarks().iter().map(|r| format!("<p>{}</p>\n", escaped(r))).collect::<String>()
 }
@@ -124,15 +125,18 @@ pub fn page(view: &View) -> String {
 fn bars(view: &View) -> String {
     let most = view.lengths.iter().max().copied().unwrap_or(0).max(1);
     let [list, levels, entry, deep] = LISTS;
-    let mut out = format!("<table class=\"bars\">\n<tr><th>{list}</th><th class=\"left\">{levels}</th><th>{entry}</th><th>{deep}</th></tr>\n");
+    let mut out = String::from("<div class=\"chart\" role=\"region\" aria-label=\"the lists\" tabindex=\"0\">\n<table \
+        class=\"bars\">\n<caption><span>How many levels have a list of each length.</span></caption>\n");
+    for head in [list, levels, entry, deep] { write!(out, "{}<th scope=\"col\">{head}</th>", if head == list { "<thead>\n<tr>" } else { "" }).unwrap() }
+    out += "</tr>\n</thead>\n<tbody>\n";
     for ([length, levels, entry, deep], &of) in view.lists().iter().zip(&view.lengths) {
         let width = 26.0 * of as f64 / most as f64;
         let title = format!("{} with a list of {length}", count(of as usize, "level"));
         writeln!(
-            out, "<tr><td class=\"at\">{length}</td>\
+            out, "<tr><th scope=\"row\">{length}</th>\
             <td class=\"bar\" title=\"{title}\"><i style=\"width: {width:.2}rem\"></i>{levels}</td><td class=\"at\">{entry}</td>\
             <td class=\"at\">{deep}</td></tr>"
         ).unwrap();
     }
-    out + "</table>\n"
+    out + "</tbody>\n</table>\n</div>\n"
 }

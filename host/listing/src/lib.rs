@@ -1,14 +1,31 @@
 //! A listing of a body or a chunk for the people who write rules, and the notation it reads.
 
 pub mod body;
+pub mod callee;
 pub mod chunk;
+pub mod command;
+pub mod diff;
 pub mod figures;
+pub mod found;
+pub mod handlers;
+pub mod json;
+pub mod lanes;
 pub mod notation;
+pub mod options;
+pub mod own;
 pub mod page;
+pub mod paint;
 pub mod refused;
 pub mod run;
 pub mod text;
+pub mod unfolded;
+pub mod whose;
 pub mod why;
+
+/// README's Rust is tested as documentation is.
+#[cfg(doctest)]
+#[doc = include_str!("../../../README.md")]
+pub struct Readme;
 
 /// Words joined as in a sentence.
 pub fn and<T: ToString>(words: &[T]) -> String {

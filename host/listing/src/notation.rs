@@ -15,14 +15,17 @@ pub struct Body {
     /// Whether the wide route is forced, and whether the rows have words of 32 bits.
     pub wide: bool,
     pub rows32: bool,
-    /// The line of each instruction, if it was read.
+    /// The line of each instruction, and the writer's comment on it, if it was read.
     pub lines: Vec<usize>,
+    pub comments: Vec<String>,
 }
 
 /// A chunk as it is lent to the folding call.
 #[derive(Clone, Debug, Default, PartialEq, Eq)]
 pub struct Chunk {
     pub code: Vec<[u16; 3]>,
+    /// Where each instruction stood in the script as first compiled.
+    pub origins: Vec<u16>,
     pub tail: Vec<u16>,
     /// A kind and a word each.
     pub constants: Vec<(u8, u64)>,
@@ -33,6 +36,7 @@ pub struct Chunk {
     pub tries: Vec<u32>,
     pub strict: bool,
     pub lines: Vec<usize>,
+    pub comments: Vec<String>,
 }
 
 /// What a text holds.
@@ -55,25 +59,62 @@ impl fmt::Display for Wrong {
 
 impl std::error::Error for Wrong {}
 
+/// All that is wrong with a text, in order.
+#[derive(Clone, Debug, PartialEq, Eq)]
+pub struct Wrongs(pub Vec<Wrong>);
+
+impl fmt::Display for Wrongs {
+    fn fmt(&self, f: &mut fmt::Formatter<'_>) -> fmt::Result {
+        let lines: Vec<String> = self.0.iter().map(Wrong::to_string).collect();
+        f.write_str(&lines.join("\n"))
+    }
+}
+
+impl std::error::Error for Wrongs {}
+
 impl Body {
     pub fn words(&self) -> Vec<u16> { [abi::words(&self.code), &self.tail].concat() }
 }
 
 impl Chunk {
-    pub fn words(&self) -> Vec<u16> { [self.code.as_flattened(), &self.tail].concat() }
+    pub fn words(&self) -> Vec<u16> { [words(&self.code, &self.origins), self.tail.clone()].concat() }
+
+    /// The same with every instruction's position as its origin.
+    pub fn unmoved(&self) -> Chunk { Chunk { origins: (0..self.code.len()).map(|k| k as u16).collect(), ..self.clone() } }
 }
 
-/// Reads a text.
-pub fn read(text: &str) -> Result<Text, Wrong> {
-    let mut reader = Reader::default();
+/// The lent words of this code with these origins.
+pub fn words(code: &[[u16; 3]], origins: &[u16]) -> Vec<u16> { code.iter().zip(origins).flat_map(|(&[o, marks, operand], &origin)| [o, marks, operand, origin]).collect() }
+
+/// The code and the origins of lent words.
+pub fn parted(words: &[u16]) -> (Vec<[u16; 3]>, Vec<u16>) {
+    words.as_chunks::<{ abi::CHUNK_WORDS }>().0.iter().map(|&[o, marks, operand, origin]| ([o, marks, operand], origin)).unzip()
+}
+
+/// Reads a text, past a mark of its byte order.
+///
+/// # Errors
+///
+/// All that is wrong with it, each with its line.
+pub fn read(text: &str) -> Result<Text, Wrongs> {
+    let text = text.strip_prefix('\u{feff}').unwrap_or(text);
+    let (mut reader, mut wrongs) = (Reader::default(), vec![]);
     for (k, line) in text.lines().enumerate() {
-        let bare = line.split('#').next().unwrap_or_default();
+        let (bare, comment) = line.split_once('#').unwrap_or((line, ""));
+        let before = reader.entries.len();
         for statement in bare.split(';') {
-            reader.statement(statement, k + 1).map_err(|says| Wrong { line: k + 1, says })?;
+            if let Err(says) = reader.statement(statement, k + 1) { wrongs.push(Wrong { line: k + 1, says }) }
         }
+        // A comment is about the last instruction on its line.
+        if reader.entries.len() > before { reader.entries.last_mut().expect("an instruction").comment = comment.trim().into() }
     }
     let last = text.lines().count().max(1);
-    reader.end().map_err(|says| Wrong { line: last, says })
+    match reader.end() {
+        Ok(read) if wrongs.is_empty() => return Ok(read),
+        Ok(_) => {}
+        Err(says) => wrongs.push(Wrong { line: last, says }),
+    }
+    Err(Wrongs(wrongs))
 }
 
 type Read<T> = Result<T, String>;
@@ -86,14 +127,21 @@ struct Entry {
     /// Marks by word, and marks by number, which leave no default.
     marks: u16,
     exact: Option<u16>,
+    /// Where it stood, if it is said.
+    origin: Option<u16>,
     line: usize,
+    comment: String,
 }
 
 #[derive(Default)]
 struct Reader {
     chunk: bool,
     entries: Vec<Entry>,
+    /// How many positions more than instructions there are, after one that was not due.
+    ahead: usize,
     registers: Option<usize>,
+    /// Whether registers or a chunk are spoken of, be it wrongly.
+    counted: bool,
     wide: bool,
     rows32: bool,
     strict: bool,
@@ -121,10 +169,14 @@ impl Reader {
             [] => Ok(()),
             [n, "registers" | "register"] if is_number(n) => self.setting("registers", &[n]),
             [position, ref rest @ ..] if is_number(position) => {
-                let due = self.entries.len();
-                if number::<usize>(position, "a position")? != due { return Err(format!("position {position} stands where {due} is due")) }
-                let [name, ref fields @ ..] = rest[..] else { return Err(format!("no instruction after position {position}")) };
-                self.instruction(name, fields, line)
+                let (due, position) = (self.entries.len() + self.ahead, number::<usize>(position, "a position")?);
+                // What follows is held to the position that stands here, so that each slip is told once.
+                self.ahead = position.wrapping_sub(self.entries.len());
+                let read = match rest[..] {
+                    [name, ref fields @ ..] => self.instruction(name, fields, line),
+                    [] => { self.unread(line); Err(format!("no instruction after position {position}")) }
+                };
+                if position == due { read } else { Err(format!("position {position} stands where {due} is due")) }
             }
             [word, ref rest @ ..] if word.starts_with(|c: char| c.is_lowercase()) && word != "jump" => self.setting(word, rest),
             [name, ref fields @ ..] => self.instruction(name, fields, line),
@@ -134,6 +186,8 @@ impl Reader {
     /// A line that is no instruction.
     fn setting(&mut self, word: &str, rest: &[&str]) -> Read<()> {
         let of_a_chunk = ["strict", "plain", "constants", "pool", "phi_map", "phi_sources", "stmt_pos", "call_byte_pos"];
+        // Who says one of these has said which it is.
+        self.counted |= word == "registers" || of_a_chunk.contains(&word);
         if of_a_chunk.contains(&word) && !self.chunk { return Err(format!("`{word}` belongs to a chunk: say `chunk` on a line before it")) }
         if ["registers", "route"].contains(&word) && self.chunk { return Err(format!("a chunk has no `{word}`")) }
         match (word, rest) {
@@ -162,10 +216,29 @@ impl Reader {
     }
 
     fn instruction(&mut self, name: &str, fields: &[&str], line: usize) -> Read<()> {
-        let mut entry = Entry { op: opcode(name)?, fields: [None; 4], marks: 0, exact: None, line };
-        for &word in fields { self.field(&mut entry, name, word)? }
+        let mut entry = Entry { op: Op::OTHER, fields: [None; 4], marks: 0, exact: None, origin: None, line, comment: String::new() };
+        let read = opcode(name).and_then(|op| {
+            entry.op = op;
+            let fields = self.origin(&mut entry, name, fields)?;
+            fields.iter().try_for_each(|word| self.field(&mut entry, name, word))
+        });
+        // It takes its position even if it is wrong.
         self.entries.push(entry);
-        Ok(())
+        read
+    }
+
+    /// An instruction that is not there takes its position all the same.
+    fn unread(&mut self, line: usize) { self.entries.push(Entry { op: Op::OTHER, fields: [None; 4], marks: 0, exact: None, origin: None, line, comment: String::new() }) }
+
+    /// Takes `was 12` from the end of an instruction of a chunk.
+    fn origin<'a>(&self, entry: &mut Entry, name: &str, fields: &'a [&'a str]) -> Read<&'a [&'a str]> {
+        match fields {
+            [front @ .., "was", origin] if self.chunk => {
+                entry.origin = Some(number(origin, &format!("{name}: `was`"))?);
+                Ok(front)
+            }
+            _ => Ok(fields),
+        }
     }
 
     fn field(&self, entry: &mut Entry, name: &str, word: &str) -> Read<()> {
@@ -198,22 +271,24 @@ impl Reader {
     }
 
     fn end(self) -> Read<Text> {
-        let lines = self.entries.iter().map(|e| e.line).collect();
+        let (lines, comments) = self.entries.iter().map(|e| (e.line, e.comment.clone())).unzip();
         if self.chunk {
             let of = |e: &Entry| [e.op.0, e.exact.unwrap_or(usual_marks(e.op)) | e.marks, e.fields[0].unwrap_or(0)];
             return Ok(Text::Chunk(Chunk {
+                origins: self.entries.iter().enumerate().map(|(k, e)| e.origin.unwrap_or(k as u16)).collect(),
                 code: self.entries.iter().map(of).collect(), tail: self.tail, constants: self.constants, phi_map: self.phi_map,
                 phi_sources: self.phi_sources, stmt_pos: self.stmt_pos, call_byte_pos: self.call_byte_pos, tries: self.tries,
-                strict: self.strict, lines,
+                strict: self.strict, lines, comments,
             }));
         }
-        let Some(registers) = self.registers else { return Err("how many registers? Say `registers 4`, or `chunk` if this is a chunk".into()) };
+        if self.registers.is_none() && !self.counted { return Err("how many registers? Say `registers 4`, or `chunk` if this is a chunk".into()) }
+        let registers = self.registers.unwrap_or(0);
         let mut code: Vec<Ins> = self.entries.iter().map(|e| {
             let [a, b, c, x] = e.fields.map(Option::unwrap_or_default);
             Ins { op: e.op, marks: 0, a, b, c, x }
         }).collect();
         for (k, e) in self.entries.iter().enumerate() { code[k].marks = e.exact.unwrap_or(usual(&code, k)) | e.marks }
-        Ok(Text::Body(Body { code, tail: self.tail, registers, tries: self.tries, wide: self.wide, rows32: self.rows32, lines }))
+        Ok(Text::Body(Body { code, tail: self.tail, registers, tries: self.tries, wide: self.wide, rows32: self.rows32, lines, comments }))
     }
 }
 
@@ -240,34 +315,42 @@ fn opcode(name: &str) -> Read<Op> {
 }
 
 fn unknown(word: &str) -> String {
+    if word.len() > 40 { return format!("no opcode and no setting is called `{word}`") }
     let settings = ["registers", "try", "route", "rows", "chunk", "strict", "constants", "phi_map", "phi_sources", "stmt_pos", "call_byte_pos", "words"];
     let names = op::ALL.iter().filter_map(|o| o.name()).chain(settings);
-    let near = names.map(|n| (distance(&word.to_lowercase(), &n.to_lowercase()), n)).min().filter(|&(d, _)| d <= 2);
+    // Only a word that is mostly right is near one.
+    let near = names.map(|n| (distance(&word.to_lowercase(), &n.to_lowercase()), n)).min().filter(|&(d, n)| d <= 2 && 2 * d <= n.len().max(word.len()));
     format!("no opcode and no setting is called `{word}`{}", near.map_or(String::new(), |(_, n)| format!("; is `{n}` meant?")))
 }
 
-/// How many letters must change to turn one word into the other.
+/// How many letters must change, or change places with the next, to turn one word into the other.
 fn distance(a: &str, b: &str) -> usize {
-    let mut row: Vec<usize> = (0..=b.len()).collect();
-    for (i, x) in a.bytes().enumerate() {
-        let mut corner = row[0];
-        row[0] = i + 1;
-        for (j, y) in b.bytes().enumerate() {
-            let above = row[j + 1];
-            row[j + 1] = (corner + usize::from(x != y)).min(above + 1).min(row[j] + 1);
-            corner = above;
+    let (a, b) = (a.as_bytes(), b.as_bytes());
+    let mut best = vec![vec![0; b.len() + 1]; a.len() + 1];
+    for i in 0..=a.len() {
+        for j in 0..=b.len() {
+            best[i][j] = if i == 0 || j == 0 { i + j } else {
+                let swapped = i > 1 && j > 1 && a[i - 1] == b[j - 2] && a[i - 2] == b[j - 1];
+                let changed = best[i - 1][j - 1] + usize::from(a[i - 1] != b[j - 1]);
+                let changed = changed.min(best[i - 1][j] + 1).min(best[i][j - 1] + 1);
+                if swapped { changed.min(best[i - 2][j - 2] + 1) } else { changed }
+            }
         }
     }
-    row[b.len()]
+    best[a.len()][b.len()]
 }
 
-/// A constant: `7` an int, `2.0` a float, `true`, `other`, or a kind and a word, as in `2:0x7ff8000000000000`.
+/// The single NaN that every NaN result becomes.
+const NAN: u64 = 0x7FF8_0000_0000_0000;
+
+/// A constant: `7` an int, `2.0` a float, `nan`, `true`, `other`, or a kind and a word, as in `2:0x7ff8000000000000`.
 fn constant(word: &str) -> Read<(u8, u64)> {
-    let bad = || format!("`{word}` is no constant: 7, 2.0, inf, true, other, or a kind and a word as 2:0x7ff8000000000000");
+    let bad = || format!("`{word}` is no constant: 7, 2.0, inf, nan, true, other, or a kind and a word as 2:0x7ff8000000000000");
     match word {
         "true" => return Ok((3, 1)),
         "false" => return Ok((3, 0)),
         "other" | "none" => return Ok((0, 0)),
+        "nan" => return Ok((2, NAN)),
         _ => {}
     }
     if let Some((kind, w)) = word.split_once(':') {
@@ -275,7 +358,7 @@ fn constant(word: &str) -> Read<(u8, u64)> {
         return Ok((kind.parse().map_err(|_| bad())?, w.map_err(|_| bad())?));
     }
     if let Ok(i) = word.replace('_', "").parse::<i64>() { return Ok((1, i as u64)) }
-    // A NaN is written by its bits, since it has many.
+    // The one NaN that folds write is `nan`; any other is written by its bits.
     let float = word.parse::<f64>().map_err(|_| bad())?;
     if float.is_nan() { Err(bad()) } else { Ok((2, float.to_bits())) }
 }
@@ -284,6 +367,7 @@ fn constant(word: &str) -> Read<(u8, u64)> {
 pub fn constant_text(kind: u8, word: u64) -> String {
     match kind {
         1 => (word as i64).to_string(),
+        2 if word == NAN => "nan".into(),
         2 if f64::from_bits(word).is_nan() => format!("2:{word:#x}"),
         2 => format!("{:?}", f64::from_bits(word)),
         3 if word <= 1 => (word == 1).to_string(),
@@ -324,6 +408,9 @@ pub fn instruction_text([o, marks, operand]: [u16; 3]) -> String {
     format!("{o}{operand}{mark}")
 }
 
+/// Where the instruction at `k` stood, if not there.
+pub fn was(origin: u16, k: usize) -> String { if usize::from(origin) == k { String::new() } else { format!(" was {origin}") } }
+
 fn listed<T: ToString>(word: &str, table: &[T]) -> String {
     if table.is_empty() { return String::new() }
     format!("{word} {}\n", table.iter().map(T::to_string).collect::<Vec<_>>().join(" "))
@@ -348,7 +435,7 @@ impl fmt::Display for Chunk {
         write!(f, "{}{}{}", listed("constants", &constants), listed("phi_map", &self.phi_map), listed("phi_sources", &self.phi_sources))?;
         write!(f, "{}{}", listed("stmt_pos", &self.stmt_pos), listed("call_byte_pos", &self.call_byte_pos))?;
         for pair in self.tries.chunks(2) { write!(f, "{}", listed("try", pair))? }
-        for (k, &i) in self.code.iter().enumerate() { writeln!(f, "{k} {}", instruction_text(i))? }
+        for (k, (&i, &origin)) in self.code.iter().zip(&self.origins).enumerate() { writeln!(f, "{k} {}{}", instruction_text(i), was(origin, k))? }
         write!(f, "{}", listed("words", &self.tail))
     }
 }
@@ -368,11 +455,12 @@ pub fn asked(q: &Question) -> String {
             tries: if takes("tries") { q.u32("tries").to_vec() } else { vec![] },
             wide: takes("wide") && q.n("wide") != 0,
             rows32: q.call == Kept32,
-            lines: vec![],
+            ..Body::default()
         };
         return body.to_string();
     }
-    let whole = words.len() / 3 * 3;
+    let whole = words.len() / abi::CHUNK_WORDS * abi::CHUNK_WORDS;
+    let (code, origins) = parted(words);
     // The clearing call has no table but the constants.
     let takes = |name: &str| q.call.takes(name);
     let counted = |count: &str, have: usize| (q.n(count) as usize).min(have);
@@ -385,7 +473,8 @@ pub fn asked(q: &Question) -> String {
     };
     let narrow = |t: Vec<u64>| t.into_iter().map(|w| w as u32).collect();
     Chunk {
-        code: words[..whole].chunks(3).map(|w| [w[0], w[1], w[2]]).collect(),
+        code,
+        origins,
         tail: words[whole..].to_vec(),
         constants: (1..=constants).map(|k| (kinds[k] as u8, values[k])).collect(),
         phi_map: narrow(table("phi_map", "phi_map_count")),
@@ -394,6 +483,6 @@ pub fn asked(q: &Question) -> String {
         call_byte_pos: narrow(table("call_byte_pos", "call_byte_pos_count")),
         tries: if takes("tries") { q.u32("tries").to_vec() } else { vec![] },
         strict: takes("strict") && q.n("strict") != 0,
-        lines: vec![],
+        ..Chunk::default()
     }.to_string()
 }

@@ -1,116 +1,192 @@
-//! The listing as one self-contained page.
+//! The listing as one self-contained page: for a wide screen and a phone, light and dark, on paper and read aloud.
 
-use crate::{body::{self, registers}, chunk, why};
+use crate::{body::{self, Level, registers}, chunk, command::Listed, count, lanes, notation::was, text, whose, why};
 use std::fmt::Write;
 
 pub fn escaped(text: &str) -> String { text.replace('&', "&amp;").replace('<', "&lt;").replace('>', "&gt;").replace('"', "&quot;") }
 
-const STYLE: &str = include_str!("page.css");
+pub const STYLE: &str = include_str!("page.css");
 
-/// The whole page around a table.
-pub fn whole(file: &str, heading: &str, table: &str) -> String {
-    let name = file.rsplit('/').next().unwrap_or(file);
+/// The whole page around what it shows.
+pub fn whole(title: &str, heading: &str, content: &str) -> String {
     format!(
-        "<!doctype html>\n<html lang=\"en\">\n<meta charset=\"utf-8\">\n<meta name=\"viewport\" content=\"width=device-width\">\n<title>{0}</title>\n<style>\n{STYLE}</style>\n<h1>{0}</h1>\n<p class=\"heading\">{1}</p>\n{table}</html>\n",
-        escaped(name), escaped(heading),
+        "<!doctype html>\n<html lang=\"en\">\n<head>\n<meta charset=\"utf-8\">\n<meta name=\"viewport\" content=\"width=device-width, initial-scale=1\">\n\
+        <meta name=\"color-scheme\" content=\"light dark\">\n<title>{0}</title>\n<style>\n{STYLE}</style>\n</head>\n<body>\n<main>\n<h1>{0}</h1>\n\
+        <p class=\"heading\">{1}</p>\n{content}</main>\n<footer>{2}</footer>\n</body>\n</html>\n",
+        escaped(title), escaped(heading), escaped(&whose::line()),
     )
 }
 
-fn remarks(of: &[String]) -> String { of.iter().map(|r| format!("<p>{}</p>\n", escaped(r))).collect() }
+fn name(file: &str) -> &str { file.rsplit('/').next().unwrap_or(file) }
 
-/// The registers of a set as small tags.
-fn tags(set: &[u16], class: &str) -> String { set.iter().map(|r| format!("<span class=\"tag {class}\">r{r}</span>")).collect() }
-
-/// The bands of the tries beside a position.
-fn bands(view: &body::View, k: usize) -> String {
-    let n = view.lines.len() - 1;
-    view.tries.iter().map(|&(s, h)| {
-        let class = match (s, h.min(n)) {
-            (s, h) if s < k && k < h => "band in",
-            (s, h) if s == k && k < h => "band from",
-            (s, h) if h == k && s < k => "band to",
-            _ => "band",
-        };
-        format!("<td class=\"{class}\" title=\"try at {s}, handler at {h}\"></td>")
-    }).collect()
+/// One page of all files: what they are, and each of them.
+pub fn files(listed: &[Listed]) -> String {
+    if let [one] = listed { return whole(name(&one.file), &heading(one), &shown(one)) }
+    let mut content = String::from("<nav aria-label=\"files\">\n<ol>\n");
+    for (k, l) in listed.iter().enumerate() { writeln!(content, "<li><a href=\"#f{k}\">{}</a>: {}</li>", escaped(&l.file), escaped(&heading(l))).unwrap() }
+    content += "</ol>\n</nav>\n";
+    for (k, l) in listed.iter().enumerate() {
+        write!(content, "<section id=\"f{k}\">\n<h2>{}</h2>\n<p class=\"heading\">{}</p>\n{}</section>\n", escaped(&l.file), escaped(&heading(l)),
+            shown(l)).unwrap();
+    }
+    whole(&count(listed.len(), "file"), "Bodies and chunks, each below with all that is known of it.", &content)
 }
 
-/// The most columns of registers; a row of more is told in words.
+fn heading(listed: &Listed) -> String { listed.of.as_ref().map_or("not listed".into(), |of| of.heading().to_string()) }
+
+fn shown(listed: &Listed) -> String {
+    match &listed.of {
+        Ok(of) => of.table(),
+        Err(_) => format!("<p class=\"warning\">{}</p>\n", escaped(listed.trouble().unwrap_or_default())),
+    }
+}
+
+fn paragraphs(class: &str, of: &[String]) -> String { of.iter().map(|r| format!("<p{class}>{}</p>\n", escaped(r))).collect() }
+
+/// The most registers that are drawn; more are told in words. With many registers or lines a row is one line of marks, else a cell for each.
 const WIDEST: usize = 256;
+const CELLS: usize = 12_000;
+const COLUMNS: usize = 40;
+
+/// How the registers of a body are drawn.
+#[derive(Clone, Copy, PartialEq, Eq)]
+enum Chart {
+    Cells,
+    Marks,
+    Words,
+}
 
 pub fn body(view: &body::View) -> String {
-    let drawn = view.columns.len() <= WIDEST;
-    let mut out = format!("<table class=\"body{}\">\n<tr><th></th>", if view.columns.len() > 24 { " many" } else { "" });
-    for _ in &view.tries { out += "<th></th>" }
-    out += "<th class=\"left\">instruction</th><th class=\"left\">uses</th><th class=\"left\">gives up</th>";
-    if drawn { for r in &view.columns { write!(out, "<th class=\"reg\">{r}</th>").unwrap() } } else { out += "<th class=\"left\">row</th>" }
-    out += "<th class=\"left\">level, jumps, handlers</th></tr>\n";
+    let columns = view.columns.len();
+    let chart = if columns > WIDEST { Chart::Words } else if columns <= COLUMNS && columns * view.lines.len() <= CELLS { Chart::Cells } else { Chart::Marks };
+    let lanes = lanes::of(view.lines.len() - 1, &view.tries);
+    let mut out = String::from("<div class=\"chart\" role=\"region\" aria-label=\"the chart\" tabindex=\"0\">\n<table class=\"body\">\n");
+    write!(out, "<caption><span>Instructions with their levels, what each uses and gives up, and the registers needed before \
+        it.</span></caption>\n<thead>\n{}</thead>\n<tbody>\n", head(view, chart, lanes.many())).unwrap();
     for (k, l) in view.lines.iter().enumerate() {
         let class = if l.level.is_some() { " class=\"level\"" } else { "" };
-        write!(out, "<tr{class}><td class=\"at\">{k}</td>{}<td class=\"ins\">{}</td><td>{}</td><td>{}</td>", bands(view, k), escaped(&l.text), tags(&l.used, "used"), tags(&l.given_up, "given")).unwrap();
-        if drawn { for &r in &view.columns { out += &cell(view, k, r) } } else { write!(out, "<td class=\"note\">{}</td>", registers(&l.row)).unwrap() }
-        out += "<td class=\"note\">";
-        if let Some(v) = &l.level {
-            write!(out, "<div>{}</div><div class=\"keeps\">keeps {}</div>", escaped(&v.says()), escaped(&v.keeps())).unwrap();
+        write!(out, "<tr{class}><th scope=\"row\">{k}</th><td class=\"ins\">{}</td>{}", escaped(&l.text), bands(&lanes.gutter(k, false))).unwrap();
+        write!(out, "<td class=\"note\">{}</td><td class=\"set\">{}</td><td class=\"set\">{}</td>", note(view, k, chart), registers(&l.used),
+            registers(&l.given_up)).unwrap();
+        match chart {
+            Chart::Cells => for &r in &view.columns { out += &cell(view, k, r) },
+            Chart::Marks => write!(out, "<td class=\"marks\" aria-hidden=\"true\">{}</td>", marks(view, k)).unwrap(),
+            Chart::Words => write!(out, "<td class=\"set\">{}</td>", if k < view.start { "not looked for".into() } else { registers(&l.row) }).unwrap(),
         }
-        writeln!(out, "{}</td></tr>", escaped(&l.notes.join("; "))).unwrap();
+        out += "</tr>\n";
     }
-    out += "</table>\n";
-    if drawn && !view.columns.is_empty() { out += LEGEND }
-    if drawn && !view.unread.is_empty() { out += UNREAD }
-    out + &remarks(&view.remarks)
+    out += "</tbody>\n</table>\n</div>\n";
+    if chart != Chart::Words && columns > 0 { out += &legend(view, chart) }
+    out + &paragraphs(" class=\"warning\"", &view.warnings()) + &paragraphs("", &view.remarks)
 }
 
-const LEGEND: &str = "<p class=\"legend\"><span class=\"cell row\"></span> in the row: needed before the instruction \
-<span class=\"cell\"><i class=\"used\"></i></span> used <span class=\"cell\"><i class=\"given\"></i></span> given up \
-<span class=\"cell kept\"></span> kept for the resume point <span class=\"cell kept handler\"></span> kept for a handler</p>\n";
+/// The head cells, those of the registers too.
+fn head(view: &body::View, chart: Chart, lanes: usize) -> String {
+    let mut out = String::from("<tr><th scope=\"col\">at</th><th scope=\"col\" class=\"ins\">instruction</th>");
+    for _ in 0..lanes { out += "<th aria-hidden=\"true\"></th>" }
+    out += "<th scope=\"col\">level, jumps, handlers</th><th scope=\"col\">uses</th><th scope=\"col\">gives up</th>";
+    match chart {
+        Chart::Cells => for r in &view.columns { write!(out, "<th scope=\"col\" class=\"reg\" aria-hidden=\"true\">{r}</th>").unwrap() },
+        Chart::Marks => write!(out, "<th scope=\"col\" class=\"marks\" aria-hidden=\"true\">{}</th>", text::numbers(&view.columns).join("\n")).unwrap(),
+        Chart::Words => out += "<th scope=\"col\">needed before it</th>",
+    }
+    out + "</tr>\n"
+}
 
-const UNREAD: &str = "<p class=\"legend\"><span class=\"cell row unread\"></span> needed and never read on that day</p>\n";
+/// The lines of the tries beside a position.
+fn bands(gutter: &str) -> String {
+    let class = |c: char| match c {
+        '┌' => "from",
+        '│' => "in",
+        '└' => "to",
+        _ => "",
+    };
+    gutter.chars().map(|c| format!("<td class=\"band {}\" aria-hidden=\"true\"></td>", class(c))).collect()
+}
+
+/// What is said of a position: its level and what it keeps, its jumps, the writer's comment; and for who hears the page, its row.
+fn note(view: &body::View, k: usize, chart: Chart) -> String {
+    let l = &view.lines[k];
+    let mut out = String::new();
+    if let Some(v) = &l.level { write!(out, "<div>{}</div><div class=\"keeps\">keeps {}</div>", escaped(&v.says()), escaped(&v.keeps())).unwrap() }
+    let warned = |n: &String| n.starts_with("WARNING");
+    let plain: Vec<String> = l.notes.iter().filter(|n| !warned(n)).cloned().collect();
+    out += &escaped(&plain.join("; "));
+    for warning in l.notes.iter().filter(|n| warned(n)) { write!(out, "<div class=\"warning\">{}</div>", escaped(warning)).unwrap() }
+    if !l.comment.is_empty() { write!(out, "<div class=\"comment\"># {}</div>", escaped(&l.comment)).unwrap() }
+    if chart != Chart::Words && k >= view.start && !l.row.is_empty() {
+        let (first, rest) = l.row.split_at(l.row.len().min(12));
+        let more = if rest.is_empty() { String::new() } else { format!(" and {} more", rest.len()) };
+        write!(out, "<span class=\"aloud\"> needs {}{more}</span>", registers(first)).unwrap();
+    }
+    out
+}
+
 /// How many positions are looked at for what a register is needed for.
 const FAR: usize = 1_000;
 
-/// The cell of a register at a position: in the row or not, used, given up, kept.
+fn kept_for(level: Option<&Level>, r: u16) -> Option<Option<usize>> { level?.kept.iter().find(|p| p.registers.contains(&r)).map(|p| p.handler) }
+
+/// The row of a position as a line of marks, with what its level keeps in it.
+fn marks(view: &body::View, k: usize) -> String {
+    let kept = view.lines[k].level.as_ref().map_or(String::new(), |v| text::kept_picture(view, v));
+    let mut kept = kept.chars();
+    text::picture(view, k).chars().map(|row| match kept.next() { Some('·') | None => row, Some(mark) => mark }).collect()
+}
+
+/// The cell of a register at a position: in the row or not, used, given up, kept, each by a mark of its own.
 fn cell(view: &body::View, k: usize, r: u16) -> String {
     let l = &view.lines[k];
-    let (row, used, given) = (l.row.contains(&r), l.used.contains(&r), l.given_up.contains(&r));
-    let part = l.level.iter().flat_map(|v| &v.kept).find(|p| p.registers.contains(&r));
-    let mut class = String::from("cell");
-    let mut says = vec![];
+    let (row, used, given) = (l.row.binary_search(&r).is_ok(), l.used.contains(&r), l.given_up.contains(&r));
+    let (mut class, mut marks, mut says) = (String::from("cell"), String::new(), vec![]);
+    if k < view.start { class += " unknown" }
     if row {
         class += " row";
+        marks += if view.unread.contains(&r) { "○" } else { "●" };
         says.push(why::because(view, k, r, FAR).map_or("needed before it".into(), |path| format!("needed before it: {path}")));
     }
     if row && view.unread.contains(&r) { class += " unread"; says.push("never read on that day".into()) }
-    if used { says.push("used".into()) }
-    if given { says.push("given up".into()) }
-    if let Some(p) = part {
-        class += if p.handler.is_some() { " kept handler" } else { " kept" };
-        says.push(p.handler.map_or("kept".into(), |h| format!("kept for the handler at {h}")));
+    if used { marks += "u"; says.push("used".into()) }
+    if given { marks += "g"; says.push("given up".into()) }
+    if let Some(handler) = kept_for(l.level.as_ref(), r) {
+        class += if handler.is_some() { " kept handler" } else { " kept" };
+        marks += if handler.is_some() { "△" } else { "▲" };
+        says.push(handler.map_or("kept".into(), |h| format!("kept for the handler at {h}")));
     }
     let title = if says.is_empty() { String::new() } else { format!(" title=\"{} at {k}: {}\"", registers(&[r]), says.join(", ")) };
-    let mark = match (used, given) {
-        (true, true) => "<i class=\"used given\"></i>",
-        (true, false) => "<i class=\"used\"></i>",
-        (false, true) => "<i class=\"given\"></i>",
-        _ => "",
-    };
-    format!("<td class=\"{class}\"{title}>{mark}</td>")
+    format!("<td class=\"{class}\" aria-hidden=\"true\"{title}>{marks}</td>")
+}
+
+fn legend(view: &body::View, chart: Chart) -> String {
+    let mut told = vec![("●", "row", "needed before the instruction")];
+    if chart == Chart::Cells { told.extend([("u", "", "used"), ("g", "", "given up")]) }
+    told.extend([("▲", "kept", "kept for the resume point"), ("△", "kept handler", "kept for a handler")]);
+    if !view.unread.is_empty() { told.push(("○", "row unread", "needed and never read on that day")) }
+    if view.start > 0 { told.push(("", "unknown", "not looked for, before the first level")) }
+    let told: String = told.iter().map(|(mark, class, says)| format!("<li><span class=\"cell {class}\" aria-hidden=\"true\">{mark}</span> \
+        {says}</li>\n")).collect();
+    format!("<ul class=\"legend\">\n{told}</ul>\n")
 }
 
 pub fn chunk(view: &chunk::View) -> String {
-    let mut out = String::from("<table class=\"chunk\">\n<tr><th></th><th class=\"left\">before</th>");
-    out += "<th></th><th></th><th class=\"left\">after</th><th></th></tr>\n";
+    let mut out = String::from("<div class=\"chart\" role=\"region\" aria-label=\"the chunk\" tabindex=\"0\">\n<table class=\"chunk\">\n");
+    out += "<caption><span>Instructions before and after folding, and why something was not folded.</span></caption>\n<thead>\n<tr><th scope=\"col\">at</th>";
+    out += "<th scope=\"col\" class=\"ins\">before</th><th aria-hidden=\"true\"></th><th scope=\"col\">now at</th><th scope=\"col\">after</th><th \
+        scope=\"col\">notes</th></tr>\n</thead>\n<tbody>\n";
     let mut colour = 0;
     for (k, l) in view.before.iter().enumerate() {
         if l.result { colour = colour % 5 + 1 }
         let group = if l.result || l.into.is_some() { format!(" class=\"group{colour}\"") } else { String::new() };
-        write!(out, "<tr{group}><td class=\"at\">{k}</td><td class=\"ins{}\">{}</td>", if l.after.is_none() { " dead" } else { "" }, escaped(&l.text)).unwrap();
+        write!(out, "<tr{group}><th scope=\"row\">{k}</th><td class=\"ins{}\">{}</td>", if l.after.is_none() { " dead" } else { "" }, escaped(&l.text))
+            .unwrap();
         match (&l.after, l.into) {
-            (Some((to, text)), _) => write!(out, "<td class=\"arrow\">→</td><td class=\"at\">{to}</td><td class=\"ins\">{}</td>", escaped(text)).unwrap(),
-            (None, Some(to)) => write!(out, "<td class=\"arrow\">↗</td><td></td><td class=\"note\">into {to}</td>").unwrap(),
+            (Some((to, text)), _) => write!(out, "<td class=\"arrow\">→</td><td class=\"at\">{to}</td><td class=\"code\">{}{}</td>", escaped(text), was(l.was, *to)).unwrap(),
+            (None, Some(to)) => write!(out, "<td class=\"arrow\">↗</td><td></td><td class=\"code\">into {to}</td>").unwrap(),
             (None, None) => out += "<td class=\"arrow\">×</td><td></td><td></td>",
         }
-        writeln!(out, "<td class=\"note\">{}</td></tr>", escaped(&l.notes.join("; "))).unwrap();
+        let comment = if l.comment.is_empty() { String::new() } else { format!("<div class=\"comment\"># {}</div>", escaped(&l.comment)) };
+        writeln!(out, "<td class=\"note\">{}{comment}</td></tr>", escaped(&l.notes.join("; "))).unwrap();
     }
-    out + "</table>\n" + &remarks(&view.remarks)
+    let ships = format!("<h2>As it ships, folded and cleared</h2>\n<pre>{}</pre>\n", escaped(&view.ships.to_string()));
+    out + "</tbody>\n</table>\n</div>\n" + &paragraphs("", &view.remarks) + &ships
 }

@@ -15,8 +15,8 @@ fn chunk(c: &notation::Chunk) -> Chunk {
         3 => Constant::Bool(word != 0),
         _ => Constant::Other(word),
     };
-    let instruction = |&[o, marks, operand]: &[u16; 3]| Instruction::unmarked(Op(o), operand).with(marks);
-    let mut chunk = Chunk::new(c.code.iter().map(instruction).collect(), c.constants.iter().map(constant).collect());
+    let instruction = |(&[o, marks, operand], &origin): (&[u16; 3], &u16)| Instruction::unmarked(Op(o), operand).with(marks).was(origin);
+    let mut chunk = Chunk::new(c.code.iter().zip(&c.origins).map(instruction).collect(), c.constants.iter().map(constant).collect());
     chunk.tries = c.tries.chunks_exact(2).map(|t| (t[0], t[1])).collect();
     chunk
 }

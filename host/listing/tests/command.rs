@@ -10,6 +10,16 @@ fn refused(command: &Path, lib: &str) -> String {
     String::from_utf8(out.stderr).unwrap()
 }
 
+/// Help stands in the source, so that no archive is made to read it.
+#[test]
+fn help_needs_no_archive() {
+    let root = Path::new(env!("CARGO_MANIFEST_DIR")).join("../..");
+    for word in ["--help", "-h"] {
+        let out = Command::new(root.join("listing")).arg(word).env("TURNIPLOOM_LIB", "/gone").output().unwrap();
+        assert!(out.status.success() && String::from_utf8(out.stdout).unwrap() == format!("{}\n", listing::options::USE));
+    }
+}
+
 #[test]
 fn one_meaning_of_a_named_archive() {
     let root = Path::new(env!("CARGO_MANIFEST_DIR")).join("../..").canonicalize().unwrap();

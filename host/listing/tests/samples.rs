@@ -16,10 +16,12 @@ fn shown(source: &str) -> (String, String) {
 
 #[test]
 fn every_sample_is_listed() {
-    for name in ["K.txt", "P5.txt", "jacket.txt", "P13.txt", "ships.txt", "handler.txt"] {
+    for name in ["K.txt", "P5.txt", "jacket.txt", "exposed.txt", "P13.txt", "ships.txt", "handler.txt"] {
         let (text, page) = listed(name);
         assert!(!text.contains("BREAK") && page.matches("<tr").count() == page.matches("</tr>").count(), "{name}");
-        for tag in ["table", "td", "span", "div", "p"] { assert_eq!(page.matches(&format!("<{tag}")).count(), page.matches(&format!("</{tag}>")).count(), "{name}: {tag}") }
+        let opened = |tag: &str| page.matches(&format!("<{tag}>")).count() + page.matches(&format!("<{tag} ")).count();
+        for tag in ["table", "thead", "tbody", "th", "td", "span", "div", "p", "ul", "li"] { assert_eq!(opened(tag), page.matches(&format!("</{tag}>"))
+            .count(), "{name}: {tag}") }
     }
 }
 
@@ -28,8 +30,8 @@ fn code_k() {
     let (text, _) = listed("K.txt");
     assert!(text.starts_with(
         "  instruction        uses   gives up  0123
-0 LoadGlobalR a0 b7         r0        ····
-1 LoadGlobalR a1 b9         r1        ····
+0 LoadGlobalR a0 b7         r0
+1 LoadGlobalR a1 b9         r1
 2 CallR a1 x0        r1               ●●··  calls binding 9, resumes at 3, result in r2
     keeps                             ▲···  r0
 3 StoreTopR a2              r2        ●···
@@ -38,7 +40,7 @@ fn code_k() {
 6 end                                 ····
 
 ● needed before the instruction, ▲ kept for the resume point.
-1 full sweep of at most 2, 0 abandoned. Rows are looked for from 2 on, the first level; before it they are empty.
+1 full sweep of at most 2, 0 abandoned. Rows are looked for from 2 on, the first level; before it they are left blank.
 "), "{text}");
 }
 
@@ -64,7 +66,7 @@ fn both_widths() {
 #[test]
 fn p13() {
     let (text, _) = listed("P13.txt");
-    assert!(text.contains("0 LoadConst 0 (2)  →  0 LoadConst 2 (5)  2 + 3 = 5, new constant 2") && text.contains("3 Jump 2           →  1 Jump 1"), "{text}");
+    assert!(text.contains("0 LoadConst 0 (2)  →  0 LoadConst 2 (5)  2 + 3 = 5, new constant 2") && text.contains("3 Jump 2           →  1 Jump 1 was 3"), "{text}");
 }
 
 #[test]
@@ -72,31 +74,100 @@ fn a_handler_in_the_middle_of_a_group() {
     let (text, _) = listed("handler.txt");
     assert!(text.starts_with(
         "  before                after
-0 LoadConst 0 (4)  →  0 LoadConst 4 (20)  4 * 5 = 20, new constant 4
+0 LoadConst 0 (4)  →  0 LoadConst 4 (20)       4 * 5 = 20, new constant 4
 1 LoadConst 1 (5)  ┘
 2 Mul              ┘
-3 PopTop           →  1 PopTop
-4 LoadConst 2 (2)  →  2 LoadConst 2 (2)
-5 LoadConst 3 (3)  →  3 LoadConst 3 (3)   handler of the try at 0
-6 Add              →  4 Add               not folded: the handler of the try at 0 is at 5
-7 Jump 4           →  5 Jump 2            to 4, now 2
+3 PopTop           →  1 PopTop was 3
+4 LoadConst 2 (2)  →  2 LoadConst 2 (2) was 4
+5 LoadConst 3 (3)  →  3 LoadConst 3 (3) was 5  handler of the try at 0
+6 Add              →  4 Add was 6              not folded: the handler of the try at 0 is at 5
+7 Jump 4           →  5 Jump 2 was 7           to 4, now 2
 "), "{text}");
     assert!(text.contains("tries moved: 0 5 to 0 3.\nJumps and handlers that land in what is left: 1 on 2, 1 on 3.\n"), "{text}");
 }
 
-/// In strict mode the landings say why a group stays: a jump, a handler, both, or neither.
+fn chunk_of(text: &str) -> chunk::View {
+    let Ok(Text::Chunk(c)) = read(text) else { panic!("{text}") };
+    chunk::View::of(&c).unwrap()
+}
+
+/// In strict mode the landings say why a group stays: a jump, a handler, both, or neither; and that it has no result is said too.
 #[test]
 fn why_a_group_stays() {
-    let why = |more: &str| {
-        let Ok(Text::Chunk(c)) = read(&format!("chunk; strict; constants 7 2; LoadConst 0; LoadConst 1; Div; {more}")) else { panic!("{more}") };
-        let view = chunk::View::of(&c).unwrap();
+    let why = |operator: &str, more: &str| {
+        let view = chunk_of(&format!("chunk; strict; constants 7 2; LoadConst 0; LoadConst 1; {operator}; {more}"));
         view.before[2].notes.last().unwrap().clone()
     };
-    assert_eq!(why("PopTop"), "not folded: it has no result that is a constant");
-    assert_eq!(why("Jump 0; try 0 0; try 1 3"), "not folded: it has no result that is a constant");
-    assert_eq!(why("Jump 1"), "not folded: the jump at 3 lands on 1");
-    assert_eq!(why("try 1 2"), "not folded: the handler of the try at 1 is at 2");
-    assert_eq!(why("Jump 1; Jump 2; try 0 1"), "not folded: the jump at 3 lands on 1, the jump at 4 lands on 2 and the handler of the try at 0 is at 1");
+    assert_eq!(why("Div", "PopTop"), "not folded: int / int stays");
+    assert_eq!(why("Div", "Jump 0; try 0 0; try 1 3"), "not folded: int / int stays");
+    assert_eq!(why("Add", "Jump 1"), "not folded: the jump at 3 lands on 1");
+    assert_eq!(why("Div", "Jump 1"), "not folded: int / int stays; the jump at 3 lands on 1");
+    assert_eq!(why("Add", "try 1 2"), "not folded: the handler of the try at 1 is at 2");
+    assert_eq!(why("Add", "Jump 1; Jump 2; try 0 1"), "not folded: the jump at 3 lands on 1, the jump at 4 lands on 2 and the handler of the try at 0 is at 1");
+}
+
+/// The true reason of each fold that did not happen.
+#[test]
+fn each_reason_in_its_own_words() {
+    let why = |constants: &str, code: &str| {
+        let view = chunk_of(&format!("chunk; constants {constants}; {code}"));
+        view.before.last().unwrap().notes.last().cloned().unwrap_or_default()
+    };
+    let two = |constants: &str, operator: &str| why(constants, &format!("LoadConst 0; LoadConst 1; {operator}"));
+    for (constants, operator, reason) in [
+        ("7 2", "Div", "int / int stays"), ("7 0", "FloorDiv", "it divides by 0"), ("7 0", "Mod", "it divides by 0"), ("7.5 0", "Div",
+            "it divides by 0"), ("1 -0.0", "Div", "it divides by 0"),
+        ("140737488355327 1", "Add", "140737488355328 is past 48 bits"), ("140737488355328 1", "Add", "constant 0, 140737488355328, is past 48 bits"),
+        ("-140737488355328 -1", "FloorDiv", "140737488355328 is past 48 bits"), ("1 63", "Shl", "it shifts by 63, which is not 0 to 62"), ("1 47",
+            "Shl", "140737488355328 is past 48 bits"),
+        ("1 -1", "Shr", "it shifts by -1, which is not 0 to 62"), ("7.0 2", "FloorDiv", "// and % stay where one is a float"), ("7 2.0", "BitAnd",
+            "bits and shifts are for ints alone"),
+        ("true 2", "Add", "constant 0, true, is no number"), ("2 other", "Add", "constant 1 is neither a number nor a bool"), ("2", "Add",
+            "constant 1 is not there"),
+    ] { assert_eq!(two(constants, operator), format!("not folded: {reason}"), "{constants} {operator}") }
+    assert_eq!(why("2 3", "LoadConst 9; Minus"), "not folded: constant 9 is not there");
+    assert_eq!(why("-140737488355328", "LoadConst 0; Minus"), "not folded: 140737488355328 is past 48 bits");
+    assert_eq!(why("1 2", "LoadConst 0; LoadConst 1; Lt; LoadConst 0; Add"), "not folded: its operand at 0 is no longer a LoadConst");
+    assert_eq!(why("1 2", "LoadConst 0; Add"), "not folded: it takes 2 operands, and one stands before it");
+    assert_eq!(why("1 2", "Jump 2; LoadConst 0; LoadConst 1; Add"), "not folded: the jump at 0 lands on 2");
+    assert_eq!(why("1 2", "LoadName 0; LoadConst 1; Add"), "");
+}
+
+/// Every operator over telling pairs: an operator that stays has a reason that the listing knows, and one that folds is told with its value.
+#[test]
+fn no_reason_is_missing() {
+    let constants = ["0", "1", "-1", "7", "62", "63", "-140737488355328", "140737488355327", "140737488355328", "0.0", "-0.0", "1.5", "inf", "-inf",
+        "nan", "true", "false", "other"];
+    let operators = ["Add", "Sub", "Mul", "Div", "Mod", "FloorDiv", "Eq", "NotEq", "Lt", "Gt", "LtEq", "GtEq", "BitAnd", "BitOr", "BitXor", "Shl", "Shr"];
+    let head = format!("chunk; constants {}", constants.join(" "));
+    for a in 0..constants.len() {
+        for operator in ["Minus", "Not"] { told(&format!("{head}; LoadConst {a}; {operator}")) }
+        for b in 0..=constants.len() { for operator in operators { told(&format!("{head}; LoadConst {a}; LoadConst {b}; {operator}")) } }
+    }
+}
+
+fn told(text: &str) {
+    let view = chunk_of(text);
+    let last = view.before.last().unwrap();
+    if last.after.is_none() { assert!(view.before[0].notes.iter().any(|n| n.contains(" = ")), "{text}") }
+    else { assert!(last.notes.iter().any(|n| n.starts_with("not folded: ") && !n.contains("no reason")), "{text}: {:?}", last.notes) }
+}
+
+#[test]
+fn expressions_are_bracketed() {
+    let note = |text: &str| chunk_of(text).before[0].notes.concat();
+    assert_eq!(note("chunk; constants 2 -3; LoadConst 0; LoadConst 1; Sub"), "2 - (-3) = 5, new constant 2");
+    assert_eq!(note("chunk; constants 2 3; LoadConst 0; LoadConst 1; Add; Minus"), "-(2 + 3) = -5, new constant 3");
+    assert_eq!(note("chunk; constants -0.0 nan; LoadConst 0; Minus; LoadConst 1; Add"), "(-(-0.0)) + nan = nan, constant 1");
+}
+
+/// What ships is shown in the notation, and read again it folds no more.
+#[test]
+fn the_code_as_it_ships() {
+    let text = listed("handler.txt").0;
+    let (_, ships) = text.split_once("\nAs it ships, folded and cleared:\n\n").unwrap();
+    assert_eq!(ships, "chunk\nstrict\nconstants 2 3 20\ntry 0 3\n0 LoadConst 2\n1 PopTop was 3\n2 LoadConst 0 was 4\n3 LoadConst 1 was 5\n4 Add was 6\n5 Jump 2 was 7\n");
+    assert!(shown(ships).0.contains("Nothing folded."));
 }
 
 #[test]
@@ -153,4 +224,91 @@ fn what_is_written_stands_where_it_differs() {
     assert!(line("0 StoreTopR").contains("writes nothing"), "{text}");
     assert!(line("1 ForIterR").contains("writes r2"), "{text}");
     assert!(!line("2 Move").contains("writes"), "{text}");
+}
+
+/// A handler that reads what a level before its try does not keep: named with the positions, in text, page and JSON.
+#[test]
+fn what_a_handler_loses() {
+    let (text, page) = listed("exposed.txt");
+    let warning = "WARNING: the handler at 9 needs r5, which is not kept at the level at 2 before its try at 5.";
+    assert!(text.contains(&format!("\n{warning}\n")) && text.contains("; WARNING: r5 is not kept for the handler at 9  # "), "{text}");
+    assert!(page.contains(&format!("<p class=\"warning\">{warning}</p>")), "{page}");
+    for name in ["K.txt", "P5.txt", "jacket.txt"] { assert!(!listed(name).0.contains("WARNING"), "{name}") }
+    // Kept by a use after the try, or written anew before it: nothing is lost.
+    let body = |four: &str, eight: &str| shown(&format!("registers 6; try 5 9; LoadGlobalR a5 b1; LoadGlobalR a4 b9; CallR a4 b0 x1; StoreTopR a1; \
+        {four}; SetupExcept a9; CallR a4 b1 x1; StoreTopR a2; {eight}; ReturnR b5")).0;
+    assert!(body("LoadGlobalR a4 b9", "ReturnR b2").contains("WARNING"));
+    assert!(!body("LoadGlobalR a4 b9", "ReturnR b5").contains("WARNING"));
+    assert!(!body("LoadGlobalR a5 b9", "ReturnR b2").contains("WARNING"));
+    // By way of a first handler, into a second try.
+    let nested = shown("registers 5; try 1 4; try 4 7; LoadGlobalR a3 b1; CallR a0 x0; StoreTopR a1; ReturnR b1; SetupExcept a7; CallR a0 x0; \
+        StoreTopR a1; ReturnR b3").0;
+    assert!(nested.contains("the handler at 4 needs r3, which is not kept at the level at 1 before its try at 1."), "{nested}");
+    let nested = shown("registers 5; try 0 4; try 5 9; LoadGlobalR a3 b1; CallR a0 x0; StoreTopR a1; ReturnR b1; SetupExcept a9; Move a1 b0; CallR a0 \
+        x0; StoreTopR a1; ReturnR b1; ReturnR b3").0;
+    assert!(nested.contains("the handler at 4 needs r3, which is not kept at the level at 1 inside its try at 0."), "{nested}");
+}
+
+#[test]
+fn a_store_that_is_missing_is_named() {
+    let (text, page) = shown("registers 4; CallR a0 x0; AddR a3 b1 c2; CallR a0 x0");
+    assert!(text.contains("resumes at 1, result in r3; its store is missing, a StoreTopR at 1\n"), "{text}");
+    assert!(text.contains("resumes at 3, no result register; its store is missing, a StoreTopR at 3\n"), "{text}");
+    assert!(page.contains("its store is missing, a StoreTopR at 1"));
+    assert!(!listed("K.txt").0.contains("missing"));
+}
+
+#[test]
+fn levels_that_a_dunder_would_make() {
+    let remark = |text: &str| shown(text).0.lines().find(|l| l.starts_with("No mark `dunder`")).map(str::to_string);
+    assert!(remark("registers 4; AddR a0 b1 c2; Move a0 b1; GetItemR a0 b1 c2; ReturnR b0").unwrap().ends_with("keep registers: 0 AddR and 2 GetItemR."));
+    assert_eq!(remark("registers 4; AddR a0 b1 c2 dunder; GetItemR a0 b1 c2; ReturnR b0"), None);
+    assert_eq!(remark("registers 4; Move a0 b1; CallR a0 x0; StoreTopR a1"), None);
+}
+
+/// Rows before the first level are blank, and so they are on the page.
+#[test]
+fn rows_that_were_not_looked_for() {
+    let (text, page) = listed("K.txt");
+    assert!(text.contains("\n1 LoadGlobalR a1 b9         r1\n2 CallR"), "{text}");
+    assert_eq!(page.matches("class=\"cell unknown\"").count(), 8 + 1, "{page}");
+    let wide = shown(&(source("K.txt") + "\nroute wide")).0;
+    assert!(wide.contains("\n1 LoadGlobalR a1 b9         r1        ●···\n"), "{wide}");
+}
+
+/// Who says what is told.
+#[test]
+fn the_archives_word_and_the_listings() {
+    assert!(listed("K.txt").0.contains("\nBy the archive: rows, lists, levels, callees, jumps, uses and gives up.\nBy the listing's own reckoning: "));
+    assert!(listed("P13.txt").0.contains("By the listing's own reckoning: why something was not folded."));
+}
+
+/// Callees that are asked for in a part of the code are those of the whole code.
+#[test]
+fn callees_near_and_far() {
+    let mut state = 7u64;
+    let mut below = |n: u64| { state = state.wrapping_mul(6_364_136_223_846_793_005).wrapping_add(1_442_695_040_888_963_407); (state >> 33) % n };
+    for _ in 0..60 {
+        let mut text = String::from("registers 4\n");
+        let sparse = below(400) + 2;
+        for _ in 0..3_000 {
+            text += &match below(sparse) {
+                0 => format!("LoadGlobalR a{} b{}\n", below(4), below(9)),
+                1 => format!("PushRegs a{} x1\nCallR a{} x0\nStoreTopR a3\nStoreTopR a{}\n", below(4), below(4), below(4)),
+                2 => "GetIter\n".into(),
+                3 => format!("Call {}\n", below(3)),
+                4 => format!("PushRegs a1 b2 c3 x{}\n", below(4)),
+                5 => format!("CallR a{} x0\n", below(4)),
+                _ => "Move a3 b2\n".into(),
+            };
+        }
+        let Text::Body(b) = read(&text).unwrap() else { panic!("a chunk") };
+        let view = body::View::of(&b).unwrap();
+        for (k, line) in view.lines.iter().enumerate() {
+            let Some(told) = line.level.as_ref().and_then(|v| v.callee.as_ref()) else { continue };
+            let due = if b.code[k].op.is_call() { turniploom::global_of(&b.code, k).unwrap().map(|g| format!("calls binding {g}")) }
+                else { turniploom::stack_callee(&b.code, k, b.code[k].a).unwrap().map(|(p, r)| format!("calls r{r}, pushed at {p}")) };
+            assert_eq!(*told, due.unwrap_or("calls a function not known here".into()), "{k}");
+        }
+    }
 }

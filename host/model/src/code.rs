@@ -1,7 +1,7 @@
 //! What is lent, and the refusals in the order of test.
 
 use super::facts::fact;
-use turniploom::{DUNDER, Ins, JUMP, NAMES, Op, REGISTER, WIDE, op};
+use turniploom::{DUNDER, Ins, JUMP, NAMES, Op, REGISTER, WIDE, abi::CHUNK_WORDS, op};
 
 /// A refusal: its number and what it also returns.
 #[derive(Clone, Copy, Debug, PartialEq, Eq)]
@@ -76,21 +76,23 @@ pub struct Instruction {
     /// Whether it names a constant.
     pub names: bool,
     pub operand: u16,
+    /// Where it stood in the script as first compiled.
+    pub origin: u16,
 }
 
 impl Instruction {
-    pub fn words(&self) -> [u16; 3] { [self.op.0, u16::from(self.jump) * JUMP + u16::from(self.names) * NAMES, self.operand] }
+    pub fn words(&self) -> [u16; CHUNK_WORDS] { [self.op.0, u16::from(self.jump) * JUMP + u16::from(self.names) * NAMES, self.operand, self.origin] }
 }
 
 /// Refusals 1 and 2 of a chunk.
 pub fn chunk(words: &[u16]) -> Checked<Vec<Instruction>> {
-    holds(words.len().is_multiple_of(3) && words.len() / 3 <= 65_535, No(1, words.len() as u64, 0))?;
-    let bad = words.chunks(3).position(|w| Op(w[0]) > LAST || w[1] & !(JUMP | NAMES) != 0 || !marked(&instruction(w)));
+    holds(words.len().is_multiple_of(CHUNK_WORDS) && words.len() / CHUNK_WORDS <= 65_535, No(1, words.len() as u64, 0))?;
+    let bad = words.chunks(CHUNK_WORDS).position(|w| Op(w[0]) > LAST || w[1] & !(JUMP | NAMES) != 0 || !marked(&instruction(w)));
     holds(bad.is_none(), No(2, bad.unwrap_or(0) as u64, 0))?;
-    Ok(words.chunks(3).map(instruction).collect())
+    Ok(words.chunks(CHUNK_WORDS).map(instruction).collect())
 }
 
-fn instruction(w: &[u16]) -> Instruction { Instruction { op: Op(w[0]), jump: w[1] & JUMP != 0, names: w[1] & NAMES != 0, operand: w[2] } }
+fn instruction(w: &[u16]) -> Instruction { Instruction { op: Op(w[0]), jump: w[1] & JUMP != 0, names: w[1] & NAMES != 0, operand: w[2], origin: w[3] } }
 
 /// The rules of the two marks: LoadConst always names a constant; a jump, a Phi and a folding operator never do; the jump mark
 /// is on none of LoadConst, Phi and the folding operators.

@@ -157,9 +157,10 @@ impl Chunk {
         let barred = || self.code.iter().any(lands) || self.tries.iter().any(|t| inside(t[1] as usize));
         let result = folded(self.code[k].op, &operands, nan)?;
         if first > 0 && lands(&self.code[first - 1]) || strict && barred() { return None }
+        let origin = self.code[first].origin;
         self.code[first] = match result {
-            Bool(b) => Instruction { op: if b { op::LoadTrue } else { op::LoadFalse }, jump: false, names: false, operand: 0 },
-            number => Instruction { op: op::LoadConst, jump: false, names: true, operand: self.place(number)? },
+            Bool(b) => Instruction { op: if b { op::LoadTrue } else { op::LoadFalse }, jump: false, names: false, operand: 0, origin },
+            number => Instruction { op: op::LoadConst, jump: false, names: true, operand: self.place(number)?, origin },
         };
         for &p in &places[1..] { dead[p] = true }
         dead[k] = true;

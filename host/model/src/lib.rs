@@ -16,7 +16,7 @@ pub mod walks;
 use question::*;
 use code::{Checked, Instruction, No, Tables};
 use fold::{Chunk, Constant};
-use turniploom::abi::Answer;
+use turniploom::abi::{Answer, CHUNK_WORDS};
 
 /// The reply that document 01 settles.
 pub fn ask(q: &Question) -> Reply {
@@ -234,7 +234,7 @@ fn lent_chunk(q: &Question, lent: &mut Lent, code: Vec<Instruction>) -> Checked<
 /// Writes a folded chunk back: words past a new count, up to the needed length, are 0, except constants.
 pub fn lay_chunk(chunk: &Chunk, lent: &mut Lent, n: usize, sources: usize) {
     let code: Vec<u16> = chunk.code.iter().flat_map(|i| i.words()).collect();
-    lay(lent.u16("code"), &code, 3 * n);
+    lay(lent.u16("code"), &code, CHUNK_WORDS * n);
     for (k, c) in chunk.constants.iter().enumerate() {
         // A constant that was lent stays as it is, also one of a kind that has no word of its own.
         if *c != Constant::Other && k < lent.u8("kinds").len() && k < lent.u64("words").len() { (lent.u8("kinds")[k], lent.u64("words")[k]) = c.stored() }

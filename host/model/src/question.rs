@@ -33,7 +33,7 @@ impl Call {
     pub fn named(name: &str) -> Option<Call> { Call::ALL.iter().copied().find(|c| c.name() == name) }
     /// Whether it takes a chunk, and how many words an instruction then has.
     pub fn of_a_chunk(self) -> bool { matches!(self, Fold | Clear) }
-    pub fn stride(self) -> usize { if self.of_a_chunk() { 3 } else { 6 } }
+    pub fn stride(self) -> usize { if self.of_a_chunk() { abi::CHUNK_WORDS } else { 6 } }
     /// Whether it tells the kept registers of document 01, and how many bits a word of its rows then has.
     pub fn keeps(self) -> bool { matches!(self, Kept | Kept32) }
     pub fn row_bits(self) -> usize { if self == Kept32 { 32 } else { 64 } }
@@ -168,7 +168,7 @@ impl Reply {
         refusal == 0 && match asked.call {
             Kinds => first != 32,
             LoopsAround | Targets => self.lent.buffers[0].numbers()[1..] != asked.lent().buffers[0].numbers()[1..] && self.marked(asked),
-            Fold => first as usize * 3 != asked.u16("code").len(),
+            Fold => first as usize * asked.call.stride() != asked.u16("code").len(),
             Clear => first != asked.n("constants"),
             SaverMake => asked.n("regs") != 0,
             SaverEnter => !asked.u16("list").is_empty(),

@@ -1,7 +1,7 @@
 //! Random chunks: constants, operators over them, jumps among them, Phis, and tables that follow.
 
 use crate::{model::facts::fact, question::*, questions::{self, lend}, rng::Rng};
-use turniploom::{JUMP, NAMES, Op, op::{self, *}};
+use turniploom::{JUMP, NAMES, Op, abi::CHUNK_WORDS, op::{self, *}};
 
 const BINARY: [Op; 17] = [Add, Sub, Mul, Div, Mod, FloorDiv, Eq, NotEq, Lt, Gt, LtEq, GtEq, BitAnd, BitOr, BitXor, Shl, Shr];
 const LEAST: i64 = -140_737_488_355_328;
@@ -75,7 +75,7 @@ pub fn ruled(rng: &mut Rng) -> Question {
     c.kinds.resize(room, 9);
     c.words.resize(room, 9);
     Question::of(Fold, [
-        ("code", Arg::U16(c.code.into_flattened())), ("kinds", Arg::U8(c.kinds)), ("words", Arg::U64(c.words)), ("constants", Arg::N(constants.len() as u64)),
+        ("code", Arg::U16(numbered(&c.code))), ("kinds", Arg::U8(c.kinds)), ("words", Arg::U64(c.words)), ("constants", Arg::N(constants.len() as u64)),
         ("phi_map", Arg::U32(vec![9; n])), ("dead", Arg::U8(vec![9; n])), ("remap", Arg::U32(vec![9; n + 1])), ("tries", Arg::U32(tries)),
         ("landings", Arg::U64(vec![9; n + 1])), ("strict", Arg::N(1)),
     ])
@@ -159,6 +159,17 @@ fn around(code: &[[u16; 3]]) -> Vec<usize> {
     (0..code.len()).filter(|&k| Op(code[k][0]).folds()).flat_map(|k| k.saturating_sub(2)..k + 2).collect()
 }
 
+/// The lent words of this code, with origins that count up from somewhere, or with any.
+fn words(rng: &mut Rng, code: &[[u16; 3]]) -> Vec<u16> {
+    let (from, any) = (rng.word() as u16, rng.once_in(4));
+    code.iter().enumerate().flat_map(|(k, &[o, marks, operand])| [o, marks, operand, if any { rng.word() as u16 } else { from.wrapping_add(k as u16) }]).collect()
+}
+
+/// The lent words of this code, each instruction with its position as origin.
+pub fn numbered(code: &[[u16; 3]]) -> Vec<u16> {
+    code.iter().enumerate().flat_map(|(k, &[o, marks, operand])| [o, marks, operand, k as u16]).collect()
+}
+
 /// A table in a buffer of the needed length, or not quite.
 fn buffer<T: Copy + TryFrom<u64>>(rng: &mut Rng, table: &[T], needed: usize) -> Vec<T> {
     let mut b: Vec<T> = lend(rng, needed.max(table.len()));
@@ -170,7 +181,7 @@ fn buffer<T: Copy + TryFrom<u64>>(rng: &mut Rng, table: &[T], needed: usize) -> 
 /// The question: each table in a buffer with the room it needs, or not quite.
 fn lent(rng: &mut Rng, c: Chunk) -> Question {
     let n = c.code.len();
-    let mut code = c.code.as_flattened().to_vec();
+    let mut code = words(rng, &c.code);
     let counted = |pred: fn(Op) -> bool| c.code.iter().filter(|i| pred(Op(i[0]))).count();
     let room = c.kinds.len().max((c.kinds.len() + counted(Op::folds)).min(65_535));
     let sources = c.phi_sources.len().max(2 * counted(|o| o == op::Phi));
@@ -198,10 +209,10 @@ fn lent(rng: &mut Rng, c: Chunk) -> Question {
 
 /// An instruction whose opcode or marks may break a record rule: often bit 1, missing or set.
 fn damage(rng: &mut Rng, code: &mut [u16]) {
-    let k = rng.below(code.len() / 3);
-    if rng.once_in(2) { return code[3 * k + 1] ^= NAMES }
-    code[3 * k] = rng.pick(&[Op(191), Op(256), Op::OTHER, LoadConst, Phi, Add, Not, Jump]).0;
-    code[3 * k + 1] = rng.pick(&[0, 1, 2, 3, 4, 0x8000]);
+    let k = CHUNK_WORDS * rng.below(code.len() / CHUNK_WORDS);
+    if rng.once_in(2) { return code[k + 1] ^= NAMES }
+    code[k] = rng.pick(&[Op(191), Op(256), Op::OTHER, LoadConst, Phi, Add, Not, Jump]).0;
+    code[k + 1] = rng.pick(&[0, 1, 2, 3, 4, 0x8000]);
 }
 
 /// A question of the clearing call: folded code or not, and a few constants or many.
@@ -221,7 +232,7 @@ pub fn random_clear(rng: &mut Rng) -> Question {
 
 /// The clearing of this code over these constants: the buffers are mostly exactly full, some longer, a few short by one.
 fn clearing(rng: &mut Rng, c: Chunk) -> Question {
-    let (mut code, mut count) = (c.code.as_flattened().to_vec(), c.kinds.len() as u64);
+    let (mut code, mut count) = (words(rng, &c.code), c.kinds.len() as u64);
     let (mut kinds, mut words) = (buffer(rng, &c.kinds, 0), buffer(rng, &c.words, 0));
     match rng.below(40) {
         0 => count += 1,
@@ -276,7 +287,7 @@ pub fn plain_pairs(a: (u8, u64), constants: &[(u8, u64)], take: &mut dyn FnMut(Q
         c.kinds.push(0);
         c.words.push(0);
         take(Question::of(Fold, [
-            ("code", Arg::U16(c.code.into_flattened())), ("kinds", Arg::U8(c.kinds)), ("words", Arg::U64(c.words)), ("constants", Arg::N(count)),
+            ("code", Arg::U16(numbered(&c.code))), ("kinds", Arg::U8(c.kinds)), ("words", Arg::U64(c.words)), ("constants", Arg::N(count)),
             ("phi_map", Arg::U32(vec![0; n])), ("dead", Arg::U8(vec![9; n])), ("remap", Arg::U32(vec![9; n + 1])), ("landings", Arg::U64(vec![9; n + 1])),
         ]))
     });
@@ -287,7 +298,7 @@ fn landed(tries: Vec<u32>, landings: usize, to: u16, strict: bool) -> Question {
     let code = [[LoadNone.0, 0, 0], [LoadConst.0, NAMES, 0], [LoadConst.0, NAMES, 1], [Add.0, 0, 0], [PopTop.0, 0, 0], [Jump.0, JUMP, to]];
     let n = code.len();
     Question::of(Fold, [
-        ("code", Arg::U16(code.as_flattened().to_vec())), ("kinds", Arg::U8(vec![1, 1, 0])), ("words", Arg::U64(vec![2, 3, 0])), ("constants", Arg::N(2)),
+        ("code", Arg::U16(numbered(&code))), ("kinds", Arg::U8(vec![1, 1, 0])), ("words", Arg::U64(vec![2, 3, 0])), ("constants", Arg::N(2)),
         ("phi_map", Arg::U32(vec![9; n])), ("dead", Arg::U8(vec![9; n])), ("remap", Arg::U32(vec![9; n + 1])), ("tries", Arg::U32(tries)),
         ("landings", Arg::U64(vec![9; landings])), ("strict", Arg::N(strict.into())),
     ])

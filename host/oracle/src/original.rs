@@ -3,7 +3,7 @@
 use crate::{model::{self, code::Instruction, facts::fact, fold::{Chunk, Constant}, rows}, question::*};
 use original::{optimizer::constant_fold, parser::{self, EVERY, OpCode, SSAChunk, Value}, vm::{block::open as rust, lower}};
 use std::sync::LazyLock;
-use turniploom::{DUNDER, Ins, JUMP, NAMES, Op, REGISTER, WIDE, op};
+use turniploom::{DUNDER, Ins, JUMP, NAMES, Op, REGISTER, WIDE, abi::CHUNK_WORDS, op};
 
 /// The Rust's opcode for each number but 0.
 static NAMED: LazyLock<Vec<OpCode>> = LazyLock::new(|| {
@@ -153,9 +153,9 @@ fn dunder_ops(words: &[u16]) -> Option<[u64; 4]> {
 
 fn folding(q: &Question, reply: &mut Reply) -> Option<()> {
     let words = q.u16("code");
-    let own = words.chunks(3).all(|w| fact(w[0]).jump == (w[1] & JUMP != 0));
+    let own = words.chunks(CHUNK_WORDS).all(|w| fact(w[0]).jump == (w[1] & JUMP != 0));
     if q.n("strict") != 0 || !own { return None }
-    let n = words.len() / 3;
+    let n = words.len() / CHUNK_WORDS;
     let mut lent = q.lent();
     let mut chunk = ssa_chunk(q, &mut lent);
     let (lent_constants, pairs) = (chunk.constants.len(), chunk.phi_sources.len());
@@ -168,9 +168,12 @@ fn folding(q: &Question, reply: &mut Reply) -> Option<()> {
     let died = chunk.instructions.len() < n;
     let mut folded = plain(&chunk);
     folded.tries = tries.as_chunks().0.to_vec();
-    // The Rust has no marks: a survivor has its own, and what folded to a bool dropped it.
-    let live = (0..n).filter(|&k| remap[k] < remap[k + 1]).map(|k| &words[3 * k..3 * k + 3]);
-    for (i, old) in folded.code.iter_mut().zip(live) { i.names = i.op == op::LoadConst || Op(old[0]) == i.op && old[1] & NAMES != 0 }
+    // The Rust has no marks and no origins: a survivor has its own, and what folded to a bool dropped its mark.
+    let live = (0..n).filter(|&k| remap[k] < remap[k + 1]).map(|k| &words[CHUNK_WORDS * k..][..CHUNK_WORDS]);
+    for (i, old) in folded.code.iter_mut().zip(live) {
+        i.names = i.op == op::LoadConst || Op(old[0]) == i.op && old[1] & NAMES != 0;
+        i.origin = old[3];
+    }
     let a = &mut reply.answer;
     (a.first, a.second, a.third, a.fourth) =
         (folded.code.len() as u64, folded.constants.len() as u64, folded.phi_map.len() as u64, 2 * folded.phi_sources.len() as u64);
@@ -178,7 +181,7 @@ fn folding(q: &Question, reply: &mut Reply) -> Option<()> {
     reply.lent = q.lent();
     for k in 0..n { reply.lent.u8("dead")[k] = u8::from(remap[k] == remap[k + 1]) }
     if died || folded.constants.len() != lent_constants {
-        let phis = words.chunks(3).filter(|w| Op(w[0]) == op::Phi).count();
+        let phis = words.chunks(CHUNK_WORDS).filter(|w| Op(w[0]) == op::Phi).count();
         model::lay_chunk(&folded, &mut reply.lent, n, 2 * pairs.max(phis));
         reply.lent.u32("remap")[..=n].copy_from_slice(&remap);
     }
@@ -198,7 +201,7 @@ pub fn ssa_chunk(q: &Question, lent: &mut Lent) -> SSAChunk {
     };
     let places = |t: &[u32], c: usize| t[..c].chunks(2).map(|p| (p[0], p[1])).collect();
     let mut chunk = SSAChunk::default();
-    chunk.instructions = q.u16("code").chunks(3).map(|w| parser::Instruction { opcode: opcode(w[0], 0), operand: w[2] }).collect();
+    chunk.instructions = q.u16("code").chunks(CHUNK_WORDS).map(|w| parser::Instruction { opcode: opcode(w[0], 0), operand: w[2] }).collect();
     chunk.constants = (0..count("constants")).map(constant).collect();
     chunk.phi_map = lent.u32("phi_map")[..count("phi_map_count")].iter().map(|&p| p as usize).collect();
     chunk.phi_sources = lent.u16("phi_sources")[..count("phi_sources_count")].chunks(2).map(|p| (p[0], p[1])).collect();
@@ -210,7 +213,7 @@ pub fn ssa_chunk(q: &Question, lent: &mut Lent) -> SSAChunk {
 /// The Rust's chunk in the model's form.
 fn plain(chunk: &SSAChunk) -> Chunk {
     Chunk {
-        code: chunk.instructions.iter().map(|i| Instruction { op: number(i.opcode), jump: i.opcode.is_jump(), names: false, operand: i.operand }).collect(),
+        code: chunk.instructions.iter().map(|i| Instruction { op: number(i.opcode), jump: i.opcode.is_jump(), names: false, operand: i.operand, origin: 0 }).collect(),
         constants: chunk.constants.iter().map(|c| match c {
             Value::Int(i) => Constant::Int(*i),
             Value::Float(f) => Constant::Float(f.to_bits()),

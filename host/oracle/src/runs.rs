@@ -4,28 +4,29 @@
 use crate::{chunks, compare::{Ask, described}, model::machine::{End, Rule, Run}, question::*, rng::Rng, shrink::shrink};
 use listing::notation;
 use std::{fmt, thread};
+use turniploom::abi::CHUNK_WORDS;
 
 /// So many steps are run before a run counts as one that does not end.
 const MOST: u64 = 2_000;
 
 /// The chunk that is asked about, or what a call left of it: so many instructions and constants.
 fn rule(code: &[u16], kinds: &[u8], words: &[u64], instructions: usize, constants: usize) -> Rule {
-    let code = code.as_chunks().0[..instructions].to_vec();
+    let code = code.as_chunks::<CHUNK_WORDS>().0[..instructions].iter().map(|&[o, marks, operand, _]| [o, marks, operand]).collect();
     Rule { code, constants: (0..constants).map(|k| (kinds[k], words[k])).collect() }
 }
 
 /// The chunk of a question, if it is as the wish has it, in strict mode.
 fn asked(q: &Question) -> Option<Rule> {
     let (code, constants) = (q.u16("code"), q.n("constants") as usize);
-    let there = code.len() % 3 == 0 && constants <= q.u8("kinds").len().min(q.u64("words").len()) && q.n("strict") != 0;
-    let rule = there.then(|| rule(code, q.u8("kinds"), q.u64("words"), code.len() / 3, constants))?;
+    let there = code.len().is_multiple_of(CHUNK_WORDS) && constants <= q.u8("kinds").len().min(q.u64("words").len()) && q.n("strict") != 0;
+    let rule = there.then(|| rule(code, q.u8("kinds"), q.u64("words"), code.len() / CHUNK_WORDS, constants))?;
     rule.outside().is_none().then_some(rule)
 }
 
 /// Takes what is lent next out of a reply: the code cut at its count.
 fn next(reply: &Reply, instructions: usize) -> (Arg, Arg, Arg) {
     let mut lent = reply.lent.clone();
-    (Arg::U16(lent.u16("code")[..3 * instructions].to_vec()), lent.get("kinds").clone(), lent.get("words").clone())
+    (Arg::U16(lent.u16("code")[..CHUNK_WORDS * instructions].to_vec()), lent.get("kinds").clone(), lent.get("words").clone())
 }
 
 /// What a reply left, as the machine reads it.

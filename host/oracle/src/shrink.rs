@@ -2,7 +2,7 @@
 
 use crate::question::*;
 use listing::notation::{usual, usual_marks};
-use turniploom::{Ins, Op};
+use turniploom::{Ins, Op, abi::CHUNK_WORDS};
 
 /// How many questions a shrinking may ask.
 const TRIALS: usize = 20_000;
@@ -71,12 +71,15 @@ impl Shrink<'_> {
         }
     }
 
-    /// Gives each instruction the marks that it has if none are said.
+    /// Gives each instruction the marks that it has if none are said, and in a chunk its position as origin.
     fn marks(&mut self) {
         if self.best.call.of_a_chunk() {
-            for k in 0..self.best.u16("code").len() / 3 {
+            for (k, at) in (0..self.best.u16("code").len() / CHUNK_WORDS).map(|k| (k, CHUNK_WORDS * k)) {
                 let mut changed = self.best.clone();
-                changed.args[0].u16()[3 * k + 1] = usual_marks(Op(self.best.u16("code")[3 * k]));
+                changed.args[0].u16()[at + 1] = usual_marks(Op(self.best.u16("code")[at]));
+                self.offer(changed);
+                let mut changed = self.best.clone();
+                changed.args[0].u16()[at + 3] = k as u16;
                 self.offer(changed);
             }
             return;
@@ -92,10 +95,10 @@ impl Shrink<'_> {
     /// Makes each number of the call, and each word of a slice that is not long, as small as it goes.
     fn numbers(&mut self) {
         for k in 0..self.best.args.len() {
-            // Opcodes stay as they are, and so do marks.
+            // Opcodes stay as they are, and so do marks and origins.
             let stride = (self.best.call.params()[k].name == "code").then_some(self.best.call.stride());
             let length = self.best.args[k].numbers().len() - usize::from(!matches!(self.best.args[k], Arg::N(_)));
-            for w in (0..length.min(1_000)).filter(|w| stride.is_none_or(|s| w % s > 1)) {
+            for w in (0..length.min(1_000)).filter(|w| stride.is_none_or(|s| w % s > 1 && (s, w % s) != (CHUNK_WORDS, 3))) {
                 loop {
                     let now = word(&mut self.best.clone().args[k], w, None);
                     let smaller = [0, now / 2, now.saturating_sub(1)].into_iter().filter(|&v| v < now);

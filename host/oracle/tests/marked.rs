@@ -1,8 +1,8 @@
 //! The marked examples of document 01: the model has them, and so has the Rust but for the listed difference of P4. P1 to P6 keep the same
 //! with rows of 32 bits.
 
-use oracle::{model::{self, rows}, original, port, question::*, widths};
-use turniploom::{Ins, NAMES, Op, abi, op};
+use oracle::{chunks::numbered, model::{self, rows}, original, port, question::*, widths};
+use turniploom::{Ins, NAMES, Op, abi::{self, CHUNK_WORDS}, op};
 
 fn i(op: Op, a: u16, b: u16, c: u16, x: u16) -> Ins { Ins { op, marks: 0, a, b, c, x } }
 
@@ -103,9 +103,10 @@ fn fold(code: &[[u16; 3]], pool: &[(u8, u64)], strict: bool) -> (Vec<[u16; 3]>, 
     (code, pool)
 }
 
-/// A folded chunk: its instructions and its pool, its tries, and all n + 1 landings.
+/// A folded chunk: its instructions and their origins, its pool, its tries, and all n + 1 landings.
 struct Folded {
     code: Vec<[u16; 3]>,
+    origins: Vec<u16>,
     pool: Vec<(u8, u64)>,
     tries: Vec<u32>,
     landings: Vec<u64>,
@@ -116,15 +117,16 @@ fn fold_with(tries: &[u32], code: &[[u16; 3]], pool: &[(u8, u64)], strict: bool)
     let room = |mut v: Vec<u64>| { v.resize(pool.len() + n, 0); v };
     let kinds = room(pool.iter().map(|c| c.0.into()).collect()).iter().map(|&k| k as u8).collect();
     let mut r = agreed(&Question::of(Fold, [
-        ("code", Arg::U16(code.as_flattened().to_vec())), ("kinds", Arg::U8(kinds)), ("words", Arg::U64(room(pool.iter().map(|c| c.1).collect()))),
+        ("code", Arg::U16(numbered(code))), ("kinds", Arg::U8(kinds)), ("words", Arg::U64(room(pool.iter().map(|c| c.1).collect()))),
         ("constants", Arg::N(pool.len() as u64)), ("phi_map", Arg::U32(vec![0; n])), ("phi_sources", Arg::U16(vec![0; 2 * n])),
         ("dead", Arg::U8(vec![9; n])), ("remap", Arg::U32(vec![9; n + 1])), ("tries", Arg::U32(tries.to_vec())),
         ("landings", Arg::U64(vec![9; n + 1])), ("strict", Arg::N(strict.into())),
     ]));
     assert_eq!(r.answer.refusal, 0);
-    let code = r.lent.u16("code")[..3 * r.answer.first as usize].chunks(3).map(|w| [w[0], w[1], w[2]]).collect();
+    let (left, _) = r.lent.u16("code")[..CHUNK_WORDS * r.answer.first as usize].as_chunks();
+    let (code, origins) = left.iter().map(|&[o, marks, operand, origin]| ([o, marks, operand], origin)).unzip();
     let pool = (0..r.answer.second as usize).map(|k| (r.lent.u8("kinds")[k], r.lent.u64("words")[k])).collect();
-    Folded { code, pool, tries: r.lent.u32("tries").clone(), landings: r.lent.u64("landings").clone() }
+    Folded { code, origins, pool, tries: r.lent.u32("tries").clone(), landings: r.lent.u64("landings").clone() }
 }
 
 fn int(i: i64) -> (u8, u64) { (1, i as u64) }
@@ -200,10 +202,19 @@ fn landings_are_counted() {
     assert_eq!(fold_with(&[0, 0, 0, 0, 0, 1], &[], &[], true).landings, [2]);
 }
 
+/// Document 02, wish 8: survivors keep their origins, in order; what folded has its first operand's.
+#[test]
+fn origins_are_carried() {
+    let code = [[op::Jump.0, 1, 1], [op::LoadConst.0, NAMES, 0], [op::LoadConst.0, NAMES, 1], [op::Add.0, 0, 0], [op::PopTop.0, 0, 0], [op::Jump.0, 1, 3]];
+    let pool = [int(2), int(3)];
+    assert_eq!(fold_with(&[], &code, &pool, false).origins, [0, 1, 4, 5]);
+    assert_eq!(fold_with(&[], &code, &pool, true).origins, [0, 1, 2, 3, 4, 5]);
+}
+
 /// Tries are tested after the code and before the tables, the table of landings last; a refusal leaves both as they were lent.
 #[test]
 fn refusals_of_tries_and_landings() {
-    let code = [op::LoadConst.0, NAMES, 0, op::Minus.0, 0, 0];
+    let code = [op::LoadConst.0, NAMES, 0, 7, op::Minus.0, 0, 0, 8];
     let asked = |code: &[u16], tries: &[u32], kind: u8, remap: usize, landings: usize| {
         let q = Question::of(Fold, [
             ("code", Arg::U16(code.to_vec())), ("kinds", Arg::U8(vec![kind, 0])), ("words", Arg::U64(vec![2, 0])), ("constants", Arg::N(1)),
@@ -215,7 +226,7 @@ fn refusals_of_tries_and_landings() {
         let [refusal, first, second, ..] = r.values();
         (refusal, first, second)
     };
-    assert_eq!(asked(&[191, 0, 0, 2, 2, 0], &[3, 2], 4, 0, 0), (2, 0, 0));
+    assert_eq!(asked(&[191, 0, 0, 0, 2, 2, 0, 0], &[3, 2], 4, 0, 0), (2, 0, 0));
     assert_eq!(asked(&code, &[0, 1, 2, 1, 9, 9], 4, 0, 0), (4, 1, 0));
     assert_eq!(asked(&code, &[0, 1, 2, 9, 3], 4, 0, 0), (4, 2, 0));
     assert_eq!(asked(&code, &[0, 1, 3, 9], 1, 3, 3), (4, 1, 0));

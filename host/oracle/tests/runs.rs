@@ -24,14 +24,15 @@ fn over_landings(q: &Question) -> Reply {
 
 /// A fold that takes the operands of Sub in the other order.
 fn other_order(q: &Question) -> Reply {
-    use turniploom::op::{LoadConst, Sub};
+    use turniploom::{abi::CHUNK_WORDS, op::{LoadConst, Sub}};
     let mut code = q.u16("code").to_vec();
-    let loads = |k: usize, code: &[u16]| code[3 * k] == LoadConst.0;
-    for k in 2..if q.call == Fold { code.len() / 3 } else { 0 } {
-        if code[3 * k] == Sub.0 && loads(k - 1, &code) && loads(k - 2, &code) { code.swap(3 * k - 1, 3 * k - 4) }
+    let at = |k: usize, word: usize| CHUNK_WORDS * k + word;
+    let loads = |k: usize, code: &[u16]| code[at(k, 0)] == LoadConst.0;
+    for k in 2..if q.call == Fold { code.len() / CHUNK_WORDS } else { 0 } {
+        if code[at(k, 0)] == Sub.0 && loads(k - 1, &code) && loads(k - 2, &code) { code.swap(at(k - 1, 2), at(k - 2, 2)) }
     }
     let reply = port::ask(&changed(q, "code", Arg::U16(code)));
-    if q.call == Fold && reply.answer.first as usize == q.u16("code").len() / 3 { port::ask(q) } else { reply }
+    if q.call == Fold && reply.answer.first as usize == q.u16("code").len() / CHUNK_WORDS { port::ask(q) } else { reply }
 }
 
 /// A clearing that moves the constants and leaves the loads as they were.

@@ -2,7 +2,7 @@
 
 use listing::notation::asked;
 use oracle::{question::*, questions, rng::Rng, shrink::shrink};
-use turniploom::{Op, op};
+use turniploom::{Op, abi::CHUNK_WORDS, op};
 
 /// A made-up fault: some JumpIfFalseR tests a register past 2, and there is room for a list.
 fn fails(q: &Question) -> bool {
@@ -26,8 +26,8 @@ fn to_one_instruction_and_small_numbers() {
 
 #[test]
 fn a_chunk_with_its_phi_map() {
-    let full = |q: &Question| q.n("phi_map_count") == q.u16("code").len() as u64 / 3 && q.u32("phi_map").len() as u64 >= q.n("phi_map_count");
-    let fails = |q: &Question| q.u16("code").chunks(3).any(|w| Op(w[0]) == op::Phi) && full(q);
+    let full = |q: &Question| q.n("phi_map_count") == q.u16("code").len() as u64 / CHUNK_WORDS as u64 && q.u32("phi_map").len() as u64 >= q.n("phi_map_count");
+    let fails = |q: &Question| q.u16("code").chunks(CHUNK_WORDS).any(|w| Op(w[0]) == op::Phi) && full(q);
     let mut rng = Rng::new(4, 0);
     let q = std::iter::repeat_with(|| questions::random(&mut rng, Fold)).find(|q| fails(q)).unwrap();
     assert_eq!(asked(&shrink(&q, &fails)), "chunk\nphi_map 0\n0 Phi 0\n");

@@ -30,6 +30,9 @@ pub const fn row_words(regs: usize) -> usize { if regs == 0 { 1 } else { regs.di
 /// The words of a row of 32 bits each, which [`kept32`] writes: `max(1, registers / 32 rounded up)`.
 pub const fn row_words32(regs: usize) -> usize { if regs == 0 { 1 } else { regs.div_ceil(32) } }
 
+/// The words of an instruction of a chunk: opcode, marks, operand, origin.
+pub const CHUNK_WORDS: usize = 4;
+
 /// The words of a slice of instructions, six each.
 pub fn words(code: &[Ins]) -> &[u16] {
     // SAFETY: `Ins` is `repr(C)` and six `u16`, so it has their size and alignment and no padding.
@@ -38,6 +41,7 @@ pub fn words(code: &[Ins]) -> &[u16] {
 
 /// An exported call.
 #[derive(Clone, Copy, Debug)]
+#[non_exhaustive]
 pub struct Call {
     /// Its name; the archive has it as `turniploom_NAME`.
     pub name: &'static str,
@@ -53,6 +57,7 @@ pub struct Call {
 
 /// A parameter.
 #[derive(Clone, Copy, Debug, PartialEq, Eq)]
+#[non_exhaustive]
 pub struct Param {
     /// Its name.
     pub name: &'static str,

@@ -1,9 +1,9 @@
 //! The call of optimizer.rs over a plain chunk, as near the Rust's as a refusal allows, and the clearing of its constants.
 
-use crate::{Op, Refusal, op::LoadConst};
+use crate::{Op, Refusal, abi::CHUNK_WORDS, op::LoadConst};
 use alloc::{vec, vec::Vec};
 
-/// An instruction of a chunk with its marks: three words.
+/// An instruction of a chunk with its marks and its origin: four words.
 #[derive(Clone, Copy, Debug, Default, PartialEq, Eq, Hash)]
 #[non_exhaustive]
 pub struct Instruction {
@@ -13,23 +13,29 @@ pub struct Instruction {
     pub marks: u16,
     /// The operand.
     pub operand: u16,
+    /// The position in the script as it was first compiled, or none: it is then the position at which it is lent. Folding and clearing carry it
+    /// along, and what folded stands where its first operand stood.
+    pub origin: Option<u16>,
 }
 
 impl Instruction {
     /// An instruction marked by its opcode: a jump's operand is a position, and a LoadConst's names a constant.
     pub const fn new(opcode: Op, operand: u16) -> Instruction {
         let marks = if opcode.is_jump() { JUMP } else if opcode.0 == LoadConst.0 { NAMES } else { 0 };
-        Instruction { opcode, marks, operand }
+        Instruction { opcode, marks, operand, origin: None }
     }
 
     /// An instruction whose operand names a constant, as the host knows of an opcode that is no LoadConst.
-    pub const fn naming(opcode: Op, operand: u16) -> Instruction { Instruction { opcode, marks: NAMES, operand } }
+    pub const fn naming(opcode: Op, operand: u16) -> Instruction { Instruction { opcode, marks: NAMES, operand, origin: None } }
 
     /// An instruction that has no mark. A jump without its mark keeps its old target when the code shrinks.
-    pub const fn unmarked(opcode: Op, operand: u16) -> Instruction { Instruction { opcode, marks: 0, operand } }
+    pub const fn unmarked(opcode: Op, operand: u16) -> Instruction { Instruction { opcode, marks: 0, operand, origin: None } }
 
     /// The same instruction with more marks.
     pub const fn with(self, marks: u16) -> Instruction { Instruction { marks: self.marks | marks, ..self } }
+
+    /// The same instruction with that origin.
+    pub const fn was(self, origin: u16) -> Instruction { Instruction { origin: Some(origin), ..self } }
 }
 
 /// The mark of a chunk's instruction whose operand is a position.
@@ -72,8 +78,11 @@ pub struct Chunk {
 }
 
 impl Chunk {
-    /// A chunk of instructions and constants, with no other table.
-    pub fn new(instructions: Vec<Instruction>, constants: Vec<Constant>) -> Chunk { Chunk { instructions, constants, ..Chunk::default() } }
+    /// A chunk of instructions and constants, with no other table. An instruction without an origin gets its position.
+    pub fn new(mut instructions: Vec<Instruction>, constants: Vec<Constant>) -> Chunk {
+        for (k, i) in instructions.iter_mut().enumerate() { i.origin = Some(origin(k, i)) }
+        Chunk { instructions, constants, ..Chunk::default() }
+    }
 }
 
 /// Folds the constants of a chunk, drops the Phis that do nothing, and moves all that names a position. In strict mode
@@ -81,7 +90,7 @@ impl Chunk {
 ///
 /// Answers how many jumps and handlers land on each position that is left, and on the end.
 ///
-/// P13 of document 01: 2 + 3 folds, and the jump follows; in strict mode the jump keeps it from folding.
+/// P13 of document 01: 2 + 3 folds, and the jump follows, which was 3 before; in strict mode the jump keeps it from folding.
 ///
 /// ```
 /// use turniploom::{Chunk, Constant::Int, Instruction, constant_fold, op::*};
@@ -94,7 +103,7 @@ impl Chunk {
 /// let mut plain = p13;
 /// constant_fold(&mut plain, false)?;
 /// assert_eq!(plain.constants, [Int(2), Int(3), Int(5)]);
-/// assert_eq!(plain.instructions, [Instruction::new(LoadConst, 2), Instruction::new(Jump, 1)]);
+/// assert_eq!(plain.instructions, [Instruction::new(LoadConst, 2).was(0), Instruction::new(Jump, 1).was(3)]);
 /// # Ok::<(), turniploom::Refusal>(())
 /// ```
 ///
@@ -182,15 +191,18 @@ pub fn clear(chunk: &mut Chunk) -> Result<(), Refusal> {
     Ok(())
 }
 
+/// What is lent as the origin of the instruction at `k`.
+fn origin(k: usize, i: &Instruction) -> u16 { i.origin.unwrap_or(k as u16) }
+
 /// The lent words of a chunk. A LoadConst names a constant, whether it is marked so or not.
 fn words_of(chunk: &Chunk) -> Vec<u16> {
     let marks = |i: &Instruction| if i.opcode == LoadConst { i.marks | NAMES } else { i.marks };
-    chunk.instructions.iter().flat_map(|i| [i.opcode.0, marks(i), i.operand]).collect()
+    chunk.instructions.iter().enumerate().flat_map(|(k, i)| [i.opcode.0, marks(i), i.operand, origin(k, i)]).collect()
 }
 
 /// The first `n` instructions of lent words.
 fn instructions(code: &[u16], n: usize) -> Vec<Instruction> {
-    code.chunks(3).take(n).map(|w| Instruction { opcode: Op(w[0]), marks: w[1], operand: w[2] }).collect()
+    code.chunks(CHUNK_WORDS).take(n).map(|w| Instruction { opcode: Op(w[0]), marks: w[1], operand: w[2], origin: Some(w[3]) }).collect()
 }
 
 fn stored(constant: Constant) -> (u8, u64) {

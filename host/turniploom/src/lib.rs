@@ -31,6 +31,7 @@ mod refusal;
 mod saver;
 #[cfg(feature = "std")]
 mod trace;
+mod whose;
 
 pub use calls::*;
 pub use chunk::*;
@@ -41,5 +42,6 @@ pub use level::{Level, level};
 pub use op::Op;
 pub use refusal::Refusal;
 pub use saver::Saver;
+pub use whose::{ARCHIVE_SHA256, KIT, VERSION};
 #[cfg(feature = "std")]
 pub use trace::{Recorder, Unread, replay_from};

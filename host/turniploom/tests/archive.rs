@@ -157,6 +157,26 @@ fn a_host_that_saves_frames() {
     assert_eq!(printed(&folder, Some(ARCHIVE)), include_str!("examples/jacket.txt"));
 }
 
+/// Where wishes add, a host must leave room: it can't match on all that is there today, nor build it by its fields. It takes the crate without `std` here,
+/// on core and alloc alone.
+#[test]
+fn a_host_that_leaves_no_room_is_not_built() {
+    let folder = folder("closed");
+    let main = include_str!("closed/host.rs");
+    host(&folder, "closed", here(), main);
+    let manifest = fs::read_to_string(folder.join("Cargo.toml")).unwrap().replace(" }", ", default-features = false }");
+    fs::write(folder.join("Cargo.toml"), manifest).unwrap();
+    let out = cargo(&folder, &folder, &["check", "--message-format", "short"], Some(ARCHIVE));
+    let says = String::from_utf8(out.stderr).unwrap();
+    // A line `src/main.rs:7:24: error[E0004]: ..` for each that is due.
+    let told = says.lines().filter_map(|l| {
+        let (line, rest) = l.strip_prefix("src/main.rs:")?.split_once(':')?;
+        Some((line.parse::<usize>().ok()?, rest.split_once("error[")?.1[..5].to_string()))
+    });
+    let due = main.lines().enumerate().filter_map(|(k, l)| Some((k + 1, l.split_once(" //= ")?.1.to_string())));
+    assert_eq!(told.collect::<std::collections::BTreeSet<_>>(), due.collect(), "{says}");
+}
+
 /// By a copy that holds its own archive, with nothing of this repository at hand.
 #[test]
 fn a_host_with_a_copy_of_the_crate() {

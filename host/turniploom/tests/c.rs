@@ -52,7 +52,7 @@ fn a_host_in_c() {
 #[test]
 fn the_sample_in_c() {
     let said = built("c", &["-std=c11"], "../../samples/host.c");
-    let due = "turniploom 0.1.0: 2 kept, in 1 full sweeps\n0 keeps r9\n3 keeps r7\n\
+    let due = "turniploom 0.2.0: 2 kept, in 1 full sweeps\n0 keeps r9\n3 keeps r7\n\
         0 goes on at 2 with r6 7\nr9 is 109 again\n\
         refused (3): there are more than 1,024 registers, or more than 64 in a saver, 2000 of them\n";
     if let Some(said) = said { assert_eq!(said, due) } else { println!("skipped: there is no gcc") }

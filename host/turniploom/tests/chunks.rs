@@ -19,7 +19,7 @@ fn operands_that_all_folded_away_ship_one_constant() {
     assert_eq!(chunk.constants, [Int(2), Int(3), Int(5), Int(10), Int(-10)]);
     clear(&mut chunk).unwrap();
     assert_eq!(chunk.constants, [Int(-10)]);
-    assert_eq!(chunk.instructions, [load(0), i(Jump, 1).with(JUMP)]);
+    assert_eq!(chunk.instructions, [load(0).was(0), i(Jump, 1).with(JUMP).was(6)]);
     let once = chunk.clone();
     clear(&mut chunk).unwrap();
     assert_eq!(chunk, once);
@@ -29,7 +29,7 @@ fn operands_that_all_folded_away_ship_one_constant() {
 fn a_result_bool_ships_none() {
     let mut chunk = Chunk::new(vec![i(LoadConst, 0), i(LoadConst, 1), i(Lt, 0)], vec![Int(2), Int(3)]);
     constant_fold(&mut chunk, true).unwrap();
-    assert_eq!(chunk.instructions, [i(LoadTrue, 0)]);
+    assert_eq!(chunk.instructions, [i(LoadTrue, 0).was(0)]);
     clear(&mut chunk).unwrap();
     assert_eq!(chunk.constants, []);
 }
@@ -41,7 +41,7 @@ fn tries_follow_and_landings_are_told() {
     chunk.tries = vec![(1, 4), (3, 7), (7, u32::MAX)];
     let mut plain = chunk.clone();
     assert_eq!(constant_fold(&mut chunk, true), Ok(vec![0, 0, 1, 0, 1, 1]));
-    assert_eq!(chunk.instructions, [load(2), load(0), i(Mul, 0), i(Minus, 0), i(Jump, 4).with(JUMP)]);
+    assert_eq!(chunk.instructions, [load(2).was(0), load(0).was(3), i(Mul, 0).was(4), i(Minus, 0).was(5), i(Jump, 4).with(JUMP).was(6)]);
     assert_eq!(chunk.tries, [(1, 2), (1, 5), (5, u32::MAX)]);
     assert_eq!(constant_fold(&mut plain, false), Ok(vec![0, 2, 1]));
     assert_eq!((plain.instructions.len(), plain.tries), (2, vec![(1, 1), (1, 2), (2, u32::MAX)]));
@@ -76,7 +76,29 @@ fn in_their_order_and_past_the_count() {
     let mut chunk = Chunk::new(vec![i(LoadConst, 4), name, i(LoadConst, 9), i(LoadAttr, 2)], vec![Int(0), Float(1.5), Other(7), Bool(true), Int(4)]);
     clear(&mut chunk).unwrap();
     assert_eq!(chunk.constants, [Bool(true), Int(4)]);
-    assert_eq!(chunk.instructions, [load(1), Instruction::naming(LoadName, 0), load(9), i(LoadAttr, 2)]);
+    assert_eq!(chunk.instructions, [load(1).was(0), Instruction::naming(LoadName, 0).was(1), load(9).was(2), i(LoadAttr, 2).was(3)]);
+}
+
+/// Document 02, wish 8: what is left has the origins that it had, in order, through fold, clear, fold; the host's own, or its positions.
+#[test]
+fn origins_are_carried() {
+    let origins = |chunk: &Chunk| chunk.instructions.iter().map(|i| i.origin).collect::<Vec<_>>();
+    let mut chunk = Chunk::new(vec![i(PopTop, 0), i(LoadConst, 0), i(LoadConst, 1), i(Add, 0), i(PopTop, 0), i(LoadConst, 0), i(Minus, 0), i(PopTop, 0)], vec![Int(2), Int(3)]);
+    let mut own = chunk.clone();
+    for (k, i) in own.instructions.iter_mut().enumerate() { i.origin = (k % 2 == 1).then_some(900 - k as u16) }
+    chunk.tries = vec![(0, 3)];
+    constant_fold(&mut chunk, true).unwrap();
+    assert_eq!(origins(&chunk), [0, 1, 2, 3, 4, 5, 7].map(Some));
+    clear(&mut chunk).unwrap();
+    chunk.tries = vec![];
+    constant_fold(&mut chunk, true).unwrap();
+    assert_eq!(origins(&chunk), [0, 1, 4, 5, 7].map(Some));
+    // An instruction that the host adds without one has the position at which it is lent.
+    constant_fold(&mut own, true).unwrap();
+    assert_eq!(origins(&own), [0, 899, 4, 895, 893].map(Some));
+    own.instructions.push(i(PopTop, 0));
+    clear(&mut own).unwrap();
+    assert_eq!(origins(&own), [0, 899, 4, 895, 893, 5].map(Some));
 }
 
 #[test]

@@ -63,25 +63,25 @@ fn no_call_allocates() {
 
 #[test]
 fn folding_allocates_nothing() {
-    let mut code = [LoadConst.0, 2, 0, LoadConst.0, 2, 1, Add.0, 0, 0, Jump.0, 1, 2];
+    let mut code = [LoadConst.0, 2, 0, 7, LoadConst.0, 2, 1, 8, Add.0, 0, 0, 9, Jump.0, 1, 2, 10];
     let (mut kinds, mut words, mut dead, mut remap, mut tries, mut landings) = ([1, 1, 0], [2, 3, 0], [9; 4], [9; 5], [0, 3], [9; 6]);
     let before = ALLOCATED.get();
     let a = abi::fold(
         &mut code, &mut kinds, &mut words, 2, &mut [0; 4], 0, &mut [], 0, &mut [], 0, &mut [], 0, &mut dead, &mut remap, &mut tries, &mut landings, false,
     );
     assert_eq!(ALLOCATED.get(), before);
-    assert_eq!((a.refusal, a.first, a.second, code), (0, 2, 3, [LoadConst.0, 2, 2, Jump.0, 1, 1, 0, 0, 0, 0, 0, 0]));
+    assert_eq!((a.refusal, a.first, a.second, code), (0, 2, 3, [LoadConst.0, 2, 2, 7, Jump.0, 1, 1, 10, 0, 0, 0, 0, 0, 0, 0, 0]));
     assert_eq!((kinds, words, dead, remap), ([1, 1, 1], [2, 3, 5], [0, 1, 1, 0], [0, 1, 1, 1, 2]));
     assert_eq!((tries, landings), ([0, 1], [0, 2, 0, 0, 0, 9]));
 }
 
 #[test]
 fn clearing_allocates_nothing() {
-    let mut code = [LoadConst.0, 2, 2, Jump.0, 1, 1, LoadConst.0, 2, 3];
+    let mut code = [LoadConst.0, 2, 2, 7, Jump.0, 1, 1, 8, LoadConst.0, 2, 3, 9];
     let (mut kinds, mut words, mut scratch) = ([1, 1, 1, 9], [2, 3, 5, 9], [9; 4]);
     let before = ALLOCATED.get();
     let a = abi::clear(&mut code, &mut kinds, &mut words, 3, &mut scratch);
     assert_eq!(ALLOCATED.get(), before);
-    assert_eq!((a.refusal, a.first, code), (0, 1, [LoadConst.0, 2, 0, Jump.0, 1, 1, LoadConst.0, 2, 3]));
+    assert_eq!((a.refusal, a.first, code), (0, 1, [LoadConst.0, 2, 0, 7, Jump.0, 1, 1, 8, LoadConst.0, 2, 3, 9]));
     assert_eq!((kinds, words, scratch), ([1, 0, 0, 9], [5, 0, 0, 9], [0, 0, 0, 9]));
 }

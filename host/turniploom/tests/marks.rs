@@ -62,7 +62,7 @@ fn instructions_of_a_chunk() {
 #[test]
 fn instructions_are_shown_by_name() {
     assert_eq!(format!("{:?}", marked(&CALLED, none)[0]), "CallR a5 b0 c1 x5 wide register");
-    assert_eq!(format!("{:?}", Instruction::new(LoadConst, 3)), "Instruction { opcode: LoadConst, marks: 2, operand: 3 }");
+    assert_eq!(format!("{:?}", Instruction::new(LoadConst, 3)), "Instruction { opcode: LoadConst, marks: 2, operand: 3, origin: None }");
     assert_eq!(format!("{:?} {:?} {}", Op(191), Op::OTHER, AddR), "Op191 Other AddR");
 }
 

@@ -117,7 +117,7 @@ impl Stacks {
 
     /// A chunk folded and cleared.
     fn chunk(&mut self, code: &[u16], kinds: &[u8], words: &[u64], sources: &[u16], strict: bool) {
-        let (n, count) = (code.len() / 3, kinds.len());
+        let (n, count) = (code.len() / abi::CHUNK_WORDS, kinds.len());
         let (mut code, mut kinds, mut words) = (code.to_vec(), [kinds, &vec![0; n]].concat(), [words, &vec![0; n]].concat());
         let (mut map, mut pairs) = ((0..n as u32).map(|k| k % 5).collect::<Vec<_>>(), [sources, &vec![0; 2 * n]].concat());
         let (mut stmts, mut calls, mut dead, mut remap) = ([0, 7, 3, 9], [1, 2], vec![9; n], vec![9; n + 1]);
@@ -128,7 +128,7 @@ impl Stacks {
         ));
         assert_eq!(a.refusal, 0);
         let mut scratch = vec![9; a.second as usize];
-        let left = &mut code[..3 * a.first as usize];
+        let left = &mut code[..abi::CHUNK_WORDS * a.first as usize];
         assert_eq!(self.make("clear", || abi::clear(left, &mut kinds, &mut words, a.second as usize, &mut scratch)).refusal, 0);
     }
 }
@@ -162,11 +162,11 @@ impl Dice {
     /// The code of a chunk that no record rule refuses.
     fn chunk(&mut self, n: usize) -> Vec<u16> {
         let operators = [Add, Sub, Mul, Div, Mod, FloorDiv, Eq, NotEq, Lt, Gt, LtEq, GtEq, BitAnd, BitOr, BitXor, Shl, Shr, Not, Minus];
-        (0..n).flat_map(|_| match self.below(9) {
-            0..4 => [LoadConst.0, 2, self.below(12) as u16],
-            4..7 => [self.of(&operators).0, 0, 0],
-            7 => [Phi.0, 0, self.below(4) as u16],
-            _ => [Jump.0, 1, self.below(n + 2) as u16],
+        (0..n).flat_map(|k| match self.below(9) {
+            0..4 => [LoadConst.0, 2, self.below(12) as u16, k as u16],
+            4..7 => [self.of(&operators).0, 0, 0, k as u16],
+            7 => [Phi.0, 0, self.below(4) as u16, k as u16],
+            _ => [Jump.0, 1, self.below(n + 2) as u16, k as u16],
         }).collect()
     }
 }

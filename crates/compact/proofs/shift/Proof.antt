@@ -2,7 +2,7 @@
 use borrow.Author.Needs.{needs}
 use native.Mathlib.Omega.{arith}
 use lib.ListN.{length-set}
-use Rattle.compact.proofs.Moves.{three-words}
+use Rattle.compact.proofs.Moves.{four-words}
 use Rattle.compact.proofs.shift.Statement.{statement}
 use Rattle.compact.proofs.shift.Tie as tie
 
@@ -14,6 +14,9 @@ mark-at-requires c κs = search needs
 
 operand-of-requires : tie.Need-operand-of-requires
 operand-of-requires c κs = search needs
+
+origin-at-requires : tie.Need-origin-at-requires
+origin-at-requires c κs = search needs
 
 mul-code : tie.Need-mul-code
 mul-code c = search needs
@@ -48,11 +51,23 @@ mul-code-6 c = search needs
 slice-write-code-3 : tie.Need-slice-write-code-3
 slice-write-code-3 c = simp length-set (omega arith)
 
+mul-code-7 : tie.Need-mul-code-7
+mul-code-7 c = search needs
+
+add-code-3 : tie.Need-add-code-3
+add-code-3 c = search needs
+
+mul-code-8 : tie.Need-mul-code-8
+mul-code-8 c = search needs
+
+slice-write-code-4 : tie.Need-slice-write-code-4
+slice-write-code-4 c = simp length-set (omega arith)
+
 same-length : tie.Need-same-length
 same-length c = search needs
 
 returns : tie.Need-returns
-returns c = search three-words
+returns c = search four-words
 
 pub shift-spec : {M : Type 1} → statement M
 shift-spec =
@@ -61,6 +76,7 @@ shift-spec =
     op-at-requires
     mark-at-requires
     operand-of-requires
+    origin-at-requires
     mul-code
     mul-code-2
     slice-write-code
@@ -72,5 +88,9 @@ shift-spec =
     add-code-2
     mul-code-6
     slice-write-code-3
+    mul-code-7
+    add-code-3
+    mul-code-8
+    slice-write-code-4
     same-length
     returns)

@@ -23,7 +23,7 @@ static void marks(void) {
     static const uint32_t no_tries[1] = {0};
     uint64_t rows[6];
     uint32_t offsets[6];
-    uint16_t list[4], op, one[6] = {0}, chunk[3] = {0};
+    uint16_t list[4], op, one[6] = {0}, chunk[TURNIPLOOM_CHUNK_WORDS] = {0};
     turniploom_answer kept = turniploom_kept(code, 30, 10, no_tries, 0, false, rows, 6, offsets, 6, list, 4);
     SHOW(kept.first == 2 && list[0] == 4 && list[1] == 5);
     turniploom_set_marks(code, 30, no_dunder);
@@ -33,7 +33,7 @@ static void marks(void) {
     for (op = 0; op <= 191; op++) {
         one[0] = chunk[0] = op;
         turniploom_set_marks(one, 6, get_item);
-        turniploom_set_chunk_marks(chunk, 3);
+        turniploom_set_chunk_marks(chunk, TURNIPLOOM_CHUNK_WORDS);
         printf("%d %d %d\n", op, one[1], chunk[1]);
     }
 }
@@ -62,20 +62,21 @@ static void lengths(void) {
 
 /* A negation and two Phis, with room as the macros give it. */
 static void room(void) {
-    uint16_t code[] = {TURNIPLOOM_LoadConst, 0, 0, TURNIPLOOM_Minus, 0, 0, TURNIPLOOM_Phi, 0, 0, TURNIPLOOM_Phi, 0, 0};
+    uint16_t code[] = {TURNIPLOOM_LoadConst, 0, 0, 7, TURNIPLOOM_Minus, 0, 0, 8, TURNIPLOOM_Phi, 0, 0, 9, TURNIPLOOM_Phi, 0, 0, 10};
     uint8_t kinds[TURNIPLOOM_CONSTANTS_LEN(4, 1)] = {TURNIPLOOM_INT}, dead[TURNIPLOOM_MARKS_LEN(4)];
     uint64_t words[TURNIPLOOM_CONSTANTS_LEN(4, 1)] = {7};
     uint64_t landings[TURNIPLOOM_ENDS_LEN(4)];
     uint32_t phi_map[TURNIPLOOM_MARKS_LEN(4)] = {0}, remap[TURNIPLOOM_ENDS_LEN(4)], none[1] = {0};
     uint16_t sources[TURNIPLOOM_PHI_SOURCES_LEN(4, 2)] = {1, 2};
     turniploom_answer a;
-    turniploom_set_chunk_marks(code, 12);
-    a = turniploom_fold(code, 12, kinds, 5, words, 5, 1, phi_map, 4, 4, sources, TURNIPLOOM_PHI_SOURCES_LEN(4, 2), 2, none, 0, 0, none, 0, 0, dead, 4,
+    turniploom_set_chunk_marks(code, 16);
+    a = turniploom_fold(code, 16, kinds, 5, words, 5, 1, phi_map, 4, 4, sources, TURNIPLOOM_PHI_SOURCES_LEN(4, 2), 2, none, 0, 0, none, 0, 0, dead, 4,
                         remap, TURNIPLOOM_ENDS_LEN(4), none, 0, landings, TURNIPLOOM_ENDS_LEN(4) - 1, false);
     SHOW(a.refusal == TURNIPLOOM_BUFFER && a.first == 7 && a.second == TURNIPLOOM_ENDS_LEN(4));
-    a = turniploom_fold(code, 12, kinds, 5, words, 5, 1, phi_map, 4, 4, sources, TURNIPLOOM_PHI_SOURCES_LEN(4, 2), 2, none, 0, 0, none, 0, 0, dead, 4,
+    a = turniploom_fold(code, 16, kinds, 5, words, 5, 1, phi_map, 4, 4, sources, TURNIPLOOM_PHI_SOURCES_LEN(4, 2), 2, none, 0, 0, none, 0, 0, dead, 4,
                         remap, TURNIPLOOM_ENDS_LEN(4), none, 0, landings, TURNIPLOOM_ENDS_LEN(4), false);
     SHOW(a.refusal == 0 && a.first == 3 && a.second == 2 && words[1] == (uint64_t)-7);
+    SHOW(code[3] == 7 && code[7] == 9 && code[11] == 10 && code[15] == 0);
 }
 
 /* Code K replayed from a block that is made here, and from the same with a byte flipped. */
@@ -185,32 +186,33 @@ int main(void) {
     SHOW(kept.refusal == TURNIPLOOM_BUFFER && kept.first == 3 && kept.second == 2);
     kept = turniploom_kept(K, WORDS, 4, try_1_5, 2, false, rows, 7, offsets, 7, list, 2);
     SHOW(kept.refusal == 0 && kept.first == 2 && list[0] == 0 && list[1] == 3);
-    uint16_t chunk[] = {TURNIPLOOM_LoadConst, TURNIPLOOM_NAMES_CONSTANT, 0, TURNIPLOOM_LoadConst, TURNIPLOOM_NAMES_CONSTANT, 1,
-                        TURNIPLOOM_Add, 0, 0, TURNIPLOOM_Jump, TURNIPLOOM_IS_JUMP, 2};
-    static const uint16_t p13[] = {TURNIPLOOM_LoadConst, TURNIPLOOM_NAMES_CONSTANT, 2, TURNIPLOOM_Jump, TURNIPLOOM_IS_JUMP, 1, 0, 0, 0, 0, 0, 0};
+    uint16_t chunk[] = {TURNIPLOOM_LoadConst, TURNIPLOOM_NAMES_CONSTANT, 0, 0, TURNIPLOOM_LoadConst, TURNIPLOOM_NAMES_CONSTANT, 1, 1,
+                        TURNIPLOOM_Add, 0, 0, 2, TURNIPLOOM_Jump, TURNIPLOOM_IS_JUMP, 2, 3};
+    static const uint16_t p13[4 * TURNIPLOOM_CHUNK_WORDS] = {TURNIPLOOM_LoadConst, TURNIPLOOM_NAMES_CONSTANT, 2, 0,
+                                                             TURNIPLOOM_Jump, TURNIPLOOM_IS_JUMP, 1, 3};
     uint8_t kinds[3] = {TURNIPLOOM_INT, TURNIPLOOM_INT, 0}, dead[4];
     uint64_t words[3] = {2, 3, 0};
     uint32_t phi_map[4] = {0}, remap[5], none[1], tries[4] = {0, 1, 2, 1};
     uint64_t landings[5];
     uint16_t phi_sources[1];
-    turniploom_answer folded = turniploom_fold(chunk, 12, kinds, 3, words, 3, 2, phi_map, 4, 0, phi_sources, 0, 0, none, 0, 0, none, 0, 0,
+    turniploom_answer folded = turniploom_fold(chunk, 16, kinds, 3, words, 3, 2, phi_map, 4, 0, phi_sources, 0, 0, none, 0, 0, none, 0, 0,
                                                dead, 4, remap, 5, tries, 4, landings, 5, true);
     SHOW(folded.refusal == TURNIPLOOM_TRY && folded.first == 1);
-    folded = turniploom_fold(chunk, 12, kinds, 3, words, 3, 2, phi_map, 4, 0, phi_sources, 0, 0, none, 0, 0, none, 0, 0, dead, 4, remap, 5, tries, 2,
+    folded = turniploom_fold(chunk, 16, kinds, 3, words, 3, 2, phi_map, 4, 0, phi_sources, 0, 0, none, 0, 0, none, 0, 0, dead, 4, remap, 5, tries, 2,
                              landings, 5, true);
     SHOW(folded.refusal == 0 && folded.first == 4 && folded.second == 2);
     SHOW(tries[1] == 1 && landings[0] == 0 && landings[1] == 1 && landings[2] == 1 && landings[3] == 0 && landings[4] == 0);
-    folded = turniploom_fold(chunk, 12, kinds, 3, words, 3, 2, phi_map, 4, 0, phi_sources, 0, 0, none, 0, 0, none, 0, 0, dead, 4, remap, 5, tries, 2,
+    folded = turniploom_fold(chunk, 16, kinds, 3, words, 3, 2, phi_map, 4, 0, phi_sources, 0, 0, none, 0, 0, none, 0, 0, dead, 4, remap, 5, tries, 2,
                              landings, 5, false);
     SHOW(tries[0] == 0 && tries[1] == 1 && landings[0] == 0 && landings[1] == 2 && landings[2] == 0 && landings[4] == 0);
     SHOW(folded.refusal == 0 && folded.first == 2 && folded.second == 3 && memcmp(chunk, p13, sizeof p13) == 0);
     SHOW(kinds[2] == TURNIPLOOM_INT && words[2] == 5 && dead[0] == 0 && dead[1] == 1 && dead[2] == 1 && dead[3] == 0 && remap[4] == 2);
     /* The fold left one load, so one constant is shipped. */
     uint32_t scratch[3];
-    turniploom_answer cleared = turniploom_clear(chunk, 12, kinds, 3, words, 3, 3, scratch, 2);
+    turniploom_answer cleared = turniploom_clear(chunk, 16, kinds, 3, words, 3, 3, scratch, 2);
     SHOW(cleared.refusal == TURNIPLOOM_BUFFER && cleared.first == 1 && cleared.second == 3 && chunk[2] == 2);
-    cleared = turniploom_clear(chunk, 6, kinds, 3, words, 3, 3, scratch, 3);
-    SHOW(cleared.refusal == 0 && cleared.first == 1 && chunk[2] == 0 && chunk[5] == 1 && words[0] == 5 && words[1] == 0 && kinds[2] == 0);
+    cleared = turniploom_clear(chunk, 8, kinds, 3, words, 3, 3, scratch, 3);
+    SHOW(cleared.refusal == 0 && cleared.first == 1 && chunk[2] == 0 && chunk[6] == 1 && chunk[7] == 3 && words[0] == 5 && words[1] == 0 && kinds[2] == 0);
     SHOW(scratch[0] == 0 && scratch[1] == 0 && scratch[2] == 0);
     puts(failed ? "not all is well" : "all is well");
     return failed;

@@ -1,0 +1,233 @@
+//! What the command does with its options: files and folders are read, listed and written; and how it ends.
+
+use crate::{body, chunk, diff, figures, json, notation::{self, Body, Chunk, Text}, options::{Form, Options, USE}, page, paint, refused, run as runs, text, whose, why};
+use std::{env, fs, io::{self, IsTerminal, Write}, path::Path, process::ExitCode};
+
+/// Why something was not listed.
+#[derive(Clone, Debug, PartialEq, Eq)]
+pub enum Trouble {
+    /// The proved calls refuse it.
+    Refused(String),
+    /// The text is wrong, or can't be read.
+    Text(String),
+    /// The command line is wrong.
+    Use(String),
+    /// Something can't be written.
+    Unwritten(String),
+    /// The reader of the standard output has gone.
+    Closed,
+}
+
+impl Trouble {
+    fn says(&self) -> &str {
+        match self {
+            Trouble::Refused(why) | Trouble::Text(why) | Trouble::Use(why) | Trouble::Unwritten(why) => why,
+            Trouble::Closed => "",
+        }
+    }
+
+    fn status(&self) -> u8 {
+        match self {
+            Trouble::Closed => 0,
+            Trouble::Refused(_) => 1,
+            Trouble::Text(_) | Trouble::Use(_) | Trouble::Unwritten(_) => 2,
+        }
+    }
+}
+
+type Done<T> = Result<T, Trouble>;
+
+/// A file that was listed, or why it was not.
+pub struct Listed {
+    pub file: String,
+    pub of: Done<Of>,
+}
+
+/// What a file holds, with all that is known of it.
+pub enum Of {
+    Body(Box<(Body, body::View)>),
+    Chunk(Box<(Chunk, chunk::View)>),
+}
+
+/// Ends the command: a line for each line of trouble, and the status.
+pub fn finished(done: Done<Vec<Trouble>>) -> ExitCode {
+    let troubles = done.unwrap_or_else(|trouble| vec![trouble]);
+    for trouble in troubles.iter().filter(|t| **t != Trouble::Closed) {
+        // Where not even this can be written nothing is left to be done.
+        let mut errors = io::stderr().lock();
+        for line in trouble.says().lines() { let _ = if matches!(trouble, Trouble::Use(_)) { writeln!(errors, "listing: {line}") } else {
+            writeln!(errors, "{line}") }; }
+    }
+    ExitCode::from(troubles.iter().map(Trouble::status).max().unwrap_or(0))
+}
+
+/// Does what the options ask for, and tells what could not be listed.
+///
+/// # Errors
+///
+/// What kept it from being done at all.
+pub fn run(options: &Options) -> Done<Vec<Trouble>> {
+    match options.form {
+        Form::Help => said(&format!("{USE}\n"), options).map(|()| vec![]),
+        Form::Version => said(&format!("{}\n", whose::lines()), options).map(|()| vec![]),
+        Form::Figures => in_figures(options),
+        Form::Diff => differing(options),
+        Form::Listing | Form::Kept | Form::Json => listings(options),
+    }
+}
+
+/// Writes to the standard output, in colour where that is wanted.
+fn said(text: &str, options: &Options) -> Done<()> {
+    let no_color = env::var("NO_COLOR").ok();
+    let colour = options.form != Form::Json && options.colour.wanted(no_color.as_deref(), io::stdout().is_terminal());
+    let painted = if colour { paint::painted(text) } else { text.to_string() };
+    let mut out = io::stdout().lock();
+    out.write_all(painted.as_bytes()).and_then(|()| out.flush()).map_err(|e| match e.kind() {
+        io::ErrorKind::BrokenPipe => Trouble::Closed,
+        _ => Trouble::Unwritten(format!("listing: the standard output can't be written: {}", told(&e))),
+    })
+}
+
+/// An error of the system without its number.
+fn told(error: &io::Error) -> String {
+    let text = error.to_string();
+    text.split(" (os error").next().unwrap_or(&text).to_string()
+}
+
+/// Writes the text and the page, the page in place of the text if it is for the standard output.
+fn written(text: &str, page: impl FnOnce() -> String, options: &Options) -> Done<()> {
+    match options.html.as_deref() {
+        Some("-") => said(&page(), &Options::default()),
+        Some(to) => {
+            said(text, options)?;
+            fs::write(to, page()).map_err(|e| Trouble::Unwritten(format!("listing: {to} can't be written: {}", told(&e))))
+        }
+        None => said(text, options),
+    }
+}
+
+/// The files that are named, a folder's in order of their names.
+fn files(options: &Options) -> Done<Vec<String>> {
+    let mut files = vec![];
+    for file in &options.files {
+        if file == "-" || !Path::new(file).is_dir() {
+            files.push(file.clone());
+            continue;
+        }
+        let inside = fs::read_dir(file).map_err(|e| Trouble::Text(format!("{file}: {}", told(&e))))?;
+        let mut texts: Vec<String> = inside.flatten().map(|f| f.path()).filter(|p| p.is_file() && p.extension().is_some_and(|e| e == "txt"))
+            .map(|p| p.display().to_string()).collect();
+        if texts.is_empty() { return Err(Trouble::Text(format!("{file}: there is no .txt file in this folder"))) }
+        texts.sort();
+        files.extend(texts);
+    }
+    Ok(files)
+}
+
+/// The text of a file.
+fn read(file: &str) -> Done<Text> {
+    let source = if file == "-" { io::read_to_string(io::stdin()) } else { fs::read_to_string(file) };
+    let source = source.map_err(|e| Trouble::Text(format!("{file}: {}", told(&e))))?;
+    notation::read(&source).map_err(|wrongs| Trouble::Text(wrongs.0.iter().map(|w| format!("{file}: {w}")).collect::<Vec<_>>().join("\n")))
+}
+
+/// What is known of a file.
+fn of(file: &str, options: &Options) -> Done<Of> {
+    match read(file)? {
+        Text::Body(_) if options.run => Err(Trouble::Text(format!("{file}: --run is for a chunk, and this is a body"))),
+        Text::Body(mut b) => {
+            b.wide |= options.wide;
+            b.rows32 = options.rows32.unwrap_or(b.rows32);
+            let mut view = body::View::of(&b).map_err(|r| Trouble::Refused(format!("{file}: {}", refused::body(r, &b))))?;
+            if let Some(trace) = &options.replay {
+                let bytes = fs::read(trace).map_err(|e| Trouble::Text(format!("{trace}: {}", told(&e))))?;
+                view.replay(&b, &bytes).map_err(|r| Trouble::Refused(format!("{trace}: {}", refused::body(r, &b))))?;
+            }
+            if let Some((k, r)) = options.why {
+                let answer = why::why(&b, &view, k, r).map_err(|r| Trouble::Refused(format!("{file}: {}", refused::body(r, &b))))?;
+                view.remarks.push(answer);
+            }
+            Ok(Of::Body(Box::new((b, view))))
+        }
+        Text::Chunk(_) if options.replay.is_some() => Err(Trouble::Text(format!("{file}: --replay is for a body, and this is a chunk"))),
+        Text::Chunk(mut c) => {
+            c.strict |= options.strict;
+            let refuse = |r| Trouble::Refused(format!("{file}: {}", refused::chunk(r, &c)));
+            let mut view = chunk::View::of(&c).map_err(refuse)?;
+            if options.run { view.remarks.extend(runs::lines(&c).map_err(refuse)?) }
+            Ok(Of::Chunk(Box::new((c, view))))
+        }
+    }
+}
+
+impl Of {
+    pub fn heading(&self) -> &str {
+        match self {
+            Of::Body(of) => &of.1.heading,
+            Of::Chunk(of) => &of.1.heading,
+        }
+    }
+
+    fn text(&self, form: Form) -> String {
+        match self {
+            Of::Body(of) if form == Form::Kept => text::levels(&of.1),
+            Of::Body(of) => text::body(&of.1),
+            Of::Chunk(_) if form == Form::Kept => "A chunk has no levels.\n".into(),
+            Of::Chunk(of) => text::chunk(&of.1),
+        }
+    }
+
+    pub fn table(&self) -> String {
+        match self {
+            Of::Body(of) => page::body(&of.1),
+            Of::Chunk(of) => page::chunk(&of.1),
+        }
+    }
+}
+
+/// Lists every file, and tells which could not be.
+fn listings(options: &Options) -> Done<Vec<Trouble>> {
+    let listed: Vec<Listed> = files(options)?.into_iter().map(|file| Listed { of: of(&file, options), file }).collect();
+    let text = match options.form {
+        Form::Json => json::files(&listed),
+        form => {
+            let good = listed.iter().filter_map(|l| Some((&l.file, l.of.as_ref().ok()?)));
+            let texts: Vec<String> = good.map(|(file, of)| format!("{file}: {}\n\n{}", of.heading(), of.text(form))).collect();
+            if texts.is_empty() { String::new() } else { format!("{}{}\n", texts.join("\n"), whose::line()) }
+        }
+    };
+    // What could be listed is written first, and then what could not.
+    written(&text, || page::files(&listed), options)?;
+    Ok(listed.into_iter().filter_map(|l| l.of.err()).collect())
+}
+
+/// The text of why a file was not listed.
+impl Listed {
+    pub fn trouble(&self) -> Option<&str> { self.of.as_ref().err().map(Trouble::says) }
+}
+
+/// Many bodies in figures.
+fn in_figures(options: &Options) -> Done<Vec<Trouble>> {
+    let mut view = figures::View::default();
+    for file in files(options)? {
+        let Text::Body(mut b) = read(&file)? else { return Err(Trouble::Text(format!("{file}: a chunk has no levels, and no figures"))) };
+        b.wide |= options.wide;
+        view.add(&file, &b).map_err(|r| Trouble::Refused(format!("{file}: {}", refused::body(r, &b))))?;
+    }
+    let text = format!("{}\n\n{}{}\n", view.heading(), figures::text(&view), whose::line());
+    written(&text, || page::whole("Figures", &view.heading(), &figures::page(&view)), options)?;
+    Ok(vec![])
+}
+
+/// What differs between two files.
+fn differing(options: &Options) -> Done<Vec<Trouble>> {
+    let [old, new] = &options.files[..] else { return Err(Trouble::Use("--diff wants two files".into())) };
+    let text = match (of(old, options)?, of(new, options)?) {
+        (Of::Body(a), Of::Body(b)) => diff::bodies(&a.1, &b.1),
+        (Of::Chunk(a), Of::Chunk(b)) => diff::chunks(&a.1, &b.1),
+        _ => return Err(Trouble::Text(format!("{old} and {new}: one is a body, and the other a chunk"))),
+    };
+    let text = format!("{old} and {new}\n\n{text}{}\n", whose::line());
+    written(&text, || page::whole("Differences", &format!("{old} and {new}"), &format!("<pre>{}</pre>\n", page::escaped(&text))), options)?;
+    Ok(vec![])
+}

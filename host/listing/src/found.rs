@@ -1,0 +1,74 @@
+//! What the kept-register call found, with rows of either width.
+
+use crate::notation::Body;
+use turniploom::{Kept, Refusal, abi};
+
+/// Rows and lists, the levels and the sweeps.
+pub struct Found {
+    /// The rows, the end's too, and what is kept at each position.
+    pub rows: Vec<Vec<u16>>,
+    pub kept: Vec<Vec<u16>>,
+    /// Where each level resumes, and its result register.
+    pub levels: Vec<Option<(usize, Option<u16>)>>,
+    pub full: u64,
+    pub abandoned: u64,
+    /// The most full sweeps, known before the call.
+    pub most: u64,
+}
+
+impl Found {
+    /// # Errors
+    ///
+    /// The refusal of the call.
+    pub fn of(body: &Body) -> Result<Found, Refusal> {
+        let (words, registers, wide) = (body.words(), body.registers, body.wide);
+        let tries = tries(body)?;
+        let most = turniploom::most_sweeps(&words);
+        if body.rows32 { Ok(Found::read(turniploom::kept32(&words, registers, &tries, wide)?, most?)) }
+        else { Ok(Found::read(turniploom::kept(&words, registers, &tries, wide)?, most?)) }
+    }
+
+    fn read<W: Copy + Into<u64>>(kept: Kept<W>, most: u64) -> Found {
+        let n = kept.offsets.len() - 1;
+        let levels = (0..n).map(|k| kept.level(k).map(|l| (l.resume(), l.result()))).collect();
+        let (rows, lists) = ((0..=n).map(|k| set(kept.row(k))).collect(), (0..n).map(|k| kept.at(k).to_vec()).collect());
+        Found { rows, kept: lists, levels, full: kept.full, abandoned: kept.abandoned, most }
+    }
+
+    /// The row of a position, and of any past the end.
+    pub fn row(&self, k: usize) -> &[u16] { &self.rows[k.min(self.kept.len())] }
+
+    /// From where on rows were looked for: the first level, or 0 by the wide route and after an abandoned sweep.
+    pub fn start(&self, body: &Body) -> usize {
+        let wide = body.wide || body.registers > if body.rows32 { 32 } else { 64 };
+        if wide || self.abandoned > 0 { 0 } else { self.first() }
+    }
+
+    /// The first level, or the end.
+    pub fn first(&self) -> usize { self.levels.iter().position(Option::is_some).unwrap_or(self.levels.len()) }
+}
+
+/// The registers whose bits are set in a row's words.
+fn set<W: Copy + Into<u64>>(row: &[W]) -> Vec<u16> {
+    let bits = 8 * size_of::<W>() as u16;
+    let mut set = vec![];
+    for (place, &word) in (0..).zip(row) {
+        let mut left: u64 = word.into();
+        while left != 0 {
+            set.push(place * bits + left.trailing_zeros() as u16);
+            left &= left - 1;
+        }
+    }
+    set
+}
+
+/// The tries of a body in pairs.
+///
+/// # Errors
+///
+/// The refusal of half a try.
+pub fn tries(body: &Body) -> Result<Vec<(usize, usize)>, Refusal> {
+    // An odd last word is a try without a handler, which is refused before any buffer is looked at.
+    if !body.tries.len().is_multiple_of(2) { abi::kept(&body.words(), body.registers, &body.tries, body.wide, &mut [], &mut [], &mut []).granted()?; }
+    Ok(body.tries.chunks_exact(2).map(|t| (t[0] as usize, t[1] as usize)).collect())
+}

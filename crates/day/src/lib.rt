@@ -4,6 +4,7 @@ ghost use Prim.Native.Nat.{_<_, _≤_};
 ghost use lib.ListN.{length, replicate, drop};
 ghost use Rattle.code.specs.Ins.{count};
 ghost use Rattle.code.specs.Check.{Whole};
+ghost use Rattle.roles.specs.Roles.{roleTable};
 ghost use mir.Val.{boolByte};
 ghost use mathlib.Core.List.{_++_};
 ghost use Rattle.code.specs.Answers.{refusalOf};
@@ -112,11 +113,11 @@ fn once_more(reads: &mut [u64], regs: usize, t: bool, r: usize)
 }
 
 // The registers that the step at k uses are read once more, each once.
-fn count_step(reads: &mut [u64], regs: usize, code: &[u16], k: usize)
-    requires { ⌜ Whole (now code) × (k < count (now code)) × Lower regs (now reads) ⌝ }
+fn count_step(reads: &mut [u64], regs: usize, roles: &[u8; 1280], code: &[u16], k: usize)
+    requires { ⌜ (now roles ≡ roleTable) × Whole (now code) × (k < count (now code)) × Lower regs (now reads) ⌝ }
     ensures { λ _. ⌜ Stepped regs (now (reads .entry)) (now (reads .exit)) (now (code .entry)) k ⌝ }
 {
-    let st = steps::step_at(code, code.len() / 6, k);
+    let st = steps::step_in(roles, code, code.len() / 6, k);
     let used = st.used;
     let a = short(st.a);
     let b = short(st.b);
@@ -177,11 +178,12 @@ fn tally(reads: &mut [u64], regs: usize, code: &[u16], t: &[u8], steps: usize) -
     requires { ⌜ Walkable (now code) (now t) steps × Zeros regs (now reads) ⌝ }
     ensures { λ r. ⌜ Counted (now (code .entry)) (now (t .entry)) regs (now (reads .entry)) steps (now (reads .exit)) r ⌝ }
 {
+    let roles = roles::table();
     let mut levels = 0;
     let mut s = 0;
     while s < steps {
         let k = blocks::slot_at(t, s);
-        count_step(reads, regs, code, k);
+        count_step(reads, regs, &roles, code, k);
         let level = steps::level_at(code::ins_at(code, k));
         levels += one(level);
         s += 1;

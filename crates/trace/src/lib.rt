@@ -5,6 +5,7 @@ ghost use lib.ListN.{length};
 ghost use Rattle.laws.specs.Page.{among};
 ghost use Rattle.code.specs.Ins.{count};
 ghost use Rattle.code.specs.Check.{Whole};
+ghost use Rattle.roles.specs.Roles.{roleTable};
 ghost use Rattle.flow.specs.Kept.{handlersOf};
 ghost use Rattle.trace.specs.Trace.{mayGo, badStep, firstStep, verdictOf};
 
@@ -47,10 +48,11 @@ fn first_step(code: &[u16], tries: &[u32], t: &[u8], b: usize) -> usize
     requires { ⌜ Whole (now code) × (b < length (now t) / 512) ⌝ }
     ensures { λ r. ⌜ r ≡ firstStep (now (code .entry)) (now (tries .entry)) (now (t .entry)) b ⌝ }
 {
+    let roles = roles::table();
     let end = 127 * b + 127;
     let mut s = 127 * b;
     while s < end {
-        if bad_step(code, tries, t, s) {
+        if bad_step(&roles, code, tries, t, s) {
             return s;
         }
         s += 1;
@@ -59,8 +61,8 @@ fn first_step(code: &[u16], tries: &[u32], t: &[u8], b: usize) -> usize
 }
 
 // Whether slot s breaks the rules of a run.
-fn bad_step(code: &[u16], tries: &[u32], t: &[u8], s: usize) -> bool
-    requires { ⌜ Whole (now code) × (s / 127 < length (now t) / 512) ⌝ }
+fn bad_step(roles: &[u8; 1280], code: &[u16], tries: &[u32], t: &[u8], s: usize) -> bool
+    requires { ⌜ (now roles ≡ roleTable) × Whole (now code) × (s / 127 < length (now t) / 512) ⌝ }
     ensures { λ r. ⌜ r ≡ badStep (now (code .entry)) (now (tries .entry)) (now (t .entry)) s ⌝ }
 {
     let n = code.len() / 6;
@@ -78,16 +80,16 @@ fn bad_step(code: &[u16], tries: &[u32], t: &[u8], s: usize) -> bool
     if n <= p {
         return true;
     }
-    !may_go(code, tries, p, q)
+    !may_go(roles, code, tries, p, q)
 }
 
 // Whether a run may go from p to q: by "after", from a level to a handler around it, from a wide call straight to its store.
-fn may_go(code: &[u16], tries: &[u32], p: usize, q: usize) -> bool
-    requires { ⌜ Whole (now code) × (p < count (now code)) ⌝ }
+fn may_go(roles: &[u8; 1280], code: &[u16], tries: &[u32], p: usize, q: usize) -> bool
+    requires { ⌜ (now roles ≡ roleTable) × Whole (now code) × (p < count (now code)) ⌝ }
     ensures { λ r. ⌜ r ≡ mayGo (now (code .entry)) (now (tries .entry)) p q ⌝ }
 {
     let n = code.len() / 6;
-    let st = steps::step_at(code, n, p);
+    let st = steps::step_in(roles, code, n, p);
     let on = st.on;
     let to = st.to;
     let target = st.target;

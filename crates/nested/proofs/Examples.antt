@@ -76,7 +76,8 @@ file = 10 ∷ 11 ∷ 12 ∷ 13 ∷ 14 ∷ 55 ∷ []
 abbrev told : ℕ → List (ℕ × List ℕ)
 told x = (2, 10 ∷ 14 ∷ []) ∷ (3, []) ∷ (4, []) ∷ (5, []) ∷ (6, 22 ∷ 24 ∷ []) ∷ (9, x ∷ []) ∷ []
 
-runs : (nested (frame (levels body) 6 body tries) lost events 2 file ≡ told 77) × (nested (frame (levels body) 6 body tries) undisturbed events 2 file ≡ told 55)
+runs : (nested (frame (levels body) 6 body tries) lost events 2 file ≡ told 77)
+    × (nested (frame (levels body) 6 body tries) undisturbed events 2 file ≡ told 55)
 unfolding nested lost bit listed page ruleOf kindsOf hasRole isJump cases caseOf usedBy givenBy storeOf overPending pastStore restores idle usedAt givenAt afterAt isLevel handlersOf raisesAt argsAt resumeOf resultAt joined
 runs = (refl, refl)
 

@@ -52,14 +52,20 @@ unfolding exposed
 exposed-only plain [] r m = absurd (List·Memᴰ·not-nil m)
 exposed-only plain (x ∷ l) r m = go (among x plain) refl m (λ m′. let w = exposed-only plain l r m′ in (List·Memᴰ·tail (w .0), w .1))
   where
-    go : (t : Bool) → among x plain ≡ t → In r (cond t (exposed plain l) (x ∷ exposed plain l)) → (In r (exposed plain l) → In r (x ∷ l) × (In r plain → ⊥)) → In r (x ∷ l) × (In r plain → ⊥)
+    go : (t : Bool) → among x plain ≡ t → In r (cond t (exposed plain l) (x ∷ exposed plain l)) → (In r (exposed plain l) → In r (x ∷ l) × (In r plain → ⊥))
+        → In r (x ∷ l) × (In r plain → ⊥)
     go true q m′ rec = rec m′
-    go false q m′ rec = ⊎-elim (λ e. (List·Memᴰ·head e, λ i. false≢true (sym q ∙ ap (λ (y : ℕ). among y plain) (sym e) ∙ in-among r plain i))) rec (List·Memᴰ·cases-cons m′)
+    go false q m′ rec = ⊎-elim (λ e. (
+      List·Memᴰ·head e,
+      λ i. false≢true (sym q ∙ ap (λ (y : ℕ). among y plain) (sym e)
+          ∙ in-among r plain i),
+    )) rec (List·Memᴰ·cases-cons m′)
 
 module _ (c : Frame) (plain lists : ℕ → List ℕ) where
   -- nothing exposed at any level, and document 01's lists shelter too
   pub none-exposed : Sheltered c lists → ((k : ℕ) → k < c .flow .size → c .level k ≡ true → exposed (plain k) (lists k) ≡ []) → Sheltered c plain
-  none-exposed sh none lost sp = sh lost (λ k r l e m. ⊎-elim (λ x. absurd (List·Memᴰ·not-nil (subst (λ (y : List ℕ). In r y) (none k l e) x))) (λ x. sp k r l e x) (exposed-or (plain k) (lists k) r m))
+  none-exposed sh none lost sp = sh lost (λ k r l e m. ⊎-elim (λ x. absurd (List·Memᴰ·not-nil (subst (λ (y : List ℕ). In r y) (none k l e) x)))
+      (λ x. sp k r l e x) (exposed-or (plain k) (lists k) r m))
 
 -- steps alone, nothing written
 stepsOf : List ℕ → List Event
@@ -73,7 +79,8 @@ module _ (c : Frame) (lost : ℕ → ℕ) where
   nested-run (x ∷ l) k file = ap (λ (t : List (ℕ × List ℕ)). cond (ltb k (c .flow .size)) ((k, valuesOf (c .flow) (c .flow .used k) file) ∷ t) [])
       (nested-run l (chosen (c .flow) k x) (fileAfter (c .flow) k x [] file))
 
-module _ (c : Frame) (plain : ℕ → List ℕ) (k r : ℕ) (hi : k < c .flow .size) (level : c .level k ≡ true) (lr : r < c .flow .regs) (lacks : In r (plain k) → ⊥) where
+module _ (c : Frame) (plain : ℕ → List ℕ) (k r : ℕ) (hi : k < c .flow .size) (level : c .level k ≡ true) (lr : r < c .flow .regs) (lacks : In r (plain k)
+    → ⊥) where
   one : ℕ → ℕ
   one j = cond (eqb j k) (2 ^ r) 0
 
@@ -94,7 +101,8 @@ module _ (c : Frame) (plain : ℕ → List ℕ) (k r : ℕ) (hi : k < c .flow .s
       go false e l = absurd (omega (arith, bit-zero q))
 
   one-spares : Spares c plain one
-  one-spares j q l e m = none (bit (one j) q) (λ h. let w = one-only j q h in lacks (subst (λ (x : ℕ). In x (plain k)) (w .1) (subst (λ (x : ℕ). In q (plain x)) (w .0) m)))
+  one-spares j q l e m = none (bit (one j) q) (λ h. let w = one-only j q h in lacks
+      (subst (λ (x : ℕ). In x (plain k)) (w .1) (subst (λ (x : ℕ). In q (plain x)) (w .0) m)))
     where
       none : (x : ℕ) → (0 < x → ⊥) → x ≡ 0
       none x h = zero-or x h
@@ -122,7 +130,8 @@ module _ (c : Frame) (plain : ℕ → List ℕ) (k r : ℕ) (hi : k < c .flow .s
   old-zero = wrote-kept 0 left zeros (c .flow .regs) r lr (bit-zero r) ∙ getD-replicate {A = ℕ} (c .flow .regs) r 0 0 lr
 
   -- a run that goes on at s after the event, with files that differ at r
-  telling : (e : Event) (s : ℕ) (choices : List ℕ) → nextAt c one e k ≡ s → nextAt c undisturbed e k ≡ s → getD (fileAt c one e k zeros) r 0 ≢ getD (fileAt c undisturbed e k zeros) r 0 → Tells (c .flow) r s choices
+  telling : (e : Event) (s : ℕ) (choices : List ℕ) → nextAt c one e k ≡ s → nextAt c undisturbed e k ≡ s
+      → getD (fileAt c one e k zeros) r 0 ≢ getD (fileAt c undisturbed e k zeros) r 0 → Tells (c .flow) r s choices
       → nested c one (e ∷ stepsOf choices) k zeros ≢ nested c undisturbed (e ∷ stepsOf choices) k zeros
   unfolding nested
   telling e s choices p p′ ne tells same = tells [] (fileAt c one e k zeros) (fileAt c undisturbed e k zeros) ne (ap (map (λ (x : ℕ × List ℕ). x .1)) runs)
@@ -130,18 +139,23 @@ module _ (c : Frame) (plain : ℕ → List ℕ) (k r : ℕ) (hi : k < c .flow .s
       open-up : (l m : List (ℕ × List ℕ)) → cond (ltb k (c .flow .size)) l m ≡ l
       open-up l m = ap (λ (t : Bool). cond t l m) (lt-ltb k (c .flow .size) hi)
 
-      tails : nested c one (stepsOf choices) (nextAt c one e k) (fileAt c one e k zeros) ≡ nested c undisturbed (stepsOf choices) (nextAt c undisturbed e k) (fileAt c undisturbed e k zeros)
+      tails : nested c one (stepsOf choices) (nextAt c one e k) (fileAt c one e k zeros)
+          ≡ nested c undisturbed (stepsOf choices) (nextAt c undisturbed e k) (fileAt c undisturbed e k zeros)
       tails = tail-eq-of-cons-eq (sym (open-up _ []) ∙ same ∙ open-up _ [])
 
       runs : run (c .flow) choices [] s (fileAt c one e k zeros) ≡ run (c .flow) choices [] s (fileAt c undisturbed e k zeros)
-      runs = sym (nested-run c one choices s (fileAt c one e k zeros)) ∙ ap (λ (x : ℕ). nested c one (stepsOf choices) x (fileAt c one e k zeros)) (sym p) ∙ tails
-          ∙ ap (λ (x : ℕ). nested c undisturbed (stepsOf choices) x (fileAt c undisturbed e k zeros)) p′ ∙ nested-run c undisturbed choices s (fileAt c undisturbed e k zeros)
+      runs = sym (nested-run c one choices s (fileAt c one e k zeros)) ∙ ap (λ (x : ℕ). nested c one (stepsOf choices) x (fileAt c one e k zeros)) (sym p)
+          ∙ tails
+          ∙ ap (λ (x : ℕ). nested c undisturbed (stepsOf choices) x (fileAt c undisturbed e k zeros)) p′
+          ∙ nested-run c undisturbed choices s (fileAt c undisturbed e k zeros)
 
   -- a register that some resume point or handler wants and the other list lacks is told
   pub told : (s : ℕ) (choices : List ℕ) → Entry (c .goes k) r s → Tells (c .flow) r s choices → ToldApart c plain k r
   told s choices entry tells = ⊎-elim
-      (λ p. made (back left []) (telling (back left []) s choices (rw level (sym (p .0))) (rw level (sym (p .0))) (λ q. differ (sym (past (one k) (p .1)) ∙ q ∙ past 0 (p .1))) tells))
-      (λ m. let (i, q) = pick-of (c .goes k .handlers) s (c .flow .size) m in made (thrown left i) (telling (thrown left i) s choices (rw level q) (rw level q) differ tells)) entry
+      (λ p. made (back left []) (telling (back left []) s choices (rw level (sym (p .0))) (rw level (sym (p .0))) (λ q. differ (sym (past (one k) (p .1)) ∙ q
+      ∙ past 0 (p .1))) tells))
+      (λ m. let (i, q) = pick-of (c .goes k .handlers) s (c .flow .size) m in made (thrown left i)
+      (telling (thrown left i) s choices (rw level q) (rw level q) differ tells)) entry
     where
       made : (e : Event) → nested c one (e ∷ stepsOf choices) k zeros ≢ nested c undisturbed (e ∷ stepsOf choices) k zeros → ToldApart c plain k r
       made e ne = record { lost = one; only = one-only; spares = one-spares; events = e ∷ stepsOf choices; file = zeros; apart = ne }

@@ -28,7 +28,8 @@ use Rattle.nested.proofs.More.{more-rows, more-kept}
 use Rattle.nested.proofs.Raising.{shelters}
 use Rattle.nested.proofs.Exposed.{exposed-only, told}
 
-module _ (may : ℕ → Bool) (bits : ℕ) (wide : Bool) (regs : ℕ) (w tries : List ℕ) (covers : (k : ℕ) → isLevel (insAt w k) ≡ true → may k ≡ true) (valid : Valid w)
+module _ (may : ℕ → Bool) (bits : ℕ) (wide : Bool) (regs : ℕ) (w tries : List ℕ) (covers : (k : ℕ) → isLevel (insAt w k) ≡ true
+    → may k ≡ true) (valid : Valid w)
     (rows : List ℕ) (full lost : ℕ) (found : Found (raising may regs w tries) (firstOf bits wide regs w) rows full lost) where
   -- the list of each position
   abbrev pub listAt : ℕ → List ℕ
@@ -54,7 +55,8 @@ module _ (may : ℕ → Bool) (bits : ℕ) (wide : Bool) (regs : ℕ) (w tries :
   module _ (k : ℕ) (inCode : k < count w) (level : isLevel (insAt w k) ≡ true) where
     -- demand 3 in the machine that raises: enough, and no register idle
     pub raising-keeps : Keeps (raising may regs w tries) (listAt k) (levelOf regs w tries k)
-    raising-keeps = level-keeps (raising may regs w tries) (firstOf bits wide regs w) (inside bits wide regs w) rows full lost found k (resumeOf w k) (resultOf regs w k) tries
+    raising-keeps = level-keeps (raising may regs w tries) (firstOf bits wide regs w) (inside bits wide regs w) rows full lost found k (resumeOf w k)
+        (resultOf regs w k) tries
         (before bits wide regs w k inCode level) inCode (resume-in w k valid inCode .0)
 
     pub none-to-spare : (r : ℕ) → In r (listAt k) → Lost (raising may regs w tries) (listAt k) (levelOf regs w tries k) r
@@ -69,7 +71,8 @@ module _ (may : ℕ → Bool) (bits : ℕ) (wide : Bool) (regs : ℕ) (w tries :
     no-less bits′ wide′ plain full′ lost′ p r m =
         let b = before bits wide regs w k inCode level in
         let b′ = before bits′ wide′ regs w k inCode level in
-        more-kept may regs w tries (firstOf bits′ wide′ regs w) (firstOf bits wide regs w) (inside bits′ wide′ regs w) (inside bits wide regs w) plain rows full′ lost′ full lost
+        more-kept may regs w tries (firstOf bits′ wide′ regs w) (firstOf bits wide regs w) (inside bits′ wide′ regs w)
+        (inside bits wide regs w) plain rows full′ lost′ full lost
         p found (levelOf regs w tries k) (omega (arith, b′, resume-in w k valid inCode .0)) (omega (arith, b, resume-in w k valid inCode .0))
         (λ h i. (omega (arith, b′, handlers-past (count w) k inCode tries h i .0), omega (arith, b, handlers-past (count w) k inCode tries h i .0))) r m
 

@@ -44,18 +44,21 @@ module _ (bits : ℕ) (wide : Bool) (w : List ℕ) (regs : ℕ) (tries : List �
     -- demand 3 in the machine that raises: enough, none to spare, each once
     pub call-keeps : Keeps (raising (mays all w) regs w tries) (partAt o l k) (levelOf regs w tries k)
     call-keeps = moved (λ (x : List ℕ). Keeps f x (levelOf regs w tries k))
-        (raising-keeps (mays all w) bits wide regs w tries (covers all w) (answer .valid) (rowsIn bits regs w new) full lost (answer .scratch .found) k inCode level)
+        (raising-keeps (mays all w) bits wide regs w tries (covers all w) (answer .valid) (rowsIn bits regs w new) full lost
+        (answer .scratch .found) k inCode level)
 
     pub call-spare : (r : ℕ) → In r (partAt o l k) → Lost (raising (mays all w) regs w tries) (partAt o l k) (levelOf regs w tries k) r
     call-spare = none-spare f (partAt o l k) (levelOf regs w tries k) call-keeps
 
     pub call-once : Once (partAt o l k)
-    call-once = moved Once (each-once (mays all w) bits wide regs w tries (covers all w) (answer .valid) (rowsIn bits regs w new) full lost (answer .scratch .found) k inCode level)
+    call-once = moved Once (each-once (mays all w) bits wide regs w tries (covers all w) (answer .valid) (rowsIn bits regs w new) full lost
+        (answer .scratch .found) k inCode level)
 
     -- a register that another list lacks is exposed in truth
     pub call-exposed : (plain : ℕ → List ℕ) (r : ℕ) → In r (exposed (plain k) (partAt o l k)) → ToldApart (frame (mays all w) regs w tries) plain k r
     call-exposed plain r = moved (λ (x : List ℕ). In r (exposed (plain k) x) → ToldApart (frame (mays all w) regs w tries) plain k r)
-        (exposed-told (mays all w) bits wide regs w tries (covers all w) (answer .valid) (rowsIn bits regs w new) full lost (answer .scratch .found) k inCode level plain r)
+        (exposed-told (mays all w) bits wide regs w tries (covers all w) (answer .valid) (rowsIn bits regs w new) full lost
+        (answer .scratch .found) k inCode level plain r)
 
     -- what document 01's call lists is listed
     module _ (bits′ : ℕ) (wide′ : Bool) (rows′ offsets′ list′ new′ o′ l′ : List ℕ) (total′ full′ lost′ : ℕ)
@@ -63,12 +66,14 @@ module _ (bits : ℕ) (wide : Bool) (w : List ℕ) (regs : ℕ) (tries : List �
       pub call-more : (r : ℕ) → In r (partAt o′ l′ k) → In r (partAt o l k)
       call-more r m = moved (λ (x : List ℕ). In r x)
           (no-less (mays all w) bits wide regs w tries (covers all w) (answer .valid) (rowsIn bits regs w new) full lost (answer .scratch .found) k inCode level
-          bits′ wide′ (rowsIn bits′ regs w new′) full′ lost′ (left bits′ w regs tries wide′ rows′ offsets′ list′ other total′ full′ lost′ refl .scratch .found) r
+          bits′ wide′ (rowsIn bits′ regs w new′) full′ lost′ (left bits′ w regs tries wide′ rows′ offsets′ list′ other total′ full′ lost′ refl .scratch .found)
+          r
           (subst (λ (x : List ℕ). In r x) (level-list bits′ w regs tries wide′ rows′ offsets′ list′ new′ o′ l′ total′ full′ lost′ other k inCode level) m))
 
   -- nested frames, for what stands in the lent list
   pub call-shelters : Sheltered (frame (mays all w) regs w tries) (partAt o l)
-  call-shelters spared sp = nested-frames (mays all w) bits wide regs w tries (covers all w) (answer .valid) (rowsIn bits regs w new) full lost (answer .scratch .found) spared
+  call-shelters spared sp = nested-frames (mays all w) bits wide regs w tries (covers all w) (answer .valid) (rowsIn bits regs w new) full lost
+      (answer .scratch .found) spared
       (λ k r inCode e m. sp k r inCode e (moved k inCode e (λ (x : List ℕ). In r x) m))
 
 -- document 01's own lists, where no try is lent and no mark stands amiss

@@ -33,7 +33,8 @@ module _ (c : Frame) (start : ℕ) (R : ℕ → ℕ) (sh : Shelters c start R) w
   at-end : (a b : List ℕ) → AgreeAt (c .flow .size) a b
   at-end a b r l h = absurd (omega (arith, h, ap (λ (x : ℕ). bit x r) (sh .solves .last (c .flow .size) (le-refl (c .flow .size))), bit-zero r))
 
-  module _ (lost lost′ : ℕ → ℕ) (spares : Spares c lists lost) (spares′ : Spares c lists lost′) (k : ℕ) (lo : start ≤ k) (hi : k < c .flow .size) (a b : List ℕ) (e : AgreeAt k a b) where
+  module _ (lost lost′ : ℕ → ℕ) (spares : Spares c lists lost) (spares′ : Spares c lists lost′) (k : ℕ) (lo : start ≤ k) (hi : k < c .flow .size)
+      (a b : List ℕ) (e : AgreeAt k a b) where
     abbrev Next : Event → Type 0
     Next v = (start ≤ nextAt c lost v k) × AgreeAt (nextAt c lost v k) (fileAt c lost v k a) (fileAt c lost′ v k b)
 
@@ -61,37 +62,55 @@ module _ (c : Frame) (start : ℕ) (R : ℕ → ℕ) (sh : Shelters c start R) w
       stays = wrote-kept (lost k) left a (c .flow .regs) r lr z ∙ e r lr had ∙ sym (wrote-kept (lost′ k) left b (c .flow .regs) r lr z′)
 
     stepped : (choice : ℕ) (new : List ℕ) → Next (step choice new)
-    stepped choice new = (⊎-elim (λ q. omega (arith, sh .inside)) (λ m. sh .closed k lo hi s m) (picked (reach (c .flow) k) choice (c .flow .size)), λ r lr h. ⊎-elim (raised r lr h) (gone r lr h) (moves (c .flow) k choice))
+    stepped choice new = (
+      ⊎-elim (λ q. omega (arith, sh .inside)) (λ m. sh .closed k lo hi s m)
+          (picked (reach (c .flow) k) choice (c .flow .size)),
+      λ r lr h. ⊎-elim (raised r lr h) (gone r lr h) (moves (c .flow) k choice),
+    )
       where
         s : ℕ
         s = chosen (c .flow) k choice
 
-        raised : (r : ℕ) → r < c .flow .regs → 0 < bit (R s) r → Moves (c .flow) k choice → getD (fileAfter (c .flow) k choice new a) r 0 ≡ getD (fileAfter (c .flow) k choice new b) r 0
+        raised : (r : ℕ) → r < c .flow .regs → 0 < bit (R s) r → Moves (c .flow) k choice
+            → getD (fileAfter (c .flow) k choice new a) r 0 ≡ getD (fileAfter (c .flow) k choice new b) r 0
         raised r lr h m =
             ap (λ (x : List ℕ). getD x r 0) (m .0 new a)
             ∙ e r lr (omega (arith, h, has-row r, rowAt-bit (c .flow) R k r, joined-in R r (c .flow .raises k) s (m .1)))
             ∙ ap (λ (x : List ℕ). getD x r 0) (sym (m .0 new b))
 
-        gone : (r : ℕ) → r < c .flow .regs → 0 < bit (R s) r → Goes (c .flow) k choice → getD (fileAfter (c .flow) k choice new a) r 0 ≡ getD (fileAfter (c .flow) k choice new b) r 0
-        gone r lr h g = ap (λ (x : List ℕ). getD x r 0) (g .0 new a) ∙ go (decLt 0 (bit (c .flow .givenUp k) r)) ∙ ap (λ (x : List ℕ). getD x r 0) (sym (g .0 new b))
+        gone : (r : ℕ) → r < c .flow .regs → 0 < bit (R s) r → Goes (c .flow) k choice
+            → getD (fileAfter (c .flow) k choice new a) r 0 ≡ getD (fileAfter (c .flow) k choice new b) r 0
+        gone r lr h g = ap (λ (x : List ℕ). getD x r 0) (g .0 new a) ∙ go (decLt 0 (bit (c .flow .givenUp k) r))
+            ∙ ap (λ (x : List ℕ). getD x r 0) (sym (g .0 new b))
           where
             go : Dec (0 < bit (c .flow .givenUp k) r) → getD (written (c .flow) k new a) r 0 ≡ getD (written (c .flow) k new b) r 0
             go (yes w) = wrote-new (c .flow .givenUp k) new a (c .flow .regs) r lr w ∙ sym (wrote-new (c .flow .givenUp k) new b (c .flow .regs) r lr w)
             go (no n) =
-                wrote-kept (c .flow .givenUp k) new a (c .flow .regs) r lr (omega arith) ∙ e r lr (had (g .1)) ∙ sym (wrote-kept (c .flow .givenUp k) new b (c .flow .regs) r lr (omega arith))
+                wrote-kept (c .flow .givenUp k) new a (c .flow .regs) r lr (omega arith) ∙ e r lr (had (g .1))
+                ∙ sym (wrote-kept (c .flow .givenUp k) new b (c .flow .regs) r lr (omega arith))
               where
                 had : (s ≡ c .flow .size) ⊎ In s (c .flow .after k) → 0 < bit (R k) r
                 had p = ⊎-elim
-                    (λ q. absurd (omega (arith, h, ap (λ (x : ℕ). bit (R x) r) q, ap (λ (x : ℕ). bit x r) (sh .solves .last (c .flow .size) (le-refl (c .flow .size))), bit-zero r)))
+                    (λ q. absurd (omega (
+                      arith,
+                      h,
+                      ap (λ (x : ℕ). bit (R x) r) q,
+                      ap (λ (x : ℕ). bit x r)
+                          (sh .solves .last (c .flow .size) (le-refl (c .flow .size))),
+                      bit-zero r,
+                    )))
                     (λ m. omega (arith, h, n, has-row r, rowAt-bit (c .flow) R k r, joined-in R r (c .flow .after k) s m)) p
 
     returned : (left new : List ℕ) (t : Bool) → c .level k ≡ t
-        → (start ≤ cond t (c .goes k .resume) (c .flow .size)) × AgreeAt (cond t (c .goes k .resume) (c .flow .size)) (fileAt c lost (back left new) k a) (fileAt c lost′ (back left new) k b)
+        → (start ≤ cond t (c .goes k .resume) (c .flow .size)) × AgreeAt (cond t (c .goes k .resume) (c .flow .size)) (fileAt c lost (back left new) k a)
+        (fileAt c lost′ (back left new) k b)
     returned left new false q = (sh .inside, at-end (fileAt c lost (back left new) k a) (fileAt c lost′ (back left new) k b))
     returned left new true q = (sh .resumes k 0 lo hi q .0, λ r lr h. go r lr h (decLt 0 (bit (c .goes k .result) r)))
       where
-        go : (r : ℕ) → r < c .flow .regs → 0 < bit (R (c .goes k .resume)) r → Dec (0 < bit (c .goes k .result) r) → getD (fileAt c lost (back left new) k a) r 0 ≡ getD (fileAt c lost′ (back left new) k b) r 0
-        go r lr h (yes g) = wrote-new (c .goes k .result) new (wrote (lost k) left a 0 (c .flow .regs)) (c .flow .regs) r lr g ∙ sym (wrote-new (c .goes k .result) new (wrote (lost′ k) left b 0 (c .flow .regs)) (c .flow .regs) r lr g)
+        go : (r : ℕ) → r < c .flow .regs → 0 < bit (R (c .goes k .resume)) r → Dec (0 < bit (c .goes k .result) r)
+            → getD (fileAt c lost (back left new) k a) r 0 ≡ getD (fileAt c lost′ (back left new) k b) r 0
+        go r lr h (yes g) = wrote-new (c .goes k .result) new (wrote (lost k) left a 0 (c .flow .regs)) (c .flow .regs) r lr g
+            ∙ sym (wrote-new (c .goes k .result) new (wrote (lost′ k) left b 0 (c .flow .regs)) (c .flow .regs) r lr g)
         go r lr h (no n) =
             let m = kept-resume (c .flow .regs) R (c .goes k) r lr h (omega arith) in
             wrote-kept (c .goes k .result) new (wrote (lost k) left a 0 (c .flow .regs)) (c .flow .regs) r lr (omega arith)
@@ -100,9 +119,14 @@ module _ (c : Frame) (start : ℕ) (R : ℕ → ℕ) (sh : Shelters c start R) w
 
     caught : (left : List ℕ) (i : ℕ) (t : Bool) → c .level k ≡ t
         → (start ≤ cond t (getD (c .goes k .handlers) i (c .flow .size)) (c .flow .size))
-        × AgreeAt (cond t (getD (c .goes k .handlers) i (c .flow .size)) (c .flow .size)) (fileAt c lost (thrown left i) k a) (fileAt c lost′ (thrown left i) k b)
+        × AgreeAt (cond t (getD (c .goes k .handlers) i (c .flow .size)) (c .flow .size)) (fileAt c lost (thrown left i) k a)
+        (fileAt c lost′ (thrown left i) k b)
     caught left i false q = (sh .inside, at-end (fileAt c lost (thrown left i) k a) (fileAt c lost′ (thrown left i) k b))
-    caught left i true q = ⊎-elim (λ p. (omega (arith, sh .inside), λ r lr h. absurd (omega (arith, h, ap (λ (x : ℕ). bit (R x) r) p, ap (λ (x : ℕ). bit x r) (sh .solves .last (c .flow .size) (le-refl (c .flow .size))), bit-zero r))))
+    caught left i true q = ⊎-elim (λ p. (
+      omega (arith, sh .inside),
+      λ r lr h. absurd
+          (omega (arith, h, ap (λ (x : ℕ). bit (R x) r) p, ap (λ (x : ℕ). bit x r) (sh .solves .last (c .flow .size) (le-refl (c .flow .size))), bit-zero r)),
+    ))
         (λ m. (
           sh .catches k 0 _ lo hi q m .0,
           λ r lr h.
@@ -121,7 +145,8 @@ module _ (c : Frame) (start : ℕ) (R : ℕ → ℕ) (sh : Shelters c start R) w
       → nested c lost events k a ≡ nested c lost′ events k b
   unfolding nested
   nested-same lost lost′ sp sp′ [] k a b lo e = refl
-  nested-same lost lost′ sp sp′ (v ∷ events) k a b lo e = go (decLt k (c .flow .size)) (λ l w. nested-same lost lost′ sp sp′ events (nextAt c lost v k) (fileAt c lost v k a) (fileAt c lost′ v k b) l w)
+  nested-same lost lost′ sp sp′ (v ∷ events) k a b lo e = go (decLt k (c .flow .size))
+      (λ l w. nested-same lost lost′ sp sp′ events (nextAt c lost v k) (fileAt c lost v k a) (fileAt c lost′ v k b) l w)
     where
       on : List (ℕ × List ℕ)
       on = (k, valuesOf (c .flow) (readAt c lost v k) a) ∷ nested c lost events (nextAt c lost v k) (fileAt c lost v k a)
@@ -132,7 +157,8 @@ module _ (c : Frame) (start : ℕ) (R : ℕ → ℕ) (sh : Shelters c start R) w
       go : Dec (k < c .flow .size) → (start ≤ nextAt c lost v k → AgreeAt (nextAt c lost v k) (fileAt c lost v k a) (fileAt c lost′ v k b)
           → nested c lost events (nextAt c lost v k) (fileAt c lost v k a) ≡ nested c lost′ events (nextAt c lost v k) (fileAt c lost′ v k b))
           → cond (ltb k (c .flow .size)) on [] ≡ cond (ltb k (c .flow .size)) on′ []
-      go (no n) rec = ap (λ (t : Bool). cond t on []) (le-ltb k (c .flow .size) (omega arith)) ∙ sym (ap (λ (t : Bool). cond t on′ []) (le-ltb k (c .flow .size) (omega arith)))
+      go (no n) rec = ap (λ (t : Bool). cond t on []) (le-ltb k (c .flow .size) (omega arith))
+          ∙ sym (ap (λ (t : Bool). cond t on′ []) (le-ltb k (c .flow .size) (omega arith)))
       go (yes hi) rec =
           let w = next-same lost lost′ sp sp′ k lo hi a b e v in
           ap (λ (t : Bool). cond t on []) (lt-ltb k (c .flow .size) hi)
@@ -153,16 +179,19 @@ module _ (c : Frame) (start : ℕ) (R : ℕ → ℕ) (sh : Shelters c start R) w
       over a b = nested-same lost undisturbed sp (λ j r l q m. bit-zero r) events (c .flow .size) a b (sh .inside) (at-end a b)
 
       next : (e : Event) → k < start → ((file′ : List ℕ) (k′ : ℕ) → nested c lost events k′ file′ ≡ nested c undisturbed events k′ file′)
-          → nested c lost events (nextAt c lost e k) (fileAt c lost e k file) ≡ nested c undisturbed events (nextAt c undisturbed e k) (fileAt c undisturbed e k file)
+          → nested c lost events (nextAt c lost e k) (fileAt c lost e k file)
+          ≡ nested c undisturbed events (nextAt c undisturbed e k) (fileAt c undisturbed e k file)
       next (step choice new) l rec = rec (fileAfter (c .flow) k choice new file) (chosen (c .flow) k choice)
       next (back left new) l rec = rw (sh .early k l) (over (fileAt c lost (back left new) k file) (fileAt c undisturbed (back left new) k file))
-      next (thrown left handler) l rec = rw (sh .early k l) (over (fileAt c lost (thrown left handler) k file) (fileAt c undisturbed (thrown left handler) k file))
+      next (thrown left handler) l rec = rw (sh .early k l) (over (fileAt c lost (thrown left handler) k file)
+          (fileAt c undisturbed (thrown left handler) k file))
 
       seen : (e : Event) → readAt c lost e k ≡ readAt c undisturbed e k
       seen (step choice new) = refl
       seen (back left new) = refl
       seen (thrown left handler) = refl
 
-      go : Dec (k < start) → ((file′ : List ℕ) (k′ : ℕ) → nested c lost events k′ file′ ≡ nested c undisturbed events k′ file′) → nested c lost (v ∷ events) k file ≡ nested c undisturbed (v ∷ events) k file
+      go : Dec (k < start) → ((file′ : List ℕ) (k′ : ℕ) → nested c lost events k′ file′ ≡ nested c undisturbed events k′ file′)
+          → nested c lost (v ∷ events) k file ≡ nested c undisturbed (v ∷ events) k file
       go (no n) rec = same (omega arith)
       go (yes l) rec = ap₂ (λ (x : ℕ) (t : List (ℕ × List ℕ)). cond (ltb k (c .flow .size)) ((k, valuesOf (c .flow) x file) ∷ t) []) (seen v) (next v l rec)

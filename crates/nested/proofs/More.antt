@@ -26,9 +26,11 @@ soon-within : (f : Flow) (start : ℕ) → Closed f start → (S : ℕ → ℕ) 
     → (i k r : ℕ) → start ≤ k → bit (soon f i k) r ≤ bit (S k) r
 unfolding soon
 soon-within f start closed S big zero k r lo = omega (arith, bit-zero r)
-soon-within f start closed S big (suc i) k r lo = go (decLt k (f .size)) (λ hi. rowAt-mono f (soon f i) S k r (λ s m. soon-within f start closed S big i s r (closed k lo hi s m)))
+soon-within f start closed S big (suc i) k r lo = go (decLt k (f .size))
+    (λ hi. rowAt-mono f (soon f i) S k r (λ s m. soon-within f start closed S big i s r (closed k lo hi s m)))
   where
-    go : Dec (k < f .size) → (k < f .size → bit (rowAt f (soon f i) k) r ≤ bit (rowAt f S k) r) → bit (cond (ltb k (f .size)) (rowAt f (soon f i) k) 0) r ≤ bit (S k) r
+    go : Dec (k < f .size) → (k < f .size → bit (rowAt f (soon f i) k) r ≤ bit (rowAt f S k) r)
+        → bit (cond (ltb k (f .size)) (rowAt f (soon f i) k) 0) r ≤ bit (S k) r
     go (yes hi) rec = omega (arith, ap (λ (t : Bool). bit (cond t (rowAt f (soon f i) k) 0) r) (lt-ltb k (f .size) hi), rec hi, big k r lo hi)
     go (no n) rec = omega (arith, ap (λ (t : Bool). bit (cond t (rowAt f (soon f i) k) 0) r) (le-ltb k (f .size) (omega arith)), bit-zero r)
 
@@ -38,13 +40,15 @@ module _ (may : ℕ → Bool) (regs : ℕ) (w tries : List ℕ) where
   unfolding joined
   plain-in S k r = omega (arith, rowAt-bit (flow regs w) S k r, rowAt-bit (raising may regs w tries) S k r, bit-zero r)
 
-  module _ (first first′ : ℕ) (le : first ≤ count w) (le′ : first′ ≤ count w) (rows rows′ : List ℕ) (full lost full′ lost′ : ℕ) (a : Found (flow regs w) first rows full lost)
+  module _ (first first′ : ℕ) (le : first ≤ count w) (le′ : first′ ≤ count w) (rows rows′ : List ℕ) (full lost full′ lost′ : ℕ)
+      (a : Found (flow regs w) first rows full lost)
       (b : Found (raising may regs w tries) first′ rows′ full′ lost′) where
     -- at each position from where both sweeps began on
     pub more-rows : (k : ℕ) → first ≤ k → first′ ≤ k → row rows k ⊑ row rows′ k
     more-rows k lo lo′ r = omega (
       arith,
-      found-least (flow regs w) first le rows full lost a .least (soon (flow regs w) (count w)) (soon-solves (flow regs w) (startOf (flow regs w) first)) k (omega (arith, start-le (flow regs w) first)) r,
+      found-least (flow regs w) first le rows full lost a .least (soon (flow regs w) (count w)) (soon-solves (flow regs w) (startOf (flow regs w) first)) k
+          (omega (arith, start-le (flow regs w) first)) r,
       soon-within (flow regs w) start closed (row rows′) big (count w) k r (omega (arith, start-le (raising may regs w tries) first′)),
     )
       where
@@ -61,7 +65,8 @@ module _ (may : ℕ → Bool) (regs : ℕ) (w tries : List ℕ) where
         big j q l h = omega (arith, plain-in (row rows′) j q, ap (λ (x : ℕ). bit x q) (solves .each j l h))
 
     -- so lists only grow
-    pub more-kept : (v : Level) → first ≤ v .resume → first′ ≤ v .resume → ((h : ℕ) → In h (v .handlers) → (first ≤ h) × (first′ ≤ h)) → (r : ℕ) → In r (kept regs (row rows) v) → In r (kept regs (row rows′) v)
+    pub more-kept : (v : Level) → first ≤ v .resume → first′ ≤ v .resume → ((h : ℕ) → In h (v .handlers) → (first ≤ h) × (first′ ≤ h)) → (r : ℕ)
+        → In r (kept regs (row rows) v) → In r (kept regs (row rows′) v)
     more-kept v l l′ hs r m =
         let (k, e, lr, b) = kept-only regs (row rows) v r m in
         ⊎-elim

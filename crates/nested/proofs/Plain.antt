@@ -37,7 +37,8 @@ module _ (regs : ℕ) (w : List ℕ) (tidy : Tidy w) where
   unfolding rowAt
   row-plain R k hi = ap (onto R (bitOr (setOf regs (usedAt w k)) (minus (joined R (afterAt w k)) (setOf regs (givenAt w k))))) (none-raises k hi)
 
-  module _ (bits : ℕ) (wide : Bool) (valid : Valid w) (rows : List ℕ) (full lost : ℕ) (found : Found (flow regs w) (firstOf bits wide regs w) rows full lost) where
+  module _ (bits : ℕ) (wide : Bool) (valid : Valid w) (rows : List ℕ) (full lost : ℕ)
+      (found : Found (flow regs w) (firstOf bits wide regs w) rows full lost) where
     pub no-try : Sheltered (frame (levels w) regs w []) (λ k. kept regs (row rows) (levelOf regs w [] k))
     no-try = sheltered (frame (levels w) regs w []) start (row rows)
         (shelters (levels w) regs w [] (λ k e. e) valid start (row rows) closed solves low (λ k l. none k l (isLevel (insAt w k)) refl))
@@ -55,7 +56,8 @@ module _ (regs : ℕ) (w : List ℕ) (tidy : Tidy w) where
         solves = record { last = sol .last; each = λ k lo hi. sol .each k lo hi ∙ sym (row-plain (row rows) k hi) }
 
         closed : Closed (raising (levels w) regs w []) start
-        closed k lo hi s m = start-closed (flow regs w) (firstOf bits wide regs w) k lo hi s (subst (λ (l : List ℕ). In s (l ++ afterAt w k)) (none-raises k hi) m)
+        closed k lo hi s m = start-closed (flow regs w) (firstOf bits wide regs w) k lo hi s
+            (subst (λ (l : List ℕ). In s (l ++ afterAt w k)) (none-raises k hi) m)
 
         none : (k : ℕ) → k < start → (t : Bool) → isLevel (insAt w k) ≡ t → t ≡ false
         none k l true e = absurd (omega (arith, start-le (flow regs w) (firstOf bits wide regs w), before bits wide regs w k (omega (arith, low)) e))

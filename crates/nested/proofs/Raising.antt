@@ -35,7 +35,8 @@ use Rattle.nested.specs.Raising.{stranded, raisesAt, raising, levels, ar
 
 -- the equation as it is read: used, and after without given-up, and the handlers' rows whole
 pub row-reads : (may : ℕ → Bool) (regs : ℕ) (w tries : List ℕ) (R : ℕ → ℕ) (k : ℕ)
-    → rowAt (raising may regs w tries) R k ≡ bitOr (bitOr (setOf regs (usedAt w k)) (minus (joined R (afterAt w k)) (setOf regs (givenAt w k)))) (joined R (raisesAt may w tries k))
+    → rowAt (raising may regs w tries) R k ≡ bitOr (bitOr (setOf regs (usedAt w k)) (minus (joined R (afterAt w k)) (setOf regs (givenAt w k))))
+    (joined R (raisesAt may w tries k))
 unfolding rowAt
 row-reads may regs w tries R k = bit-ext _ _ (λ r. onto-bit R r (raisesAt may w tries k) plain ∙ sym (or-bit plain (joined R (raisesAt may w tries k)) r))
   where
@@ -51,7 +52,8 @@ or-true false b e = inr e
 -- a fact of each of the four calls is one of all calls
 call-cases : (P : ℕ → Type 0) → P CallGlobalR → P CallR → P CallMethodR → P CallSpreadR → (o : ℕ) → isCall o ≡ true → P o
 call-cases P p q r s o e = ⊎-elim
-    (λ h. ⊎-elim (λ h′. ⊎-elim (λ g. subst P (sym (eqb-true o CallGlobalR g)) p) (λ g. subst P (sym (eqb-true o CallR g)) q) (or-true (eqb o CallGlobalR) (eqb o CallR) h′))
+    (λ h. ⊎-elim (λ h′. ⊎-elim (λ g. subst P (sym (eqb-true o CallGlobalR g)) p) (λ g. subst P (sym (eqb-true o CallR g)) q)
+    (or-true (eqb o CallGlobalR) (eqb o CallR) h′))
     (λ g. subst P (sym (eqb-true o CallMethodR g)) r) (or-true (eqb o CallGlobalR || eqb o CallR) (eqb o CallMethodR) h))
     (λ g. subst P (sym (eqb-true o CallSpreadR g)) s) (or-true (eqb o CallGlobalR || eqb o CallR || eqb o CallMethodR) (eqb o CallSpreadR) e)
 
@@ -131,7 +133,8 @@ bears-other o e =
     (go (eqb o StoreTopR) (eqb o UnpackR) (eqb o WithEnter) (eqb o WithExit) (eqb o WithJudge) (eqb o ForIterR) u n x, s)
   where
     go : (s u n x j f : Bool) → u ≡ false → n ≡ false → x ≡ false → orderly
-        (cond (s || false) Store (cond (u || false) Unpack (cond (n || false) Enter (cond (x || false) Exit (cond (j || false) Judge (cond (f || false) For Plain)))))) ≡ true
+        (cond (s || false) Store (cond (u || false) Unpack (cond (n || false) Enter
+        (cond (x || false) Exit (cond (j || false) Judge (cond (f || false) For Plain)))))) ≡ true
     go true u n x j f hu hn hx = refl
     go false true n x j f hu hn hx = absurd (false≢true (sym hu))
     go false false true x j f hu hn hx = absurd (false≢true (sym hn))
@@ -177,7 +180,8 @@ module _ (regs : ℕ) (w : List ℕ) (k : ℕ) where
 
   next-after : stops (insAt w k .op) ≡ false → In (k + 1) (afterAt w k)
   unfolding afterAt
-  next-after e = go (eqb (insAt w k .op) ReturnR) (eqb (insAt w k .op) Jump) (isJump (insAt w k)) (min (insAt w k .a) (count w)) (min (insAt w k .a) (count w) ∷ []) e
+  next-after e = go (eqb (insAt w k .op) ReturnR) (eqb (insAt w k .op) Jump) (isJump (insAt w k)) (min (insAt w k .a) (count w))
+      (min (insAt w k .a) (count w) ∷ []) e
     where
       go : (p q j : Bool) (t : ℕ) (rest : List ℕ) → (p || q) ≡ false → In (k + 1) (cond p [] (cond q (t ∷ []) (cond j ((k + 1) ∷ rest) ((k + 1) ∷ []))))
       go true q j t rest e′ = absurd (false≢true (sym e′))
@@ -196,14 +200,23 @@ module _ (regs : ℕ) (w : List ℕ) (k : ℕ) where
 module _ (may : ℕ → Bool) (regs : ℕ) (w tries : List ℕ) (covers : (k : ℕ) → isLevel (insAt w k) ≡ true → may k ≡ true) (valid : Valid w)
     (start : ℕ) (R : ℕ → ℕ) (closed : Closed (raising may regs w tries) start) (sol : Solution (raising may regs w tries) start R) where
   module _ (k : ℕ) (lo : start ≤ k) (hi : k < count w) (r : ℕ) where
-    has-row : bit (R k) r ≡ max (max (bit (setOf regs (usedAt w k)) r) (bit (joined R (afterAt w k)) r - bit (setOf regs (givenAt w k)) r)) (bit (joined R (raisesAt may w tries k)) r)
+    has-row : bit (R k) r ≡ max (max (bit (setOf regs (usedAt w k)) r) (bit (joined R (afterAt w k)) r - bit (setOf regs (givenAt w k)) r))
+        (bit (joined R (raisesAt may w tries k)) r)
     has-row = ap (λ (x : ℕ). bit x r) (sol .each k lo hi) ∙ rowAt-bit (raising may regs w tries) R k r
 
     uses : bit (setOf regs (usedAt w k)) r ≤ bit (R k) r
     uses = omega (arith, has-row)
 
     on : stops (insAt w k .op) ≡ false → bit (R (k + 1)) r ≤ max (bit (setOf regs (givenAt w k)) r) (bit (R k) r)
-    on e = omega (arith, has-row, joined-in R r (afterAt w k) (k + 1) (next-after regs w k e), bit-lt (R (k + 1)) r, bit-lt (joined R (afterAt w k)) r, bit-lt (setOf regs (givenAt w k)) r)
+    on e = omega (
+      arith,
+      has-row,
+      joined-in R r (afterAt w k) (k + 1) (next-after regs w k e),
+      bit-lt (R (k + 1)) r,
+      bit-lt (joined R (afterAt w k)) r,
+      bit-lt
+          (setOf regs (givenAt w k)) r,
+    )
 
     through : stops (insAt w k .op) ≡ false → givenBy (insAt w k) ≡ [] → bit (R (k + 1)) r ≤ bit (R k) r
     through e g = omega (arith, on e, none-given regs w k g r)
@@ -225,7 +238,11 @@ module _ (may : ℕ → Bool) (regs : ℕ) (w tries : List ℕ) (covers : (k : �
     past e = omega (arith, has-row, joined-in R r (raisesAt may w tries k) (k + 1) (past-in e))
 
     catch : isLevel (insAt w k) ≡ true → (h : ℕ) → In h (handlersOf (count w) k tries) → (start ≤ h) × (bit (R h) r ≤ bit (R k) r)
-    catch e h m = (omega (arith, handlers-past (count w) k hi tries h m .0), omega (arith, has-row, joined-in R r (raisesAt may w tries k) h (level-raises e h m)))
+    catch e h m = (
+      omega (arith, handlers-past (count w) k hi tries h m .0),
+      omega
+          (arith, has-row, joined-in R r (raisesAt may w tries k) h (level-raises e h m)),
+    )
 
     -- a wide call has ArgsR after it, and what that reads and what comes after it are the call's
     module _ (e : wide (insAt w k) ≡ true) where
@@ -263,9 +280,11 @@ module _ (may : ℕ → Bool) (regs : ℕ) (w tries : List ℕ) (covers : (k : �
   unfolding isLevel
   other-bears k e et ec = ⊎-elim
       (λ h. ⊎-elim
-      (λ h′. ⊎-elim (λ g. absurd (false≢true (sym (neither (isCall o) (eqb o JumpIfFalseR) ec et) ∙ g))) (λ g. inl (subst Bears (sym (eqb-true o GetAttrR g)) bears-attr)) (or-true (isCall o || eqb o JumpIfFalseR) (eqb o GetAttrR) h′))
+      (λ h′. ⊎-elim (λ g. absurd (false≢true (sym (neither (isCall o) (eqb o JumpIfFalseR) ec et)
+      ∙ g))) (λ g. inl (subst Bears (sym (eqb-true o GetAttrR g)) bears-attr)) (or-true (isCall o || eqb o JumpIfFalseR) (eqb o GetAttrR) h′))
       (λ g. inl (subst Bears (sym (eqb-true o Call g)) bears-stack)) (or-true (isCall o || eqb o JumpIfFalseR || eqb o GetAttrR) (eqb o Call) h))
-      (λ g. marked (eqb o ReturnR || eqb o Jump || eqb o UnpackR || eqb o WithEnter || eqb o WithExit) refl g) (or-true (isCall o || eqb o JumpIfFalseR || eqb o GetAttrR || eqb o Call) (dunder (insAt w k)) e)
+      (λ g. marked (eqb o ReturnR || eqb o Jump || eqb o UnpackR || eqb o WithEnter || eqb o WithExit) refl g)
+      (or-true (isCall o || eqb o JumpIfFalseR || eqb o GetAttrR || eqb o Call) (dunder (insAt w k)) e)
     where
       o : ℕ
       o = insAt w k .op
@@ -278,7 +297,8 @@ module _ (may : ℕ → Bool) (regs : ℕ) (w tries : List ℕ) (covers : (k : �
       neither : (a b : Bool) → a ≡ false → b ≡ false → (a || b) ≡ false
       neither a b p q = rw (p, q)
 
-  resume-has : (k : ℕ) → start ≤ k → k < count w → isLevel (insAt w k) ≡ true → (r : ℕ) → (start ≤ resumeOf w k) × (bit (R (resumeOf w k)) r ≤ max (bit (alone regs (resultAt w k)) r) (bit (R k) r))
+  resume-has : (k : ℕ) → start ≤ k → k < count w → isLevel (insAt w k) ≡ true → (r : ℕ)
+      → (start ≤ resumeOf w k) × (bit (R (resumeOf w k)) r ≤ max (bit (alone regs (resultAt w k)) r) (bit (R k) r))
   unfolding storeOf
   resume-has k lo hi e r = (omega (arith, resume-in w k valid hi .0), go (eqb o JumpIfFalseR) (isCall o) refl refl)
     where
@@ -305,7 +325,8 @@ module _ (may : ℕ → Bool) (regs : ℕ) (w tries : List ℕ) (covers : (k : �
       store : isCall o ≡ true → bit (R (storeOf w k)) r ≤ bit (R k) r
       store ec = called (wide (insAt w k)) refl ec
 
-      other : (u : Bool) → eqb o Call ≡ u → eqb o JumpIfFalseR ≡ false → isCall o ≡ false → bit (R (k + 1)) r ≤ max (bit (alone regs (resultAt w k)) r) (bit (R k) r)
+      other : (u : Bool) → eqb o Call ≡ u → eqb o JumpIfFalseR ≡ false → isCall o ≡ false
+          → bit (R (k + 1)) r ≤ max (bit (alone regs (resultAt w k)) r) (bit (R k) r)
       other u eu et ec = ⊎-elim (λ b. by u eu b) (λ s. omega (arith, past k lo hi r s)) (other-bears k e et ec)
         where
           by : (u : Bool) → eqb o Call ≡ u → Bears o → bit (R (k + 1)) r ≤ max (bit (alone regs (resultAt w k)) r) (bit (R k) r)

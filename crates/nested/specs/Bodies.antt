@@ -26,7 +26,8 @@ tries = 5 ∷ 9 ∷ []
 
 -- Raise, which is no level: 0 LoadGlobalR a5; 1 CallGlobalR a4 x0; 2 StoreTopR a1; 3 SetupExcept 6; 4 Raise; 5 ReturnR b1; 6 ReturnR b5; try (3, 6)
 abbrev pub raised : List ℕ
-raised = ins LoadGlobalR 5 1 0 ++ ins CallGlobalR 4 0 0 ++ ins StoreTopR 1 0 0 ++ ins SetupExcept 6 0 0 ++ ins Raise 0 0 0 ++ ins ReturnR 0 1 0 ++ ins ReturnR 0 5 0
+raised = ins LoadGlobalR 5 1 0 ++ ins CallGlobalR 4 0 0 ++ ins StoreTopR 1 0 0 ++ ins SetupExcept 6 0 0 ++ ins Raise 0 0 0 ++ ins ReturnR 0 1 0 ++ ins ReturnR
+    0 5 0
 
 -- a mark that is not tidy: 0 CallGlobalR; 1 StoreTopR a0; 2 ReturnR b0 with the dunder mark, a level that resumes at 3; 3 ReturnR b2
 abbrev pub untidy : List ℕ

@@ -34,13 +34,15 @@ width : Width 64 16
 width = record { some = omega arith; more = omega arith; few = omega arith; span = refl }
 
 -- no register at or above the count appears
-bound : (all : Bool) (regs : ℕ) (w tries buf : List ℕ) (full lost : ℕ) → Found (raising (mays all w) regs w tries) (beginsAt regs w) (rowsIn 64 regs w buf) full lost
+bound : (all : Bool) (regs : ℕ) (w tries buf : List ℕ) (full lost : ℕ)
+    → Found (raising (mays all w) regs w tries) (beginsAt regs w) (rowsIn 64 regs w buf) full lost
     → (k : ℕ) → row (rowsIn 64 regs w buf) k < 2 ^ regs
 unfolding firstOf
 bound all regs w tries buf full lost f =
     found-regs (raising (mays all w) regs w tries) 0 zero-le (rowsIn 64 regs w buf) full lost f (λ j. set-lt regs regs (usedAt w j) (le-refl regs))
 
-module _ (regs : ℕ) (w tries rows offsets : List ℕ) (n : ℕ) (h : stagesOf 64 w regs tries (length rows) (length offsets) ≡ stage.Count n) (m : ℕ) (e : m ≡ wordsFor 64 regs) where
+module _ (regs : ℕ) (w tries rows offsets : List ℕ) (n : ℕ) (h : stagesOf 64 w regs tries (length rows) (length offsets) ≡ stage.Count n) (m : ℕ) (e : m
+    ≡ wordsFor 64 regs) where
   pub part-mul : Fits w64 ((count w + 1) * m)
   part-mul = kept.part-mul 64 16 width regs w tries rows offsets n h m e
 
@@ -65,20 +67,26 @@ module _ (regs : ℕ) (w tries rows offsets : List ℕ) (n : ℕ) (h : stagesOf 
     found = subst (λ (x : ℕ). Found (raising (mays all w) regs w tries) 0 (rowsOf 64 x (suc (count w)) part) full 0) e f
 
     pub ready : Small 64 (part ++ drop ((count w + 1) * m) rows) → Ready 64 16 regs w m (part ++ drop ((count w + 1) * m) rows)
-    ready = kept.ready-by 64 16 width regs w tries rows offsets n h m e (raising (mays all w) regs w tries) (beginsAt regs w) (bound all regs w tries) part full 0 found l
+    ready = kept.ready-by 64 16 width regs w tries rows offsets n h m e (raising (mays all w) regs w tries) (beginsAt regs w)
+        (bound all regs w tries) part full 0 found l
 
     pub new-long : length (part ++ drop ((count w + 1) * m) rows) ≡ length rows
-    new-long = kept.long-by 64 16 width regs w tries rows offsets n h m e (raising (mays all w) regs w tries) (beginsAt regs w) (bound all regs w tries) part full 0 found l
+    new-long = kept.long-by 64 16 width regs w tries rows offsets n h m e (raising (mays all w) regs w tries) (beginsAt regs w)
+        (bound all regs w tries) part full 0 found l
 
-    module _ (list : List ℕ) (total : ℕ) (q : total ≡ length (listsTo regs w tries (rowsOf 64 m (suc (count w)) (part ++ drop ((count w + 1) * m) rows)) (count w))) where
+    module _ (list : List ℕ) (total : ℕ) (q : total ≡ length (listsTo regs w tries (rowsOf 64 m (suc (count w)) (part ++ drop ((count w + 1) * m) rows))
+        (count w))) where
       pub out-short : length list < total → Outcome w regs tries all rows offsets list (part ++ drop ((count w + 1) * m) rows) offsets list (No (Short 3 total))
       out-short =
-          kept.short-by 64 16 width regs w tries rows offsets n h m e (raising (mays all w) regs w tries) (beginsAt regs w) (bound all regs w tries) part full 0 found l list total q
+          kept.short-by 64 16 width regs w tries rows offsets n h m e (raising (mays all w) regs w tries) (beginsAt regs w)
+          (bound all regs w tries) part full 0 found l list total q
 
-      pub out-told : total ≤ length list → (o l′ : List ℕ) → Filled regs w tries (rowsOf 64 m (suc (count w)) (part ++ drop ((count w + 1) * m) rows)) offsets list o l′
+      pub out-told : total ≤ length list → (o l′ : List ℕ) → Filled regs w tries
+          (rowsOf 64 m (suc (count w)) (part ++ drop ((count w + 1) * m) rows)) offsets list o l′
           → Outcome w regs tries all rows offsets list (part ++ drop ((count w + 1) * m) rows) o l′ (Is total full 0)
       out-told =
-          kept.told-by 64 16 width regs w tries rows offsets n h m e (raising (mays all w) regs w tries) (beginsAt regs w) (bound all regs w tries) part full 0 found l list total q
+          kept.told-by 64 16 width regs w tries rows offsets n h m e (raising (mays all w) regs w tries) (beginsAt regs w)
+          (bound all regs w tries) part full 0 found l list total q
 
 -- the tests decide
 module _ (w : List ℕ) (regs : ℕ) (tries rows offsets : List ℕ) (v : Checked) (e : v ≡ stagesOf 64 w regs tries (length rows) (length offsets)) where

@@ -39,7 +39,8 @@ pub called-found : Found (raising (mays false body) 6 body tries) (beginsAt 6 bo
 unfolding minus joined rowAt sweep below tally value rowsOf page ruleOf kindsOf hasRole isJump cases caseOf usedBy givenBy storeOf overPending pastStore restores idle usedAt givenAt afterAt isLevel listed handlersOf added raisesAt firstOf resumeOf resultAt keptAt listsTo offsetsTo stagesOf checkOf rules firstBadTry tryKept first many every
 called-found = record { sweeps = done (last-straight (raising (mays false body) 6 body tries) 0 (replicate 11 0) refl); left = refl }
 
-pub called : Outcome body 6 tries false (replicate 11 9) (replicate 11 9) (replicate 2 9) found-rows (0 ∷ 0 ∷ 0 ∷ 1 ∷ 1 ∷ 1 ∷ 1 ∷ 2 ∷ 2 ∷ 2 ∷ 2 ∷ []) (5 ∷ 5 ∷ []) (Is 2 1 0)
+pub called : Outcome body 6 tries false (replicate 11 9) (replicate 11 9) (replicate 2 9) found-rows (0 ∷ 0 ∷ 0 ∷ 1 ∷ 1 ∷ 1 ∷ 1 ∷ 2 ∷ 2 ∷ 2 ∷ 2 ∷ [])
+    (5 ∷ 5 ∷ []) (Is 2 1 0)
 unfolding minus joined rowAt sweep below tally value rowsOf page ruleOf kindsOf hasRole isJump cases caseOf usedBy givenBy storeOf overPending pastStore restores idle usedAt givenAt afterAt isLevel listed handlersOf added raisesAt firstOf resumeOf resultAt keptAt listsTo offsetsTo stagesOf checkOf rules firstBadTry tryKept first many every
 called = told refl (record { found = called-found; long = refl; past = refl }) (le-refl 2)
 
@@ -58,7 +59,8 @@ pub raise-all-found : Found (raising (mays true raised) 6 raised (3 ∷ 6 ∷ []
 unfolding minus joined rowAt sweep below tally value rowsOf page ruleOf kindsOf hasRole isJump cases caseOf usedBy givenBy storeOf overPending pastStore restores idle usedAt givenAt afterAt isLevel listed handlersOf added raisesAt firstOf resumeOf resultAt keptAt listsTo offsetsTo stagesOf checkOf rules firstBadTry tryKept first many every
 raise-all-found = record { sweeps = done (last-straight (raising (mays true raised) 6 raised (3 ∷ 6 ∷ [])) 0 (replicate 8 0) refl); left = refl }
 
-pub raise-all : Outcome raised 6 (3 ∷ 6 ∷ []) true (replicate 8 9) (replicate 8 9) (9 ∷ []) (0 ∷ 32 ∷ 32 ∷ 34 ∷ 34 ∷ 34 ∷ 32 ∷ 0 ∷ []) (0 ∷ 0 ∷ 1 ∷ 1 ∷ 1 ∷ 1 ∷ 1 ∷ 1 ∷ []) (5 ∷ []) (Is 1 1 0)
+pub raise-all : Outcome raised 6 (3 ∷ 6 ∷ []) true (replicate 8 9) (replicate 8 9) (9 ∷ []) (0 ∷ 32 ∷ 32 ∷ 34 ∷ 34 ∷ 34 ∷ 32 ∷ 0 ∷ [])
+    (0 ∷ 0 ∷ 1 ∷ 1 ∷ 1 ∷ 1 ∷ 1 ∷ 1 ∷ []) (5 ∷ []) (Is 1 1 0)
 unfolding minus joined rowAt sweep below tally value rowsOf page ruleOf kindsOf hasRole isJump cases caseOf usedBy givenBy storeOf overPending pastStore restores idle usedAt givenAt afterAt isLevel listed handlersOf added raisesAt firstOf resumeOf resultAt keptAt listsTo offsetsTo stagesOf checkOf rules firstBadTry tryKept first many every
 raise-all = told refl (record { found = raise-all-found; long = refl; past = refl }) (le-refl 1)
 
@@ -66,14 +68,32 @@ raise-all = told refl (record { found = raise-all-found; long = refl; past = ref
 
 pub marked : Outcome untidy 3 [] false (replicate 5 9) (replicate 5 9) (replicate 2 9) (4 ∷ 4 ∷ 5 ∷ 4 ∷ 0 ∷ []) (0 ∷ 1 ∷ 1 ∷ 2 ∷ 2 ∷ []) (2 ∷ 2 ∷ []) (Is 2 1 0)
 unfolding minus joined rowAt sweep below tally value rowsOf page ruleOf kindsOf hasRole isJump cases caseOf usedBy givenBy storeOf overPending pastStore restores idle usedAt givenAt afterAt isLevel listed handlersOf added raisesAt firstOf resumeOf resultAt keptAt listsTo offsetsTo stagesOf checkOf rules firstBadTry tryKept first many every
-marked = told refl (record { found = record { sweeps = done (last-straight (raising (mays false untidy) 3 untidy []) 0 (replicate 5 0) refl); left = refl }; long = refl; past = refl }) (le-refl 2)
+marked = told refl (record {
+  found = record {
+    sweeps = done (last-straight (raising (mays false untidy) 3 untidy []) 0 (replicate 5 0) refl);
+    left =
+        refl;
+  };
+  long = refl;
+  past = refl;
+}) (le-refl 2)
 
 -- ---- a handler wants what its level gives up: 0 LoadGlobalR a1; 1 CallGlobalR; 2 StoreTopR a2; 3 SetupExcept 6; 4 GetAttrR a1 b2; 5 ReturnR b1; 6 ReturnR b1; try (3, 6)
 
 abbrev wanted : List ℕ
-wanted = ins LoadGlobalR 1 7 0 ++ ins CallGlobalR 4 0 0 ++ ins StoreTopR 2 0 0 ++ ins SetupExcept 6 0 0 ++ ins GetAttrR 1 2 0 ++ ins ReturnR 0 1 0 ++ ins ReturnR 0 1 0
+wanted = ins LoadGlobalR 1 7 0 ++ ins CallGlobalR 4 0 0 ++ ins StoreTopR 2 0 0 ++ ins SetupExcept 6 0 0 ++ ins GetAttrR 1 2 0 ++ ins ReturnR 0 1 0 ++ ins
+    ReturnR 0 1 0
 
 -- r1, which 4 would write, is kept at 1 and at 4 as it was before: an exception leaves before it is given up
-pub wanted-old : Outcome wanted 3 (3 ∷ 6 ∷ []) false (replicate 8 9) (replicate 8 9) (replicate 2 9) (0 ∷ 2 ∷ 2 ∷ 6 ∷ 6 ∷ 2 ∷ 2 ∷ 0 ∷ []) (0 ∷ 0 ∷ 1 ∷ 1 ∷ 1 ∷ 2 ∷ 2 ∷ 2 ∷ []) (1 ∷ 1 ∷ []) (Is 2 1 0)
+pub wanted-old : Outcome wanted 3 (3 ∷ 6 ∷ []) false (replicate 8 9) (replicate 8 9) (replicate 2 9) (0 ∷ 2 ∷ 2 ∷ 6 ∷ 6 ∷ 2 ∷ 2 ∷ 0 ∷ [])
+    (0 ∷ 0 ∷ 1 ∷ 1 ∷ 1 ∷ 2 ∷ 2 ∷ 2 ∷ []) (1 ∷ 1 ∷ []) (Is 2 1 0)
 unfolding minus joined rowAt sweep below tally value rowsOf page ruleOf kindsOf hasRole isJump cases caseOf usedBy givenBy storeOf overPending pastStore restores idle usedAt givenAt afterAt isLevel listed handlersOf added raisesAt firstOf resumeOf resultAt keptAt listsTo offsetsTo stagesOf checkOf rules firstBadTry tryKept first many every
-wanted-old = told refl (record { found = record { sweeps = done (last-straight (raising (mays false wanted) 3 wanted (3 ∷ 6 ∷ [])) 0 (replicate 8 0) refl); left = refl }; long = refl; past = refl }) (le-refl 2)
+wanted-old = told refl (record {
+  found = record {
+    sweeps = done (last-straight (raising (mays false wanted) 3 wanted (3 ∷ 6 ∷ [])) 0
+        (replicate 8 0) refl);
+    left = refl;
+  };
+  long = refl;
+  past = refl;
+}) (le-refl 2)

@@ -44,7 +44,11 @@ module _ (l : List ℕ) (r : ℕ) where
     seek-found h e = sym (sym (p .same) ∙ seek-next h ∙ ap (λ (t : Bool). t || among r (drop (i + 1) l)) (eq-eqb r (getD l i 0) (sym e)))
 
     pub seek-more : i < length l → (getD l i 0 ≡ r → ⊥) → Seeking l r (i + 1)
-    seek-more h n = record { inside = omega arith; same = sym (seek-next h ∙ ap (λ (t : Bool). t || among r (drop (i + 1) l)) (ne-eqb r (getD l i 0) (λ e. n (sym e)))) ∙ p .same }
+    seek-more h n = record {
+      inside = omega arith;
+      same = sym (seek-next h
+          ∙ ap (λ (t : Bool). t || among r (drop (i + 1) l)) (ne-eqb r (getD l i 0) (λ e. n (sym e)))) ∙ p .same;
+    }
 
     pub seek-end : length l ≤ i → false ≡ among r l
     seek-end h = sym (sym (p .same) ∙ ap (among r) (past-end l i (p .inside) h))
@@ -62,7 +66,8 @@ module _ (plain list old : List ℕ) where
   expose-start = record { le = omega arith; inside = omega arith; long = refl; whole = refl; past = refl }
 
   module _ (m i : ℕ) (out : List ℕ) (p : Exposing plain list old m i out) where
-    expose-next : (t : Bool) → i < length list → t ≡ among (getD list i 0) plain → exposed plain (drop i list) ≡ cond t (exposed plain (drop (i + 1) list)) (getD list i 0 ∷ exposed plain (drop (i + 1) list))
+    expose-next : (t : Bool) → i < length list → t ≡ among (getD list i 0) plain
+        → exposed plain (drop i list) ≡ cond t (exposed plain (drop (i + 1) list)) (getD list i 0 ∷ exposed plain (drop (i + 1) list))
     unfolding exposed
     expose-next t h e = ap (exposed plain) (drop-cons list i 0 h ∙ ap (λ (x : ℕ). getD list i 0 ∷ drop x list) (sym (add-one i)))
         ∙ ap (λ (b : Bool). cond b (exposed plain (drop (i + 1) list)) (getD list i 0 ∷ exposed plain (drop (i + 1) list))) (sym e)
@@ -76,7 +81,8 @@ module _ (plain list old : List ℕ) where
       past = p .past;
     }
 
-    pub expose-put : (t : Bool) → i < length list → length list ≤ length old → t ≡ among (getD list i 0) plain → t ≡ false → Exposing plain list old (m + 1) (i + 1) (set out m (getD list i 0))
+    pub expose-put : (t : Bool) → i < length list → length list ≤ length old → t ≡ among (getD list i 0) plain → t ≡ false
+        → Exposing plain list old (m + 1) (i + 1) (set out m (getD list i 0))
     expose-put t h fits e q = record {
       le = omega (arith, p .le);
       inside = omega arith;
@@ -94,10 +100,15 @@ module _ (plain list old : List ℕ) where
         front = rw (add-one m) (take-suc-set out m (getD list i 0) room)
 
         later : (m : ℕ) (a b : List ℕ) → drop m a ≡ drop m b → drop (suc m) a ≡ drop (suc m) b
-        later m a b e′ = sym (drop-drop 1 m a ∙ ap (λ (x : ℕ). drop x a) (add-one m)) ∙ ap (drop 1) e′ ∙ (drop-drop 1 m b ∙ ap (λ (x : ℕ). drop x b) (add-one m))
+        later m a b e′ = sym (drop-drop 1 m a ∙ ap (λ (x : ℕ). drop x a) (add-one m)) ∙ ap (drop 1) e′
+            ∙ (drop-drop 1 m b ∙ ap (λ (x : ℕ). drop x b) (add-one m))
 
     pub expose-end : length list ≤ i → length list ≤ length old → Exposes plain list old out m
-    expose-end h fits = record { many = sym (ap length all ∙ size); put = sym (take-append-drop m out) ∙ ap₂ _++_ (sym all) (p .past ∙ ap (λ (x : ℕ). drop x old) (sym (ap length all ∙ size))) }
+    expose-end h fits = record {
+      many = sym (ap length all ∙ size);
+      put = sym (take-append-drop m out)
+          ∙ ap₂ _++_ (sym all) (p .past ∙ ap (λ (x : ℕ). drop x old) (sym (ap length all ∙ size)));
+    }
       where
         all : exposed plain list ≡ take m out
         all = p .whole ∙ ap (λ (x : List ℕ). take m out ++ x) (ap (exposed plain) (past-end list i (p .inside) h) ∙ none) ∙ append-none (take m out)

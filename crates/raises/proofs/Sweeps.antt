@@ -48,7 +48,8 @@ module _ (words n regs k : ℕ) (tries rows : List ℕ) (s : Step) (may past : B
   plain = rowAt (stepFlow regs s) R k
 
   -- with row k + 1, if
-  with-next : (a : List ℕ) → k < n → Holds 64 a plain → bitOr (value 64 a) (cond past (value 64 (window words (k + 1) rows)) 0) ≡ bitOr plain (joined R (only past (k + 1)))
+  with-next : (a : List ℕ) → k < n → Holds 64 a plain → bitOr (value 64 a) (cond past (value 64 (window words (k + 1) rows)) 0)
+      ≡ bitOr plain (joined R (only past (k + 1)))
   with-next a l ha = ap₂ bitOr (ha .is) (one 64 words n k rows s past (k + 1) (omega arith))
 
   pub holds-level : (a b d : List ℕ) → k < n → may ≡ true → Holds 64 a (rowAt (stepFlow regs s) (row (rowsOf 64 words (suc n) rows)) k)
@@ -57,8 +58,10 @@ module _ (words n regs k : ℕ) (tries rows : List ℕ) (s : Step) (may past : B
       → Holds 64 d (rowAt (raisingStep may past n regs tries s) (row (rowsOf 64 words (suc n) rows)) k)
   unfolding rowAt
   holds-level a b d l e ha hb hd = rw e (as-set hd
-      (ap (λ (x : ℕ). bitOr x (joined R (handlersOf n k tries))) (hb .is ∙ with-next a l ha) ∙ or-assoc plain (joined R (only past (k + 1))) (joined R (handlersOf n k tries))
-      ∙ ap (bitOr plain) (sym (joined-append R (only past (k + 1)) (handlersOf n k tries))) ∙ sym (onto-is R (only past (k + 1) ++ handlersOf n k tries) plain)))
+      (ap (λ (x : ℕ). bitOr x (joined R (handlersOf n k tries))) (hb .is ∙ with-next a l ha)
+      ∙ or-assoc plain (joined R (only past (k + 1))) (joined R (handlersOf n k tries))
+      ∙ ap (bitOr plain) (sym (joined-append R (only past (k + 1)) (handlersOf n k tries)))
+      ∙ sym (onto-is R (only past (k + 1) ++ handlersOf n k tries) plain)))
 
   pub holds-plain : (a b : List ℕ) → k < n → may ≡ false → Holds 64 a (rowAt (stepFlow regs s) (row (rowsOf 64 words (suc n) rows)) k)
       → Holds 64 b (bitOr (value 64 a) (cond past (value 64 (window words (k + 1) rows)) 0))
@@ -70,7 +73,8 @@ module _ (words n regs k : ℕ) (tries rows : List ℕ) (s : Step) (may past : B
 
 pub ruleset holds = (holds-level, holds-plain)
 
-pub put-is : (words n k regs : ℕ) (tries rows : List ℕ) (s : Step) (may past : Bool) (out new : List ℕ) (changed : Bool) → k < n → regs ≤ words * 64 → Small 64 rows
+pub put-is : (words n k regs : ℕ) (tries rows : List ℕ) (s : Step) (may past : Bool) (out new : List ℕ) (changed : Bool) → k < n → regs ≤ words * 64
+    → Small 64 rows
     → Holds 64 new (rowAt (raisingStep may past n regs tries s) (row (rowsOf 64 words (suc n) rows)) k) → Stored rows (k * words) words new out changed
     → Put (raisingStep may past n regs tries s) (rowsOf 64 words (suc n) rows) k (rowsOf 64 words (suc n) out) changed
 put-is words n k regs tries rows s may past out new changed l le sr h st =
@@ -105,7 +109,8 @@ unfolding below
 below-past b [] m h = refl
 below-past b (x ∷ l) m h = ap (λ (t : Bool). t || below b (l ++ m)) (le-ltb x b (h x (List·Memᴰ·head refl))) ∙ below-past b l m (λ s i. h s (List·Memᴰ·tail i))
 
-pub below-same : (all : Bool) (w tries : List ℕ) (k b : ℕ) → k < count w → b ≤ k + 1 → below b (raisesAt (mays all w) w tries k ++ afterAt w k) ≡ below b (afterAt w k)
+pub below-same : (all : Bool) (w tries : List ℕ) (k b : ℕ) → k < count w → b ≤ k + 1
+    → below b (raisesAt (mays all w) w tries k ++ afterAt w k) ≡ below b (afterAt w k)
 unfolding raisesAt below
 below-same all w tries k b hi l = go (stranded (insAt w k)) (mays all w k)
   where
@@ -131,21 +136,36 @@ pub record Turn (all : Bool) (w : List ℕ) (regs : ℕ) (tries : List ℕ) (ful
 pub toGo : Bool → List ℕ → ℕ → List ℕ → ℕ → ℕ
 toGo all w regs tries full = togo (raising (mays all w) regs w tries) 0 full 0
 
-pub starts : (all : Bool) (w : List ℕ) (regs : ℕ) (tries : List ℕ) (words len : ℕ) (rows : List ℕ) → Valid w → rows ≡ replicate len 0 → Between all w regs tries 0 (rowsOf 64 words (suc (count w)) rows)
-starts all w regs tries words len rows v h = record { few = v .few; going = rw (h, rows-zero 64 words (zero-lt-suc 63) (suc (count w)) len) (going-start (raising (mays all w) regs w tries) 0 zero-le) }
+pub starts : (all : Bool) (w : List ℕ) (regs : ℕ) (tries : List ℕ) (words len : ℕ) (rows : List ℕ) → Valid w → rows ≡ replicate len 0
+    → Between all w regs tries 0 (rowsOf 64 words (suc (count w)) rows)
+starts all w regs tries words len rows v h = record {
+  few = v .few;
+  going =
+      rw (h, rows-zero 64 words (zero-lt-suc 63) (suc (count w)) len) (going-start (raising (mays all w) regs w tries) 0 zero-le);
+}
 
-pub sweep-starts : (all : Bool) (w : List ℕ) (regs : ℕ) (tries : List ℕ) (full : ℕ) (rows : List ℕ) → Between all w regs tries full rows → Turn all w regs tries full rows rows false false (count w)
-sweep-starts all w regs tries full rows b = record { few = b .few; going = b .going; part = part-start (raising (mays all w) regs w tries) 0 0 full 0 rows (b .going) }
+pub sweep-starts : (all : Bool) (w : List ℕ) (regs : ℕ) (tries : List ℕ) (full : ℕ) (rows : List ℕ) → Between all w regs tries full rows
+    → Turn all w regs tries full rows rows false false (count w)
+sweep-starts all w regs tries full rows b = record {
+  few = b .few;
+  going = b .going;
+  part =
+      part-start (raising (mays all w) regs w tries) 0 0 full 0 rows (b .going);
+}
 
-module _ {all : Bool} {w : List ℕ} {regs : ℕ} {tries : List ℕ} {full : ℕ} {rows₀ rows : List ℕ} {changed back : Bool} {k : ℕ} (p : Turn all w regs tries full rows₀ rows changed back k) where
+module _ {all : Bool} {w : List ℕ} {regs : ℕ} {tries : List ℕ} {full : ℕ} {rows₀ rows : List ℕ} {changed back : Bool} {k : ℕ}
+    (p : Turn all w regs tries full rows₀ rows changed back k) where
   pub step : {s : Step} → StepAt w (k - 1) s → 0 < k → k ≤ count w → {level past : Bool} {i : Ins} → i ≡ insAt w (k - 1) → level ≡ isLevel i → past ≡ stranded i
       → {out : List ℕ} {changed′ back′ : Bool}
-      → Put (raisingStep (all || level) past (count w) regs tries s) rows (k - 1) out changed′ → back′ ≡ goesBefore s k → Turn all w regs tries full rows₀ out (changed′ || changed) (back′ || back) (k - 1)
+      → Put (raisingStep (all || level) past (count w) regs tries s) rows (k - 1) out changed′ → back′ ≡ goesBefore s k
+      → Turn all w regs tries full rows₀ out (changed′ || changed) (back′ || back) (k - 1)
   step {s} h l hi {level} {past} {i} place e e′ {out} {changed′} {back′} put b = record {
     few = p .few;
     going = p .going;
-    part = part-step (raising (mays all w) regs w tries) 0 rows₀ rows changed back k (p .part) out changed′ back′ l (below-zero (raisesAt (mays all w) w tries (k - 1) ++ afterAt w (k - 1)))
-        (put-same all w tries regs (k - 1) s (all || level) past rows out changed′ (ap (λ (t : Bool). all || t) (e ∙ ap isLevel place)) (e′ ∙ ap stranded place) h put)
+    part = part-step (raising (mays all w) regs w tries) 0 rows₀ rows changed back k (p .part) out changed′ back′ l
+        (below-zero (raisesAt (mays all w) w tries (k - 1) ++ afterAt w (k - 1)))
+        (put-same all w tries regs (k - 1) s (all || level) past rows out changed′ (ap (λ (t : Bool). all || t) (e ∙ ap isLevel place)) (e′
+        ∙ ap stranded place) h put)
         (b ∙ below-step w (k - 1) s k h (omega arith) ∙ sym (below-same all w tries (k - 1) k (omega arith) (omega arith)));
   }
 
@@ -158,7 +178,11 @@ module _ {all : Bool} {w : List ℕ} {regs : ℕ} {tries : List ℕ} {full : ℕ
 
     module _ (e : not (changed && back) ≡ false) where
       pub whole-again : Between all w regs tries (full + 1) rows
-      whole-again = record { few = p .few; going = full-again (raising (mays all w) regs w tries) 0 0 full 0 rows₀ (p .going) rows changed back k (p .part) l (not-false (changed && back) e) }
+      whole-again = record {
+        few = p .few;
+        going = full-again (raising (mays all w) regs w tries) 0 0 full 0 rows₀ (p .going) rows changed back k (p .part) l
+            (not-false (changed && back) e);
+      }
 
       pub whole-less : toGo all w regs tries (full + 1) < toGo all w regs tries full
       unfolding toGo

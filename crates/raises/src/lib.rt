@@ -65,7 +65,8 @@ fn put_raising(
     k: usize,
 ) -> bool
     requires { ⌜ (n ≤ 65535) × (regs ≤ words * 64) × (words ≤ 16) × (k < n) × (s .target ≤ n) × (suc n * words ≤ length (now rows)) ⌝ }
-    ensures { λ r. ⌜ Put (raisingStep may past n regs (now (tries .entry)) s) (rowsOf 64 words (suc n) (now (rows .entry))) k (rowsOf 64 words (suc n) (now (rows .exit))) r ⌝ }
+    ensures { λ r. ⌜ Put (raisingStep may past n regs (now (tries .entry)) s) (rowsOf 64 words (suc n) (now (rows .entry))) k (rowsOf 64 words (suc n)
+        (now (rows .exit))) r ⌝ }
 {
     let set = row_raising(s, may, past, regs, tries, rows, n, words, k);
     rows::store_row(rows, k * words, words, set)
@@ -81,7 +82,8 @@ pub fn live_raising(
     all: bool,
 ) -> u32
     requires { ⌜ Valid (now code) × (regs ≤ words * 64) × (words ≤ 16) × (length (now rows) ≡ suc (count (now code)) * words) ⌝ }
-    ensures { λ r. ⌜ Found (raising (mays all (now (code .entry))) regs (now (code .entry)) (now (tries .entry))) 0 (rowsOf 64 words (suc (count (now (code .entry)))) (now (rows .exit))) r 0 ⌝ }
+    ensures { λ r. ⌜ Found (raising (mays all (now (code .entry))) regs (now (code .entry)) (now (tries .entry)))
+        0 (rowsOf 64 words (suc (count (now (code .entry)))) (now (rows .exit))) r 0 ⌝ }
 {
     let n = code.len() / 6;
     let mut full: u32 = 0;
@@ -116,7 +118,8 @@ pub fn kept_raising(
     offsets: &mut [u32],
     list: &mut [u16],
 ) -> KeptAnswer
-    ensures { λ r. ⌜ Outcome (now (code .entry)) regs (now (tries .entry)) all (now (rows .entry)) (now (offsets .entry)) (now (list .entry)) (now (rows .exit)) (now (offsets .exit)) (now (list .exit)) r ⌝ }
+    ensures { λ r. ⌜ Outcome (now (code .entry)) regs (now (tries .entry)) all (now (rows .entry)) (now (offsets .entry)) (now (list .entry))
+        (now (rows .exit)) (now (offsets .exit)) (now (list .exit)) r ⌝ }
 {
     let v = kept::stages(code, regs, tries, rows.len(), offsets.len());
     match v {
@@ -136,7 +139,8 @@ fn keep_all(
     list: &mut [u16],
 ) -> KeptAnswer
     requires { ⌜ stagesOf 64 (now code) regs (now tries) (length (now rows)) (length (now offsets)) ≡ Checked.Count (count (now code)) ⌝ }
-    ensures { λ r. ⌜ Outcome (now (code .entry)) regs (now (tries .entry)) all (now (rows .entry)) (now (offsets .entry)) (now (list .entry)) (now (rows .exit)) (now (offsets .exit)) (now (list .exit)) r ⌝ }
+    ensures { λ r. ⌜ Outcome (now (code .entry)) regs (now (tries .entry)) all (now (rows .entry)) (now (offsets .entry)) (now (list .entry))
+        (now (rows .exit)) (now (offsets .exit)) (now (list .exit)) r ⌝ }
 {
     let words = rows::words_for(regs);
     let need = (code.len() / 6 + 1) * words;

@@ -21,7 +21,8 @@ unfolding tally
 tally-same p q start zero h = refl
 tally-same p q start (suc d) h = go (tally-same p q start d (λ k l m. h k l (omega arith))) (h (start + d) (omega arith) (omega arith))
   where
-    go : tally p start d ≡ tally q start d → p (start + d) ≡ q (start + d) → tally p start d + cond (p (start + d)) 1 0 ≡ tally q start d + cond (q (start + d)) 1 0
+    go : tally p start d ≡ tally q start d → p (start + d) ≡ q (start + d)
+        → tally p start d + cond (p (start + d)) 1 0 ≡ tally q start d + cond (q (start + d)) 1 0
     go e f = rw (e, f)
 
 module _ (all : Bool) (regs : ℕ) (w tries : List ℕ) where
@@ -31,7 +32,13 @@ module _ (all : Bool) (regs : ℕ) (w tries : List ℕ) where
   pub few-sweeps : (rows : List ℕ) (full lost : ℕ) → Found (raising (mays all w) regs w tries) (beginsAt regs w) rows full lost → full ≤ jumpsBack w + 2
   unfolding firstOf
   few-sweeps rows full lost f =
-      omega (arith, backs-same, found-few (raising (mays all w) regs w tries) 0 zero-le rows full lost f, ap (backs (raising (mays all w) regs w tries)) (same strayed))
+      omega (
+        arith,
+        backs-same,
+        found-few (raising (mays all w) regs w tries) 0 zero-le rows full lost f,
+        ap (backs (raising (mays all w) regs w tries))
+            (same strayed),
+      )
     where
       strayed : Bool
       strayed = ltb 0 (strays (raising (mays all w) regs w tries) 0)

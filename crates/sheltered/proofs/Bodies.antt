@@ -37,7 +37,8 @@ module _ (b : Lists) (r : Answer) (a : Lists) (x : KeptCall 64 body 6 tries fals
   rows-are : rowsIn 64 6 body (a .rows) ≡ rows
   rows-are = found-one (flow 6 body) 2
       (subst (λ (s : ℕ). Found (flow 6 body) s (rowsIn 64 6 body (a .rows)) (r .second) (r .third)) begins
-      (left 64 body 6 tries false (b .rows) (b .offsets) (b .list) (kept-out 64 body 6 tries false b r a x z) (r .first) (r .second) (r .third) refl .scratch .found)) plain-found .0
+      (left 64 body 6 tries false (b .rows) (b .offsets) (b .list) (kept-out 64 body 6 tries false b r a x z) (r .first) (r .second)
+      (r .third) refl .scratch .found)) plain-found .0
 
   lists-are : (k : ℕ) → k < count body → isLevel (insAt body k) ≡ true → listLeft a k ≡ plainAt k
   lists-are k h e =
@@ -55,9 +56,11 @@ module _ (all : Bool) (w : List ℕ) (regs : ℕ) (t old : List ℕ) (full : ℕ
     (b : Lists) (r : Answer) (a : Lists) (x : RaisingCall w regs t all b r a) (z : r .refusal ≡ 0) where
   list-is : (k : ℕ) → k < count w → isLevel (insAt w k) ≡ true → listLeft a k ≡ kept regs (row old) (levelOf regs w t k)
   list-is k h e =
-      list-by (raising (mays all w) regs w t) (beginsAt regs w) 64 w regs t (b .rows) (b .offsets) (b .list) (a .rows) (a .offsets) (a .list) (r .first) (r .second) (r .third)
+      list-by (raising (mays all w) regs w t) (beginsAt regs w) 64 w regs t (b .rows) (b .offsets) (b .list) (a .rows) (a .offsets) (a .list) (r .first)
+      (r .second) (r .third)
       (raising-out w regs t all b r a x z) k h e
-      ∙ ap (λ (l : List ℕ). kept regs (row l) (levelOf regs w t k)) (found-one (raising (mays all w) regs w t) (beginsAt regs w) (raising-found w regs t all b r a x z) found .0)
+      ∙ ap (λ (l : List ℕ). kept regs (row l) (levelOf regs w t k)) (found-one (raising (mays all w) regs w t) (beginsAt regs w)
+      (raising-found w regs t all b r a x z) found .0)
 
 pub enough : Enough
 unfolding minus listed handlersOf added resumeOf resultAt storeOf isLevel

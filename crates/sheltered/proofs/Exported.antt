@@ -40,44 +40,57 @@ raising-settles w regs tries all = lists-settle (raising (mays all w) regs w tri
 
 -- ---- from refusal 0
 
-module _ (w : List ℕ) (regs : ℕ) (tries : List ℕ) (all : Bool) (b : Lists) (r : Answer) (a : Lists) (x : RaisingCall w regs tries all b r a) (z : r .refusal ≡ 0) where
+module _ (w : List ℕ) (regs : ℕ) (tries : List ℕ) (all : Bool) (b : Lists) (r : Answer) (a : Lists) (x : RaisingCall w regs tries all b r a) (z : r .refusal
+    ≡ 0) where
   -- the case that it tells
-  pub raising-out : ListsLeft (raising (mays all w) regs w tries) (beginsAt regs w) 64 w regs tries (b .rows) (b .offsets) (b .list) (a .rows) (a .offsets) (a .list)
+  pub raising-out : ListsLeft (raising (mays all w) regs w tries) (beginsAt regs w) 64 w regs tries (b .rows) (b .offsets) (b .list) (a .rows) (a .offsets)
+      (a .list)
       (Is (r .first) (r .second) (r .third))
   raising-out = told-of (raising (mays all w) regs w tries) (beginsAt regs w) 64 w regs tries b r a x z .out
 
   pub raising-found : Found (raising (mays all w) regs w tries) (beginsAt regs w) (rowsIn 64 regs w (a .rows)) (r .second) (r .third)
   raising-found =
-      left-by (raising (mays all w) regs w tries) (beginsAt regs w) 64 w regs tries (b .rows) (b .offsets) (b .list) raising-out (r .first) (r .second) (r .third) refl .scratch .found
+      left-by (raising (mays all w) regs w tries) (beginsAt regs w) 64 w regs tries (b .rows) (b .offsets) (b .list) raising-out (r .first) (r .second)
+      (r .third) refl .scratch .found
 
   pub raising-holds : RaisingHolds w regs tries all r a
   raising-holds =
       record {
-        shelters = call-shelters 64 true w regs tries all (b .rows) (b .offsets) (b .list) (a .rows) (a .offsets) (a .list) (r .first) (r .second) (r .third) raising-out;
-        least = found-least (raising (mays all w) regs w tries) (beginsAt regs w) (inside 64 true regs w) (rowsIn 64 regs w (a .rows)) (r .second) (r .third) raising-found;
+        shelters = call-shelters 64 true w regs tries all (b .rows) (b .offsets) (b .list) (a .rows) (a .offsets) (a .list) (r .first) (r .second)
+            (r .third) raising-out;
+        least = found-least (raising (mays all w) regs w tries) (beginsAt regs w) (inside 64 true regs w) (rowsIn 64 regs w (a .rows)) (r .second)
+            (r .third) raising-found;
         sweeps = few-sweeps all regs w tries (rowsIn 64 regs w (a .rows)) (r .second) (r .third) raising-found;
-        stands = λ k h. stands-by (raising (mays all w) regs w tries) (beginsAt regs w) 64 w regs tries (b .rows) (b .offsets) (b .list) (a .rows) (a .offsets) (a .list)
+        stands = λ k h. stands-by (raising (mays all w) regs w tries) (beginsAt regs w) 64 w regs tries (b .rows) (b .offsets) (b .list) (a .rows) (a .offsets)
+            (a .list)
             (r .first) (r .second) (r .third) raising-out k h;
         keeps = λ k h e.
-            call-keeps 64 true w regs tries all (b .rows) (b .offsets) (b .list) (a .rows) (a .offsets) (a .list) (r .first) (r .second) (r .third) raising-out k h e;
+            call-keeps 64 true w regs tries all (b .rows) (b .offsets) (b .list) (a .rows) (a .offsets) (a .list) (r .first) (r .second)
+            (r .third) raising-out k h e;
         spare = λ k h e.
-            call-spare 64 true w regs tries all (b .rows) (b .offsets) (b .list) (a .rows) (a .offsets) (a .list) (r .first) (r .second) (r .third) raising-out k h e;
+            call-spare 64 true w regs tries all (b .rows) (b .offsets) (b .list) (a .rows) (a .offsets) (a .list) (r .first) (r .second)
+            (r .third) raising-out k h e;
         once = λ k h e.
-            call-once 64 true w regs tries all (b .rows) (b .offsets) (b .list) (a .rows) (a .offsets) (a .list) (r .first) (r .second) (r .third) raising-out k h e;
-        empty = λ k h e. empty-by (raising (mays all w) regs w tries) (beginsAt regs w) 64 w regs tries (b .rows) (b .offsets) (b .list) (a .rows) (a .offsets) (a .list)
+            call-once 64 true w regs tries all (b .rows) (b .offsets) (b .list) (a .rows) (a .offsets) (a .list) (r .first) (r .second)
+            (r .third) raising-out k h e;
+        empty = λ k h e. empty-by (raising (mays all w) regs w tries) (beginsAt regs w) 64 w regs tries (b .rows) (b .offsets) (b .list) (a .rows) (a .offsets)
+            (a .list)
             (r .first) (r .second) (r .third) raising-out k h e;
       }
 
 -- kept's own case
-pub kept-out : (bits : ℕ) (w : List ℕ) (regs : ℕ) (tries : List ℕ) (wide : Bool) (b : Lists) (r : Answer) (a : Lists) → KeptCall bits w regs tries wide b r a → r .refusal ≡ 0
+pub kept-out : (bits : ℕ) (w : List ℕ) (regs : ℕ) (tries : List ℕ) (wide : Bool) (b : Lists) (r : Answer) (a : Lists) → KeptCall bits w regs tries wide b r a
+    → r .refusal ≡ 0
     → Outcome bits w regs tries wide (b .rows) (b .offsets) (b .list) (a .rows) (a .offsets) (a .list) (Is (r .first) (r .second) (r .third))
 kept-out bits w regs tries wide b r a x z = told-of (flow regs w) (firstOf bits wide regs w) bits w regs tries b r a x z .out
 
 -- kept's lists are enough where no try is lent and no mark stands amiss
-pub no-try-shelters : (bits : ℕ) (w : List ℕ) (regs : ℕ) (wide : Bool) (b : Lists) (r : Answer) (a : Lists) → KeptCall bits w regs [] wide b r a → r .refusal ≡ 0
+pub no-try-shelters : (bits : ℕ) (w : List ℕ) (regs : ℕ) (wide : Bool) (b : Lists) (r : Answer) (a : Lists) → KeptCall bits w regs [] wide b r a
+    → r .refusal ≡ 0
     → Tidy w → Sheltered (frame (levels w) regs w []) (listLeft a)
 no-try-shelters bits w regs wide b r a x z tidy =
-    plain-shelters bits wide w regs (b .rows) (b .offsets) (b .list) (a .rows) (a .offsets) (a .list) (r .first) (r .second) (r .third) (kept-out bits w regs [] wide b r a x z) tidy
+    plain-shelters bits wide w regs (b .rows) (b .offsets) (b .list) (a .rows) (a .offsets) (a .list) (r .first) (r .second) (r .third)
+    (kept-out bits w regs [] wide b r a x z) tidy
 
 -- ---- what exposed tells
 
@@ -90,24 +103,29 @@ told-exposed : (plain list out out′ : List ℕ) (s : Answer) → ExposedTold p
     → (s .first ≡ length (exposed plain list)) × (out′ ≡ over (exposed plain list) out)
 told-exposed plain list out out′ s x z = go (ltb (length out) (length list)) (s-is x) (x .allowed .left)
   where
-    s-is : ExposedTold plain list out out′ s → s ≡ countTold (cond (ltb (length out) (length list)) (stage.No (Short 1 (length list))) (stage.Count (length (exposed plain list))))
+    s-is : ExposedTold plain list out out′ s → s ≡ countTold (cond (ltb (length out) (length list)) (stage.No (Short 1 (length list)))
+        (stage.Count (length (exposed plain list))))
     s-is y = y .is ∙ ap countTold (y .allowed .answer)
 
-    go : (t : Bool) → s ≡ countTold (cond t (stage.No (Short 1 (length list))) (stage.Count (length (exposed plain list)))) → out′ ≡ cond t out (over (exposed plain list) out)
+    go : (t : Bool) → s ≡ countTold (cond t (stage.No (Short 1 (length list))) (stage.Count (length (exposed plain list))))
+        → out′ ≡ cond t out (over (exposed plain list) out)
         → (s .first ≡ length (exposed plain list)) × (out′ ≡ over (exposed plain list) out)
     go true e l = let q : s .refusal ≡ 5 = ap (λ (v : Answer). v .refusal) e in absurd (omega arith)
     go false e l = (ap (λ (v : Answer). v .first) e, l)
 
 module _ (w : List ℕ) (regs : ℕ) (tries : List ℕ) (all : Bool) (plain list : Lists) (both : Both w regs tries all plain list) where
-  out : ListsLeft (raising (mays all w) regs w tries) (beginsAt regs w) 64 w regs tries (both .lent′ .rows) (both .lent′ .offsets) (both .lent′ .list) (list .rows) (list .offsets)
+  out : ListsLeft (raising (mays all w) regs w tries) (beginsAt regs w) 64 w regs tries (both .lent′ .rows) (both .lent′ .offsets) (both .lent′ .list)
+      (list .rows) (list .offsets)
       (list .list) (Is (both .answer′ .first) (both .answer′ .second) (both .answer′ .third))
   out = raising-out w regs tries all (both .lent′) (both .answer′) list (both .raising-call) (both .raising-answered)
 
   -- at each level the raising list holds the plain one
   pub raising-more : (k : ℕ) → k < count w → isLevel (insAt w k) ≡ true → (q : ℕ) → List·Memᴰ q (listLeft plain k) → List·Memᴰ q (listLeft list k)
   raising-more k h e q m =
-      call-more 64 true w regs tries all (both .lent′ .rows) (both .lent′ .offsets) (both .lent′ .list) (list .rows) (list .offsets) (list .list) (both .answer′ .first)
-      (both .answer′ .second) (both .answer′ .third) out k h e (both .bits) (both .wide) (both .lent .rows) (both .lent .offsets) (both .lent .list) (plain .rows) (plain .offsets)
+      call-more 64 true w regs tries all (both .lent′ .rows) (both .lent′ .offsets) (both .lent′ .list) (list .rows) (list .offsets) (list .list)
+      (both .answer′ .first)
+      (both .answer′ .second) (both .answer′ .third) out k h e (both .bits) (both .wide) (both .lent .rows) (both .lent .offsets) (both .lent .list)
+      (plain .rows) (plain .offsets)
       (plain .list) (both .answer .first) (both .answer .second) (both .answer .third)
       (kept-out (both .bits) w regs tries (both .wide) (both .lent) (both .answer) plain (both .kept) (both .kept-answered)) q m
 
@@ -121,15 +139,18 @@ module _ (w : List ℕ) (regs : ℕ) (tries : List ℕ) (all : Bool) (plain list
     where
       nothing : (k : ℕ) → NoneExposed (listLeft plain k) (listLeft list k) → exposed (listLeft plain k) (listLeft list k) ≡ []
       nothing k n =
-          let (c, l) = told-exposed (listLeft plain k) (listLeft list k) (n .out) (n .out′) (n .answer) (n .asked) (ap (λ (v : Answer). v .refusal) (n .none)) in
+          let (c, l) = told-exposed (listLeft plain k) (listLeft list k) (n .out) (n .out′) (n .answer) (n .asked)
+          (ap (λ (v : Answer). v .refusal) (n .none)) in
           none-long (exposed (listLeft plain k) (listLeft list k)) (sym c ∙ ap (λ (v : Answer). v .first) (n .none))
 
   -- each register that exposed tells of a level is exposed in truth
-  pub exposed-truth : (k : ℕ) → k < count w → isLevel (insAt w k) ≡ true → (o o′ : List ℕ) (s : Answer) → ExposedTold (listLeft plain k) (listLeft list k) o o′ s
+  pub exposed-truth : (k : ℕ) → k < count w → isLevel (insAt w k) ≡ true → (o o′ : List ℕ) (s : Answer)
+      → ExposedTold (listLeft plain k) (listLeft list k) o o′ s
       → s .refusal ≡ 0 → (q : ℕ) → List·Memᴰ q (take (s .first) o′) → ToldApart (frame (mays all w) regs w tries) (listLeft plain) k q
   exposed-truth k h e o o′ s x z q m =
       let (c, l) = told-exposed (listLeft plain k) (listLeft list k) o o′ s x z in
-      call-exposed 64 true w regs tries all (both .lent′ .rows) (both .lent′ .offsets) (both .lent′ .list) (list .rows) (list .offsets) (list .list) (both .answer′ .first)
+      call-exposed 64 true w regs tries all (both .lent′ .rows) (both .lent′ .offsets) (both .lent′ .list) (list .rows) (list .offsets) (list .list)
+      (both .answer′ .first)
       (both .answer′ .second) (both .answer′ .third) out k h e (listLeft plain) q (subst (λ (y : List ℕ). In q y) (front c l) m)
     where
       front : s .first ≡ length (exposed (listLeft plain k) (listLeft list k)) → o′ ≡ over (exposed (listLeft plain k) (listLeft list k)) o

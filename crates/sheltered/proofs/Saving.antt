@@ -84,7 +84,8 @@ lost-spares n r l m = go (decLt 0 (bit (setOf n (exposed l (upto n))) r))
 
 lost-in : (n r : ℕ) (l : List ℕ) → r < n → bit (lostOf n l) r ≡ 0 → In r l
 unfolding lostOf
-lost-in n r l h z = ⊎-elim (λ i. absurd (omega (arith, z, alone-here n r h, joined-in (alone n) r (exposed l (upto n)) r i))) (λ i. i) (exposed-or l (upto n) r (in-upto n r h))
+lost-in n r l h z = ⊎-elim (λ i. absurd (omega (arith, z, alone-here n r h, joined-in (alone n) r (exposed l (upto n)) r i))) (λ i. i)
+    (exposed-or l (upto n) r (in-upto n r h))
 
 -- ---- files
 
@@ -96,7 +97,8 @@ result-at : (q x : ℕ) → getD (resultIn q x) q 0 ≡ x
 result-at zero x = refl
 result-at (suc q) x = result-at q x
 
-module _ (s : Saver) (ok : Sound s) (l : List ℕ) (q u : ℕ) (entry : enterOf s l q .answer ≡ Used u) (es : List frames.Event) (bracketed : Matched es) (t : Saver)
+module _ (s : Saver) (ok : Sound s) (l : List ℕ) (q u : ℕ) (entry : enterOf s l q .answer
+    ≡ Used u) (es : List frames.Event) (bracketed : Matched es) (t : Saver)
     (play : Play (enterOf s l q .left) es t) where
   abbrev n : ℕ
   n = regsOf s
@@ -121,7 +123,8 @@ module _ (s : Saver) (ok : Sound s) (l : List ℕ) (q u : ℕ) (entry : enterOf 
 
       at : (r : ℕ) → r < n → Dec (0 < bit (lostOf n l) r) → getD F r 0 ≡ getD W r 0
       at r h (yes g) = sym (wrote-new (lostOf n l) F (fileOf s) n r h g)
-      at r h (no g) = held-thrown s ok l q u entry es bracketed t play r (lost-in n r l h (omega arith)) ∙ sym (wrote-kept (lostOf n l) F (fileOf s) n r h (omega arith))
+      at r h (no g) = held-thrown s ok l q u entry es bracketed t play r (lost-in n r l h (omega arith))
+          ∙ sym (wrote-kept (lostOf n l) F (fileOf s) n r h (omega arith))
 
   -- and by a return, in which the result is written besides
   file-returned : (x : ℕ) → fileOf (leaveOf t (returned x) .left)
@@ -138,7 +141,8 @@ module _ (s : Saver) (ok : Sound s) (l : List ℕ) (q u : ℕ) (entry : enterOf 
       under : (r : ℕ) → r < n → bit (alone n q) r ≡ 0 → Dec (0 < bit (lostOf n l) r) → getD F r 0 ≡ getD W r 0
       under r h z (yes g) = sym (wrote-new (lostOf n l) F (fileOf s) n r h g)
       under r h z (no g) =
-          held-return s ok l q u entry es bracketed t play x r (lost-in n r l h (omega arith)) (λ e. other e) ∙ sym (wrote-kept (lostOf n l) F (fileOf s) n r h (omega arith))
+          held-return s ok l q u entry es bracketed t play x r (lost-in n r l h (omega arith)) (λ e. other e)
+          ∙ sym (wrote-kept (lostOf n l) F (fileOf s) n r h (omega arith))
         where
           other : r ≡ q → ⊥
           other e = omega (arith, z, ap (λ (y : ℕ). bit (alone n y) r) e, alone-here n r h)
@@ -161,11 +165,13 @@ module _ (s : Saver) (ok : Sound s) (l : List ℕ) (q : ℕ) (t : Saver) (x : En
 
   left-same : (b : Back) (t′ : Saver) (r : Answer) → LeaveTold t b t′ r → Sound t′ × (regsOf t′ ≡ regsOf s)
   left-same b t′ r y =
-      let m = subst (λ (z : Saver). Same s z) (left-is (leaveOf t b) t′ r y) (frame-same s ok l q (opened .0) (opened .1) (x .events) (x .bracketed) t inner b) in
+      let m = subst (λ (z : Saver). Same s z) (left-is (leaveOf t b) t′ r y)
+      (frame-same s ok l q (opened .0) (opened .1) (x .events) (x .bracketed) t inner b) in
       (m .sound, m .regs)
 
   left-thrown : (t′ : Saver) (r : Answer) → LeaveTold t saver.thrown t′ r → fileOf t′ ≡ wrote (lostOf (regsOf s) l) (fileOf t′) (fileOf s) 0 (regsOf s)
-  left-thrown t′ r y = subst (λ (z : Saver). fileOf z ≡ wrote (lostOf (regsOf s) l) (fileOf z) (fileOf s) 0 (regsOf s)) (left-is (leaveOf t saver.thrown) t′ r y)
+  left-thrown t′ r y = subst (λ (z : Saver). fileOf z ≡ wrote (lostOf (regsOf s) l) (fileOf z) (fileOf s) 0 (regsOf s))
+      (left-is (leaveOf t saver.thrown) t′ r y)
       (file-thrown s ok l q (opened .0) (opened .1) (x .events) (x .bracketed) t inner)
 
   left-returned : (v : ℕ) (t′ : Saver) (r : Answer) → LeaveTold t (returned v) t′ r
@@ -192,7 +198,8 @@ module _ (w : List ℕ) (regs : ℕ) (tries : List ℕ) (all : Bool) (lists : �
       → ((k, valuesOf (raising (mays all w) regs w tries) read file) ∷ told) ≡ cond v ((k, valuesOf (raising (mays all w) regs w tries) read file) ∷ rest) []
   stepped k file told read rest v p e = rw p (ap (λ (y : List (ℕ × List ℕ)). (k, valuesOf (raising (mays all w) regs w tries) read file) ∷ y) e)
 
-  called : (k : ℕ) (file : List ℕ) (told : List (ℕ × List ℕ)) (es : List Event) (next : ℕ) (after : List ℕ) (b v : Bool) → b ≡ true → v ≡ true → told ≡ On es next after
+  called : (k : ℕ) (file : List ℕ) (told : List (ℕ × List ℕ)) (es : List Event) (next : ℕ) (after : List ℕ) (b v : Bool) → b ≡ true → v ≡ true
+      → told ≡ On es next after
       → ((k, valuesOf (raising (mays all w) regs w tries) (argsAt regs w k) file) ∷ told)
       ≡ cond v ((k, valuesOf (raising (mays all w) regs w tries) (cond b (argsAt regs w k) 0) file) ∷ On es (cond b next (count w)) after) []
   called k file told es next after b v p q e =

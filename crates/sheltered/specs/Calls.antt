@@ -71,7 +71,8 @@ pub record NoneExposed (plain list : List ℕ) : Type 0 where
 
 -- kept, on the body whose handler reads r5: the lists that it leaves do not shelter nested frames, though only levels raise
 abbrev pub NotEnough : Type 0
-NotEnough = (b : Lists) (r : Answer) (a : Lists) → KeptCall 64 body 6 tries false b r a → r .refusal ≡ 0 → Sheltered (frame (levels body) 6 body tries) (listLeft a) → ⊥
+NotEnough = (b : Lists) (r : Answer) (a : Lists) → KeptCall 64 body 6 tries false b r a → r .refusal ≡ 0
+    → Sheltered (frame (levels body) 6 body tries) (listLeft a) → ⊥
 
 -- kept_raising, on the same: r5 is kept at 2 and at 6
 abbrev pub Enough : Type 0

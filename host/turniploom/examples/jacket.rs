@@ -3,7 +3,7 @@
 //!
 //! cargo run --offline --example jacket
 
-use turniploom::{Level, Lowered, Refusal, Saver, abi, kept, marked, op::*};
+use turniploom::{Level, Lowered, Refusal, Saver, abi, kept_raising, marked, op::*};
 
 /// A part: its identifier, its own reading, and the parts that it carries. One without a reading can't be surveyed.
 struct Part {
@@ -64,7 +64,8 @@ fn survey(saver: &mut Saver<'_>, call: Level<'_>, part: &Part, faults: &mut Vec<
 
 fn main() -> Result<(), Refusal> {
     let code = marked(&rule(), |_| false);
-    let found = kept(&code, 8, &[(6, 13)], false)?;
+    // A survey may fail: what a handler reads later on is kept too.
+    let found = kept_raising(&code, 8, &[(6, 13)], true)?;
     let call = found.level(8).expect("a call is a level");
     println!("the call at {} keeps {:?}, goes on at {} with its result in r{}, and takes {} words", call.at(), call.kept(), call.resume(),
         call.result().expect("a store"), call.words());

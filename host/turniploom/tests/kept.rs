@@ -1,6 +1,6 @@
 //! What `Kept` tells: rows, levels, whether a register is needed, and how many sweeps it took.
 
-use turniploom::{Ins, Lowered, Refusal, kept, kept32, level, marked, most_sweeps, op::*};
+use turniploom::{DUNDER, Ins, Lowered, Refusal, exposed, kept, kept_raising, kept32, level, marked, most_sweeps, op::*};
 
 /// Document 01's code K.
 const K: [Lowered; 6] = [
@@ -40,6 +40,32 @@ fn rows_of_32_bits() {
     for k in 0..=4 { for r in 0..200 { assert_eq!(wide.needed(k, r), narrow.needed(k, r)) } }
     assert_eq!(kept32(&code, 1_025, &[], false), Err(Refusal::Registers { number: 1_025 }));
     assert_eq!(kept32(&code, 4, &[(0, 1), (3, 2)], false), Err(Refusal::Try { index: 1 }));
+}
+
+/// Raise is no level: only where anything may raise is r5 kept at the call for the handler that reads it.
+#[test]
+fn what_a_later_raise_needs() {
+    let body = [
+        Lowered::new(LoadGlobalR, 5, 1, 0, 0), Lowered::new(CallGlobalR, 4, 0, 0, 0), Lowered::new(StoreTopR, 1, 0, 0, 0), Lowered::new(SetupExcept, 6, 0, 0, 0),
+        Lowered::new(Raise, 0, 0, 0, 0), Lowered::new(ReturnR, 0, 1, 0, 0), Lowered::new(ReturnR, 0, 5, 0, 0),
+    ];
+    let (code, tries) = (marked(&body, |_| false), [(3, 6)]);
+    let (plain, levels, all) = (kept(&code, 6, &tries, false).unwrap(), kept_raising(&code, 6, &tries, false).unwrap(), kept_raising(&code, 6, &tries, true).unwrap());
+    assert_eq!((plain.at(1), levels.at(1), all.at(1)), (&[][..], &[][..], &[5][..]));
+    assert_eq!((exposed(&plain, &levels), exposed(&plain, &all), exposed(&all, &plain)), (vec![], vec![(1, vec![5])], vec![]));
+    assert_eq!((all.rows, all.full, all.abandoned), (vec![0, 32, 32, 34, 34, 34, 32, 0], 1, 0));
+    assert_eq!(kept_raising(&code, 1_025, &tries, true), Err(Refusal::Registers { number: 1_025 }));
+    assert_eq!(kept_raising(&code, 6, &[(3, 2)], true), Err(Refusal::Try { index: 0 }));
+}
+
+/// A dunder mark on ReturnR: the call there goes on at the next position, which the row does not lead to. The call before it keeps what is read there.
+#[test]
+fn a_mark_where_a_level_cannot_resume() {
+    let i = |op, marks, a, b| Ins { op, marks, a, b, c: 0, x: 0 };
+    let code = [i(CallGlobalR, 0, 0, 0), i(StoreTopR, 0, 0, 0), i(ReturnR, DUNDER, 0, 0), i(ReturnR, 0, 0, 2)];
+    let (plain, raising) = (kept(&code[..], 3, &[], false).unwrap(), kept_raising(&code[..], 3, &[], false).unwrap());
+    assert_eq!((plain.at(0), plain.at(2), raising.at(0), raising.at(2)), (&[][..], &[2][..], &[2][..], &[2][..]));
+    assert_eq!(exposed(&plain, &raising), [(0, vec![2])]);
 }
 
 /// Jumps to their own position or back count; jumps onward do not, nor does what has no jump's role: SetupExcept, and ForIterR with an x.

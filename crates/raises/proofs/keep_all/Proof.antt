@@ -15,31 +15,79 @@ add-need : tie.Need-add-need
 add-need c = search needs
 
 mul-need : tie.Need-mul-need
-mul-need c = part-mul _ _ _ (now (c .before .before .before .before .before .before .args .rows)) (now (c .before .before .before .before .before .before .args .offsets)) _ (c .before .before .before .before .before .before .pre) _ (c .words-for .ensures)
+mul-need c = part-mul _ _ _ (now (c .before .before .before .before .before .before .args .rows))
+    (now (c .before .before .before .before .before .before .args .offsets)) _ (c .before .before .before .before .before .before .pre) _
+    (c .words-for .ensures)
 
 slice-relend-prefix-live-raising : tie.Need-slice-relend-prefix-live-raising
-slice-relend-prefix-live-raising c = part-fits _ _ _ (now (c .before .before .before .before .before .before .args .rows)) (now (c .before .before .before .before .before .before .args .offsets)) _ (c .before .before .before .before .before .before .pre) _ (c .words-for .ensures)
+slice-relend-prefix-live-raising c = part-fits _ _ _ (now (c .before .before .before .before .before .before .args .rows))
+    (now (c .before .before .before .before .before .before .args .offsets)) _ (c .before .before .before .before .before .before .pre) _
+    (c .words-for .ensures)
 
 slice-aggregate-live-raising : tie.Need-slice-aggregate-live-raising
-slice-aggregate-live-raising c = sym (part-long _ _ _ (now (c .before .before .before .before .before .before .before .args .rows)) (now (c .before .before .before .before .before .before .before .args .offsets)) _ (c .before .before .before .before .before .before .before .pre) _ (c .before .words-for .ensures))
+slice-aggregate-live-raising c = sym (part-long _ _ _ (now (c .before .before .before .before .before .before .before .args .rows))
+    (now (c .before .before .before .before .before .before .before .args .offsets)) _ (c .before .before .before .before .before .before .before .pre) _
+    (c .before .words-for .ensures))
 
 live-raising-requires : tie.Need-live-raising-requires
-live-raising-requires c κs = part-needs _ _ _ (now (c .before .before .before .before .before .before .before .args .rows)) (now (c .before .before .before .before .before .before .before .args .offsets)) _ (c .before .before .before .before .before .before .before .pre) _ (c .before .words-for .ensures)
+live-raising-requires c κs = part-needs _ _ _ (now (c .before .before .before .before .before .before .before .args .rows))
+    (now (c .before .before .before .before .before .before .before .args .offsets)) _ (c .before .before .before .before .before .before .before .pre) _
+    (c .before .words-for .ensures)
 
 count-all-requires : tie.Need-count-all-requires
-count-all-requires c κs = ready _ _ _ (now (c .before .before .before .before .before .before .before .before .before .before .before .args .rows)) (now (c .before .before .before .before .before .before .before .before .before .before .before .args .offsets)) _ (c .before .before .before .before .before .before .before .before .before .before .before .pre) _ (c .before .before .before .before .before .words-for .ensures) (c .before .before .before .before .before .before .before .before .before .before .before .args .all) _ _ (c .before .before .before .live-raising .ensures) (c .before .before .before .live-raising .kept .1 .1 .1 .0) (λ j. omega (arith, c .before .slice-known4 .given j))
+count-all-requires c κs = ready _ _ _ (now (c .before .before .before .before .before .before .before .before .before .before .before .args .rows))
+    (now (c .before .before .before .before .before .before .before .before .before .before .before .args .offsets)) _
+    (c .before .before .before .before .before .before .before .before .before .before .before .pre) _
+    (c .before .before .before .before .before .words-for .ensures) (c .before .before .before .before .before .before .before .before .before .before .before
+    .args .all) _ _ (c .before .before .before .live-raising .ensures) (c .before .before .before .live-raising .kept .1 .1 .1 .0)
+    (λ j. omega (arith, c .before .slice-known4 .given j))
 
 same-length : tie.Need-same-length
-same-length c = new-long _ _ _ (now (c .before .before .before .before .before .before .before .before .before .before .before .before .before .args .rows)) (now (c .before .before .before .before .before .before .before .before .before .before .before .before .before .args .offsets)) _ (c .before .before .before .before .before .before .before .before .before .before .before .before .before .pre) _ (c .before .before .before .before .before .before .before .words-for .ensures) (c .before .before .before .before .before .before .before .before .before .before .before .before .before .args .all) _ _ (c .before .before .before .before .before .live-raising .ensures) (c .before .before .before .before .before .live-raising .kept .1 .1 .1 .0)
+same-length c = new-long _ _ _ (now (c .before .before .before .before .before .before .before .before .before .before .before .before .before .args .rows))
+    (now (c .before .before .before .before .before .before .before .before .before .before .before .before .before .args .offsets)) _
+    (c .before .before .before .before .before .before .before .before .before .before .before .before .before .pre) _
+    (c .before .before .before .before .before .before .before .words-for .ensures)
+    (c .before .before .before .before .before .before .before .before .before .before .before .before .before .args .all) _ _
+    (c .before .before .before .before .before .live-raising .ensures) (c .before .before .before .before .before .live-raising .kept .1 .1 .1 .0)
 
 returns : tie.Need-returns
-returns c = out-short _ _ _ (now (c .before .before .before .before .before .before .before .before .before .before .before .before .before .args .rows)) (now (c .before .before .before .before .before .before .before .before .before .before .before .before .before .args .offsets)) _ (c .before .before .before .before .before .before .before .before .before .before .before .before .before .pre) _ (c .before .before .before .before .before .before .before .words-for .ensures) (c .before .before .before .before .before .before .before .before .before .before .before .before .before .args .all) _ _ (c .before .before .before .before .before .live-raising .ensures) (c .before .before .before .before .before .live-raising .kept .1 .1 .1 .0) (now (c .before .before .before .before .before .before .before .before .before .before .before .before .before .args .list)) _ (c .before .count-all .ensures .0) (c .if1 .taken)
+returns c = out-short _ _ _ (now (c .before .before .before .before .before .before .before .before .before .before .before .before .before .args .rows))
+    (now (c .before .before .before .before .before .before .before .before .before .before .before .before .before .args .offsets)) _
+    (c .before .before .before .before .before .before .before .before .before .before .before .before .before .pre) _
+    (c .before .before .before .before .before .before .before .words-for .ensures)
+    (c .before .before .before .before .before .before .before .before .before .before .before .before .before .args .all) _ _
+    (c .before .before .before .before .before .live-raising .ensures) (c .before .before .before .before .before .live-raising .kept .1 .1 .1 .0)
+    (now (c .before .before .before .before .before .before .before .before .before .before .before .before .before .args .list)) _
+    (c .before .count-all .ensures .0) (c .if1 .taken)
 
 each-call-requires : tie.Need-each-call-requires
-each-call-requires c κs = (ready _ _ _ (now (c .before .before .before .before .before .before .before .before .before .before .before .before .before .before .before .before .args .rows)) (now (c .before .before .before .before .before .before .before .before .before .before .before .before .before .before .before .before .args .offsets)) _ (c .before .before .before .before .before .before .before .before .before .before .before .before .before .before .before .before .pre) _ (c .before .before .before .before .before .before .before .before .before .before .words-for .ensures) (c .before .before .before .before .before .before .before .before .before .before .before .before .before .before .before .before .args .all) _ _ (c .before .before .before .before .before .before .before .before .live-raising .ensures) (c .before .before .before .before .before .before .before .before .live-raising .kept .1 .1 .1 .0) (λ j. omega (arith, c .before .before .before .before .before .before .slice-known4 .given j)), accepted-offsets _ _ _ _ _ _ _ (c .before .before .before .before .before .before .before .before .before .before .before .before .before .before .before .before .pre), omega (arith, c .before .before .before .before .count-all .ensures .0, c .before .before .before .if1 .left), omega (arith, c .before .before .before .before .count-all .ensures .0, c .before .before .before .before .count-all .ensures .1))
+each-call-requires c κs = (
+  ready _ _ _ (now (c .before .before .before .before .before .before .before .before .before .before .before .before .before .before
+      .before .before .args .rows)) (now (c .before .before .before .before .before .before .before .before .before .before .before .before .before .before
+      .before .before .args .offsets)) _ (c .before .before .before .before .before .before .before .before .before .before .before .before .before .before
+      .before .before .pre) _ (c .before .before .before .before .before .before .before .before .before .before .words-for .ensures)
+      (c .before .before .before .before .before .before .before .before .before .before .before .before .before .before .before .before .args .all) _ _
+      (c .before .before .before .before .before .before .before .before .live-raising .ensures)
+      (c .before .before .before .before .before .before .before .before .live-raising .kept .1 .1 .1 .0)
+      (λ j. omega (arith, c .before .before .before .before .before .before .slice-known4 .given j)),
+  accepted-offsets _ _ _ _ _ _ _
+      (c .before .before .before .before .before .before .before .before .before .before .before .before .before .before .before .before .pre),
+  omega
+      (arith, c .before .before .before .before .count-all .ensures .0, c .before .before .before .if1 .left),
+  omega
+      (arith, c .before .before .before .before .count-all .ensures .0, c .before .before .before .before .count-all .ensures .1),
+)
 
 same-length-2 : tie.Need-same-length-2
-same-length-2 c = new-long _ _ _ (now (c .before .before .before .before .before .before .before .before .before .before .before .before .before .before .before .before .before .before .before .before .before .args .rows)) (now (c .before .before .before .before .before .before .before .before .before .before .before .before .before .before .before .before .before .before .before .before .before .args .offsets)) _ (c .before .before .before .before .before .before .before .before .before .before .before .before .before .before .before .before .before .before .before .before .before .pre) _ (c .before .before .before .before .before .before .before .before .before .before .before .before .before .before .before .words-for .ensures) (c .before .before .before .before .before .before .before .before .before .before .before .before .before .before .before .before .before .before .before .before .before .args .all) _ _ (c .before .before .before .before .before .before .before .before .before .before .before .before .before .live-raising .ensures) (c .before .before .before .before .before .before .before .before .before .before .before .before .before .live-raising .kept .1 .1 .1 .0)
+same-length-2 c = new-long _ _ _ (now (c .before .before .before .before .before .before .before .before .before .before .before .before .before .before
+    .before .before .before .before .before .before .before .args .rows))
+    (now (c .before .before .before .before .before .before .before .before .before .before .before .before .before .before .before .before .before .before
+    .before .before .before .args .offsets)) _ (c .before .before .before .before .before .before .before .before .before .before .before .before .before
+    .before .before .before .before .before .before .before .before .pre) _
+    (c .before .before .before .before .before .before .before .before .before .before .before .before .before .before .before .words-for .ensures)
+    (c .before .before .before .before .before .before .before .before .before .before .before .before .before .before .before .before .before .before .before
+    .before .before .args .all) _ _ (c .before .before .before .before .before .before .before .before .before .before .before .before .before .live-raising
+    .ensures) (c .before .before .before .before .before .before .before .before .before .before .before .before .before .live-raising .kept .1 .1 .1 .0)
 
 same-length-3 : tie.Need-same-length-3
 same-length-3 c = c .before .before .before .before .each-call .kept .1 .1 .1 .1 .1 .0
@@ -48,7 +96,18 @@ same-length-4 : tie.Need-same-length-4
 same-length-4 c = c .before .before .before .before .each-call .kept .1 .1 .1 .1 .1 .1 .0
 
 returns-2 : tie.Need-returns-2
-returns-2 c = out-told _ _ _ (now (c .before .before .before .before .before .before .before .before .before .before .before .before .before .before .before .before .before .before .before .before .before .args .rows)) (now (c .before .before .before .before .before .before .before .before .before .before .before .before .before .before .before .before .before .before .before .before .before .args .offsets)) _ (c .before .before .before .before .before .before .before .before .before .before .before .before .before .before .before .before .before .before .before .before .before .pre) _ (c .before .before .before .before .before .before .before .before .before .before .before .before .before .before .before .words-for .ensures) (c .before .before .before .before .before .before .before .before .before .before .before .before .before .before .before .before .before .before .before .before .before .args .all) _ _ (c .before .before .before .before .before .before .before .before .before .before .before .before .before .live-raising .ensures) (c .before .before .before .before .before .before .before .before .before .before .before .before .before .live-raising .kept .1 .1 .1 .0) (now (c .before .before .before .before .before .before .before .before .before .before .before .before .before .before .before .before .before .before .before .before .before .args .list)) _ (c .before .before .before .before .before .before .before .before .before .count-all .ensures .0) (c .before .before .before .before .before .before .before .before .if1 .left) _ _ (c .before .before .before .before .each-call .ensures)
+returns-2 c = out-told _ _ _ (now (c .before .before .before .before .before .before .before .before .before .before .before .before .before .before .before
+    .before .before .before .before .before .before .args .rows)) (now
+    (c .before .before .before .before .before .before .before .before .before .before .before .before .before .before .before .before .before .before .before
+    .before .before .args .offsets)) _ (c .before .before .before .before .before .before .before .before .before .before .before .before .before .before
+    .before .before .before .before .before .before .before .pre) _ (c .before .before .before .before .before .before .before .before .before .before .before
+    .before .before .before .before .words-for .ensures) (c .before .before .before .before .before .before .before .before .before .before .before .before
+    .before .before .before .before .before .before .before .before .before .args .all) _ _
+    (c .before .before .before .before .before .before .before .before .before .before .before .before .before .live-raising .ensures)
+    (c .before .before .before .before .before .before .before .before .before .before .before .before .before .live-raising .kept .1 .1 .1 .0)
+    (now (c .before .before .before .before .before .before .before .before .before .before .before .before .before .before .before .before .before .before
+    .before .before .before .args .list)) _ (c .before .before .before .before .before .before .before .before .before .count-all .ensures .0)
+    (c .before .before .before .before .before .before .before .before .if1 .left) _ _ (c .before .before .before .before .each-call .ensures)
 
 pub keep-all-spec : {M : Type 1} → statement M
 keep-all-spec =

@@ -12,7 +12,8 @@ use Rattle.raises.proofs.live_raising.Tie as tie
 
 abbrev Inv-loop2 : tie.InvT-loop2
 Inv-loop2 code regs tries rows₀ words all n full changed₀ back₀ k₀ rows changed back k =
-    Turn all code regs tries full (rowsOf 64 words (suc (count code)) rows₀) (rowsOf 64 words (suc (count code)) rows) changed back k × (length rows ≡ suc (count code) * words)
+    Turn all code regs tries full (rowsOf 64 words (suc (count code)) rows₀) (rowsOf 64 words (suc (count code)) rows) changed back k
+    × (length rows ≡ suc (count code) * words)
 
 abbrev μ-loop2 : tie.MeasureT-loop2
 μ-loop2 code regs tries rows₀ words all n full changed₀ back₀ k₀ rows changed back k = k

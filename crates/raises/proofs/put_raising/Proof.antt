@@ -9,7 +9,16 @@ use Rattle.raises.proofs.put_raising.Statement.{statement}
 use Rattle.raises.proofs.put_raising.Tie as tie
 
 row-raising-requires : tie.Need-row-raising-requires
-row-raising-requires c κs = (search needs, search needs, search needs, search needs, search needs, search needs, λ j. omega (arith, c .before .slice-known .given j))
+row-raising-requires c κs = (
+  search needs,
+  search needs,
+  search needs,
+  search needs,
+  search needs,
+  search needs,
+  λ j. omega
+      (arith, c .before .slice-known .given j),
+)
 
 mul-store-row : tie.Need-mul-store-row
 mul-store-row c = omega (arith, row-fits-here _ _ _ _ (c .before .before .before .before .before .pre .5) (c .before .before .before .before .before .pre .3))

@@ -56,6 +56,12 @@ static void lengths(void) {
     SHOW(a.refusal == TURNIPLOOM_BUFFER && a.first == 1 && a.second == TURNIPLOOM_ROWS32_LEN(6, 65));
     SHOW(turniploom_kept32(K, WORDS, 65, no_tries, 0, false, rows32, 21, offsets, 7, list, TURNIPLOOM_LIST_LEN(6, 65)).refusal == 0);
     SHOW(offsets[6] == 1 && list[0] == 0 && rows32[2 * 3] == 3 && rows32[2 * 3 + 1] == 0);
+    static const uint32_t tries[2] = {1, 5};
+    a = turniploom_kept_raising(K, WORDS, 65, tries, 2, true, rows, TURNIPLOOM_ROWS_LEN(6, 65), offsets, 7, list, TURNIPLOOM_LIST_LEN(6, 65));
+    SHOW(a.refusal == 0 && a.first == 2 && a.third == 0 && list[0] == 0 && list[1] == 3 && rows[2 * 2] == 11);
+    uint16_t plain[1] = {0}, more[2] = {9, 9};
+    SHOW(turniploom_exposed(plain, 1, list, 2, more, 1).refusal == TURNIPLOOM_BUFFER && more[0] == 9);
+    SHOW(turniploom_exposed(plain, 1, list, 2, more, 2).first == 1 && more[0] == 3 && more[1] == 9);
     SHOW(TURNIPLOOM_ROW32_WORDS(0) == 1 && TURNIPLOOM_ROW32_WORDS(32) == 1 && TURNIPLOOM_ROW32_WORDS(33) == 2 && TURNIPLOOM_ROW32_WORDS(1024) == 32);
     SHOW(TURNIPLOOM_ROW_WORDS(0) == 1 && TURNIPLOOM_ROW_WORDS(64) == 1 && TURNIPLOOM_ROW_WORDS(65) == 2 && TURNIPLOOM_ROW_WORDS(1024) == 16);
 }

@@ -85,6 +85,7 @@ pub fn live_raising(
     ensures { λ r. ⌜ Found (raising (mays all (now (code .entry))) regs (now (code .entry)) (now (tries .entry)))
         0 (rowsOf 64 words (suc (count (now (code .entry)))) (now (rows .exit))) r 0 ⌝ }
 {
+    let roles = roles::table();
     let n = code.len() / 6;
     let mut full: u32 = 0;
     rows::clear(rows);
@@ -94,7 +95,7 @@ pub fn live_raising(
         let mut k = n;
         while 0 < k {
             let i = code::ins_in(code, k - 1);
-            let s = steps::step_at(code, n, k - 1);
+            let s = steps::step_in(&roles, code, n, k - 1);
             let may = all | steps::level_at(i);
             let past = stranded(i);
             changed = put_raising(s, may, past, regs, tries, rows, n, words, k - 1) | changed;

@@ -78,7 +78,10 @@ two-ways : (w : List ℕ) (j : ℕ) → length (afterAt w j) ≤ 1 + boolByte (i
 unfolding afterAt
 two-ways w j = go (eqb (insAt w j .op) ReturnR) (eqb (insAt w j .op) Jump) (isJump (insAt w j))
   where
-    go : (x y z : Bool) → length (cond x [] (cond y (min (insAt w j .a) (count w) ∷ []) (cond z ((j + 1) ∷ min (insAt w j .a) (count w) ∷ []) ((j + 1) ∷ [])))) ≤ 1 + boolByte z
+    t : ℕ
+    t = min (insAt w j .a) (count w)
+
+    go : (x y z : Bool) → length (cond x [] (cond y (t ∷ []) (cond z ((j + 1) ∷ t ∷ []) ((j + 1) ∷ [])))) ≤ 1 + boolByte z
     go true y z = omega arith
     go false true z = omega arith
     go false false true = omega arith

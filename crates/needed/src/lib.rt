@@ -110,7 +110,8 @@ fn search(
     todo: &mut [u32],
 ) -> bool
     requires { ⌜ (now roles ≡ roleTable) × Room (now code) (now seen) (now todo) × ((j : ℕ) → j < length (now code) / 6 → getD (now seen) j 0 ≡ 0) ⌝ }
-    ensures { λ b. ⌜ Searched (Asked (now (code .entry)) r start) (length (now (code .entry)) / 6) (now (seen .entry)) (now (todo .entry)) b (now (seen .exit)) (now (todo .exit)) ⌝ }
+    ensures { λ b. ⌜ Searched (Asked (now (code .entry)) r start) (length (now (code .entry)) / 6)
+        (now (seen .entry)) (now (todo .entry)) b (now (seen .exit)) (now (todo .exit)) ⌝ }
 {
     let n = code.len() / 6;
     todo[0] = start;

@@ -2,7 +2,8 @@
 use mathlib.Core.Path.{_≡_, refl, sym, _∙_, ap, subst}
 use mathlib.Core.Logic.{_⊎_, inl, inr, ⊎-elim}
 use mathlib.Core.Bool.{Bool, true, false, cond, true≢false}
-use mathlib.Core.List.{List, [], _∷_, List·Memᴰ, List·Memᴰ·head, List·Memᴰ·cases-cons, List·Memᴰ·not-nil, List·Memᴰ·append-cases, Memᴰ·append-left, Memᴰ·append-right}
+use mathlib.Core.List.{List, [], _∷_, List·Memᴰ, List·Memᴰ·head, List·Memᴰ·cases-cons, List·Memᴰ·not-nil}
+use mathlib.Core.List.{List·Memᴰ·append-cases, Memᴰ·append-left, Memᴰ·append-right}
 use Prim.Native.Nat.{ℕ, _+_, _-_, _<_, _≤_}
 use native.Mathlib.Omega.{arith}
 use lib.ListN.{length, getD, set, length-set}
@@ -56,7 +57,8 @@ pub record Loop (n : ℕ) (reads stops : ℕ → Bool) (leads : ℕ → List ℕ
   pub room : Lent n seen₀ todo₀
 
 module _ (n : ℕ) (reads stops : ℕ → Bool) (leads : ℕ → List ℕ) (start : ℕ) (seen₀ todo₀ : List ℕ) where
-  pub enters : Lent n seen₀ todo₀ → ((j : ℕ) → j < n → getD seen₀ j 0 ≡ 0) → Loop n reads stops leads start seen₀ (set todo₀ 0 start) seen₀ (set todo₀ 0 start) 1
+  pub enters : Lent n seen₀ todo₀ → ((j : ℕ) → j < n → getD seen₀ j 0 ≡ 0)
+      → Loop n reads stops leads start seen₀ (set todo₀ 0 start) seen₀ (set todo₀ 0 start) 1
   enters m none = record {
     state = starts n reads stops leads start seen₀ todo₀ (omega (arith, m .waiting)) none;
     marks = held _ seen₀;
@@ -94,7 +96,12 @@ module _ (n : ℕ) (reads stops : ℕ → Bool) (leads : ℕ → List ℕ) (star
 
   module _ (j : ℕ) (popped : j ≡ getD todo (top - 1) 0) where
     left-out : (n ≤ j) ⊎ (getD seen j 0 ≡ 1) → Loop n reads stops leads start seen₀ todo₀ seen todo (top - 1)
-    left-out o = record { state = skips n reads stops leads start seen todo top j (l .state) some popped o; marks = l .marks; waiting = l .waiting; room = l .room }
+    left-out o = record {
+      state = skips n reads stops leads start seen todo top j (l .state) some popped o;
+      marks = l .marks;
+      waiting = l .waiting;
+      room = l .room;
+    }
 
     pub skip-past : n ≤ j → Loop n reads stops leads start seen₀ todo₀ seen todo (top - 1)
     skip-past h = left-out (inl h)
@@ -114,7 +121,8 @@ module _ (n : ℕ) (reads stops : ℕ → Bool) (leads : ℕ → List ℕ) (star
 
       pub push-in-2 : (t top₁ : ℕ) (todo₁ : List ℕ) (y : Bool) → top₁ ≡ (top - 1) + boolByte y → todo₁ ≡ pushed todo (top - 1) t y → top₁ < length todo₁
       push-in-2 t top₁ todo₁ y p p′ =
-          omega (arith, l .state .room, free, l .room .waiting, held-push (n + 1) (top - 1) t y todo₀ todo (omega (arith, l .state .room, free)) (l .waiting) .same, ap length p′, byte-small y)
+          let w = held-push (n + 1) (top - 1) t y todo₀ todo (omega (arith, l .state .room, free)) (l .waiting) in
+          omega (arith, l .state .room, free, l .room .waiting, w .same, ap length p′, byte-small y)
 
       -- a read is found
       pub finds : reads j ≡ true → Reach n reads stops leads start

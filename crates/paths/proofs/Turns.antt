@@ -30,7 +30,8 @@ module _ (leads : ℕ → List ℕ) (seen : List ℕ) (j : ℕ) (l : j < length 
   owed-less (suc n) h = marks-one n (eqb n j) refl h (owed-less n)
 
 -- A turn lessens what is owed and what waits, together: the measure of both searches' loops.
-pub falls : (n : ℕ) (leads : ℕ → List ℕ) (seen seen′ : List ℕ) (top top′ : ℕ) → Turn n leads seen top seen′ top′ → owed leads seen′ n + top′ < owed leads seen n + top
+pub falls : (n : ℕ) (leads : ℕ → List ℕ) (seen seen′ : List ℕ) (top top′ : ℕ) → Turn n leads seen top seen′ top′
+    → owed leads seen′ n + top′ < owed leads seen n + top
 falls n leads seen seen′ top top′ (left h) = omega arith
 falls n leads seen seen′ top top′ (taken {j = j} h l e f) = omega (arith, owed-less leads seen j l e n h)
 

@@ -76,7 +76,8 @@ fn push(todo: &mut [u32], top: usize, at: u32, yes: bool) -> usize
 // Whether a path from `start` reads r; no mark is set at entry.
 fn search(code: &[u16], r: u16, start: u32, seen: &mut [u8], todo: &mut [u32]) -> bool
     requires { ⌜ Room (now code) (now seen) (now todo) × ((j : ℕ) → j < length (now code) / 6 → getD (now seen) j 0 ≡ 0) ⌝ }
-    ensures { λ b. ⌜ Searched (Read (now (code .entry)) r start) (length (now (code .entry)) / 6) (now (seen .entry)) (now (todo .entry)) b (now (seen .exit)) (now (todo .exit)) ⌝ }
+    ensures { λ b. ⌜ Searched (Read (now (code .entry)) r start) (length (now (code .entry)) / 6)
+        (now (seen .entry)) (now (todo .entry)) b (now (seen .exit)) (now (todo .exit)) ⌝ }
 {
     let n = code.len() / 6;
     todo[0] = start;

@@ -5,6 +5,7 @@ ghost use lib.ListN.{length};
 ghost use Rattle.code.specs.Ins.{count};
 ghost use Rattle.code.specs.Check.{Whole};
 ghost use Rattle.laws.specs.Page.{among};
+ghost use Rattle.roles.specs.Roles.{roleTable};
 ghost use Rattle.flow.specs.Kept.{handlersOf};
 ghost use mir.Val.{boolByte};
 ghost use lib.ListN.{replicate, drop};
@@ -226,12 +227,12 @@ fn handled(tries: &[u32], n: usize, p: usize, q: usize) -> bool
 }
 
 // Whether a run may go from p to q: by "after", from a level to a handler around it, from a wide call straight to its store.
-fn may_go(code: &[u16], tries: &[u32], p: usize, q: usize) -> bool
-    requires { ⌜ Whole (now code) × (p < count (now code)) ⌝ }
+fn may_go(roles: &[u8; 1280], code: &[u16], tries: &[u32], p: usize, q: usize) -> bool
+    requires { ⌜ (now roles ≡ roleTable) × Whole (now code) × (p < count (now code)) ⌝ }
     ensures { λ r. ⌜ r ≡ mayGo (now (code .entry)) (now (tries .entry)) p q ⌝ }
 {
     let n = code.len() / 6;
-    let st = steps::step_at(code, n, p);
+    let st = steps::step_in(roles, code, n, p);
     let on = st.on;
     let to = st.to;
     let target = st.target;
@@ -244,8 +245,8 @@ fn may_go(code: &[u16], tries: &[u32], p: usize, q: usize) -> bool
 }
 
 // Whether slot s breaks the rules of a run.
-fn bad_step(code: &[u16], tries: &[u32], t: &[u8], s: usize) -> bool
-    requires { ⌜ Whole (now code) × (s / 127 < length (now t) / 512) ⌝ }
+fn bad_step(roles: &[u8; 1280], code: &[u16], tries: &[u32], t: &[u8], s: usize) -> bool
+    requires { ⌜ (now roles ≡ roleTable) × Whole (now code) × (s / 127 < length (now t) / 512) ⌝ }
     ensures { λ r. ⌜ r ≡ badStep (now (code .entry)) (now (tries .entry)) (now (t .entry)) s ⌝ }
 {
     let n = code.len() / 6;
@@ -263,7 +264,7 @@ fn bad_step(code: &[u16], tries: &[u32], t: &[u8], s: usize) -> bool
     if n <= p {
         return true;
     }
-    !may_go(code, tries, p, q)
+    !may_go(roles, code, tries, p, q)
 }
 
 // The first slot of block b that does, else the slot past the block.
@@ -271,10 +272,11 @@ fn first_step(code: &[u16], tries: &[u32], t: &[u8], b: usize) -> usize
     requires { ⌜ Whole (now code) × (b < length (now t) / 512) ⌝ }
     ensures { λ r. ⌜ r ≡ firstStep (now (code .entry)) (now (tries .entry)) (now (t .entry)) b ⌝ }
 {
+    let roles = roles::table();
     let end = 127 * b + 127;
     let mut s = 127 * b;
     while s < end {
-        if bad_step(code, tries, t, s) {
+        if bad_step(&roles, code, tries, t, s) {
             return s;
         }
         s += 1;
@@ -339,11 +341,11 @@ fn once_more(reads: &mut [u64], regs: usize, t: bool, r: usize)
 }
 
 // The registers that the step at k uses are read once more, each once.
-fn count_step(reads: &mut [u64], regs: usize, code: &[u16], k: usize)
-    requires { ⌜ Whole (now code) × (k < count (now code)) × Lower regs (now reads) ⌝ }
+fn count_step(reads: &mut [u64], regs: usize, roles: &[u8; 1280], code: &[u16], k: usize)
+    requires { ⌜ (now roles ≡ roleTable) × Whole (now code) × (k < count (now code)) × Lower regs (now reads) ⌝ }
     ensures { λ _. ⌜ Stepped regs (now (reads .entry)) (now (reads .exit)) (now (code .entry)) k ⌝ }
 {
-    let st = steps::step_at(code, code.len() / 6, k);
+    let st = steps::step_in(roles, code, code.len() / 6, k);
     let used = st.used;
     let a = short(st.a);
     let b = short(st.b);
@@ -404,11 +406,12 @@ fn tally(reads: &mut [u64], regs: usize, code: &[u16], t: &[u8], steps: usize) -
     requires { ⌜ Walkable (now code) (now t) steps × Zeros regs (now reads) ⌝ }
     ensures { λ r. ⌜ Counted (now (code .entry)) (now (t .entry)) regs (now (reads .entry)) steps (now (reads .exit)) r ⌝ }
 {
+    let roles = roles::table();
     let mut levels = 0;
     let mut s = 0;
     while s < steps {
         let k = slot_at(t, s);
-        count_step(reads, regs, code, k);
+        count_step(reads, regs, &roles, code, k);
         let level = steps::level_at(code::ins_at(code, k));
         levels += one(level);
         s += 1;

@@ -4,6 +4,7 @@ ghost use Prim.Native.Nat.{ℕ, _+_, _%_, _/_, _<_, _≤_};
 ghost use lib.ListN.{length, getD};
 ghost use mir.Val.{boolByte};
 ghost use Rattle.laws.specs.Page.{among};
+ghost use Rattle.roles.specs.Roles.{roleTable};
 ghost use Rattle.steps.specs.Code.{flow};
 ghost use Rattle.steps.specs.Step.{named, usedOf, givenOf};
 ghost use Rattle.needed.specs.Path.{Needs};
@@ -55,9 +56,10 @@ fn asks(code: &[u16], regs: usize, k: usize, r: u16, seen: &mut [u8], todo: &mut
     requires { ⌜ Room (now code) (now seen) (now todo) × (k ≤ length (now code) / 6) ⌝ }
     ensures { λ b. ⌜ Settles (Needs (flow regs (now (code .entry))) r k) (length (now (code .entry)) / 6 + 1) (now (seen .entry)) (now (todo .entry)) b (now (seen .exit)) (now (todo .exit)) ⌝ }
 {
+    let roles = roles::table();
     let words = code.len() / 6 + 1;
     walks::clear_marks(seen, words);
-    let found = search(code, r, k as u32, seen, todo);
+    let found = search(&roles, code, r, k as u32, seen, todo);
     walks::clear_marks(seen, words);
     walks::clear_words(todo, words);
     found & ((r as usize) < regs)
@@ -100,8 +102,15 @@ fn push(todo: &mut [u32], top: usize, at: u32, yes: bool) -> usize
 }
 
 // Whether a path from `start` uses r before it gives it up; no mark is set at entry.
-fn search(code: &[u16], r: u16, start: u32, seen: &mut [u8], todo: &mut [u32]) -> bool
-    requires { ⌜ Room (now code) (now seen) (now todo) × ((j : ℕ) → j < length (now code) / 6 → getD (now seen) j 0 ≡ 0) ⌝ }
+fn search(
+    roles: &[u8; 1280],
+    code: &[u16],
+    r: u16,
+    start: u32,
+    seen: &mut [u8],
+    todo: &mut [u32],
+) -> bool
+    requires { ⌜ (now roles ≡ roleTable) × Room (now code) (now seen) (now todo) × ((j : ℕ) → j < length (now code) / 6 → getD (now seen) j 0 ≡ 0) ⌝ }
     ensures { λ b. ⌜ Searched (now (code .entry)) (now (seen .entry)) (now (todo .entry)) r start b (now (seen .exit)) (now (todo .exit)) ⌝ }
 {
     let n = code.len() / 6;
@@ -117,7 +126,7 @@ fn search(code: &[u16], r: u16, start: u32, seen: &mut [u8], todo: &mut [u32]) -
             continue;
         }
         seen[j] = 1;
-        let s = steps::step_at(code, n, j);
+        let s = steps::step_in(roles, code, n, j);
         if names(s.used, s.a, s.b, s.c, r) {
             return true;
         }

@@ -8,6 +8,8 @@ use Rattle.values.proofs.Digits.{and-law, or-law, xor-law, one-digits}
 use Rattle.values.proofs.Order.{lt-ints, le-ints, eq-ints, ne-ints, eqZ-true, eqZ-same, exact-int, lt-mixed, gt-mixed, eq-mixed}
 use Rattle.chunk.proofs.Nan.{the-nan, nan-read, nan-kept}
 use Rattle.roles.specs.Answers.{kindsAnswer, roleAnswer, fieldAnswer, writesAnswer, touchAnswer}
+use Rattle.roles.proofs.ByTable.{table-is}
+use Rattle.roles.proofs.Trapped.{traps}
 use Rattle.walks.specs.Answers.{pureAnswer, flatAnswer, guardedAnswer, returnsAnswer}
 use Rattle.surveys.specs.Answers.{writtenAnswer, passedAnswer}
 use Rattle.callee.specs.Answers.{globalAnswer, pushAnswer, stackAnswer}
@@ -74,6 +76,8 @@ promised =
       routes-same = routes-same;
       least-one = least-one;
       touched-holds = touched-holds;
+      touched-traps = traps;
+      table-is = table-is;
       needed-truth = needed-truth;
       needed-bit = needed-bit;
       wide-zero = wide-zero;

@@ -1,20 +1,26 @@
 -- What Turniploom promises: one record over the statements of the exported calls, a sentence above each field. docs/PROMISES.md is its index. Assumes nothing.
-use Prim.Native.Nat.{ℕ, suc, _+_, _-_, _*_, _/_, _%_, _^_, _≤_, _<_}
+use Prim.Native.Nat.{ℕ, suc, _+_, _-_, _*_, _/_, _%_, _^_, _≤_, _<_, min}
 use mathlib.Core.Path.{_≡_}
-use mathlib.Core.Bool.{Bool, true, false, not}
+use mathlib.Core.Bool.{Bool, true, false, not, cond, _&&_}
 use mathlib.Core.Logic.{_⊎_, _≢_}
 use mathlib.Core.List.{List, [], _∷_, _++_, List·Memᴰ}
-use lib.ListN.{length, replicate}
+use lib.Dec.{eqb}
+use lib.ListN.{length, replicate, getD}
 use lib.IntN.{ℤ, pos, natAbs, _*ℤ_}
 use lib.Signed.{ltZ, leZ}
 use lib.Ieee.{nan, fin, binary64, ofBits, toBits, ofInt, up, down, lt, le, eq, ne}
 use lib.Ieee.Exact.{HasValue}
 use mir.Val.{boolByte}
 use Rattle.laws.specs.Mask.{mask}
+use Rattle.code.specs.Op.{Raise}
 use Rattle.code.specs.declared.Answer.{Answer}
+use Rattle.code.specs.declared.Ins.{Ins as Instruction}
 use Rattle.code.specs.declared.Refusal.the-variants.{Table}
 use Rattle.code.specs.declared.Checked.the-variants as stage
 use Rattle.roles.specs.Answers.{kindsAnswer, roleAnswer, fieldAnswer, writesAnswer, touchAnswer}
+use Rattle.roles.specs.Kinds.{none, kindsOf}
+use Rattle.roles.specs.Roles.{roleTable}
+use Rattle.roles.specs.Traps.{Traps}
 use Rattle.walks.specs.Answers.{pureAnswer, flatAnswer, guardedAnswer, returnsAnswer}
 use Rattle.surveys.specs.Answers.{writtenAnswer, passedAnswer}
 use Rattle.callee.specs.Answers.{globalAnswer, pushAnswer, stackAnswer}
@@ -162,6 +168,13 @@ pub record Promised : Type 0 where
 
   -- the fields that touched answers, and the run from b on, are the registers that the instruction by itself uses, gives up and writes
   pub touched-holds : (w : List ℕ) (at : ℕ) (r : Answer) → r ≡ touchTold (touchAnswer w at) → r .refusal ≡ 0 → TouchedHolds (insAt w at) r
+  -- where one of the three sets is not what another leads one to expect, it is so
+  pub touched-traps : Traps
+  -- ---- wish 6: the table of roles
+
+  -- the table of 1,280 bytes, with Raise's test of a beside it, says what the rule says on every opcode, x and a
+  pub table-is : (i : Instruction) → i .op < 256
+      → cond (eqb (i .op) Raise && not (eqb (i .a) 0)) none (getD roleTable (i .op * 5 + min (i .x) 4) 0) ≡ kindsOf i
   -- ---- wish 11: is this one register needed here?
 
   -- needed answers 1 exactly when some path from the position uses the register before it gives it up

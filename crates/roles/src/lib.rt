@@ -126,7 +126,7 @@ pub fn kinds_in(roles: &[u8; 1280], i: Ins) -> u8
 pub fn kinds_of(i: Ins) -> u8
     ensures { λ r. ⌜ r ≡ kindsOf i ⌝ }
 {
-    kinds_in(&table(), i)
+    kinds_in(&ROLES, i)
 }
 
 // `role` of an instruction.
@@ -156,7 +156,8 @@ pub fn has_role_in(roles: &[u8; 1280], i: Ins) -> bool
 pub fn has_role(i: Ins) -> bool
     ensures { λ r. ⌜ r ≡ hasRole i ⌝ }
 {
-    has_role_in(&table(), i)
+    let none = kinds_of(i) / NONE % 2 == 1;
+    !none
 }
 
 // Whether it has one, and a is a jump's target.
@@ -170,7 +171,7 @@ pub fn is_jump_in(roles: &[u8; 1280], i: Ins) -> bool
 pub fn is_jump(i: Ins) -> bool
     ensures { λ r. ⌜ r ≡ isJump i ⌝ }
 {
-    is_jump_in(&table(), i)
+    kinds_of(i) / JUMPS % 4 == 1
 }
 
 // Field f of an instruction: a, b, else c.
@@ -305,12 +306,12 @@ pub fn touch_of(i: Ins, kind: u8) -> Touch
     }
 }
 
-// `writes` of an instruction.
-pub fn writes_in(roles: &[u8; 1280], i: Ins, r: u16) -> bool
-    requires { ⌜ now roles ≡ roleTable ⌝ }
+// `writes` of an instruction whose `kinds` is known.
+fn writes_by(i: Ins, kind: u8, r: u16) -> bool
+    requires { ⌜ kind ≡ kindsOf i ⌝ }
     ensures { λ t. ⌜ t ≡ writesIt i r ⌝ }
 {
-    let t = touch_of(i, kinds_in(roles, i));
+    let t = touch_of(i, kind);
     let m = t.written;
     let named = (m / 2 % 2 == 1) & (r == i.a)
         | (m / 4 % 2 == 1) & (r == i.b)
@@ -321,10 +322,18 @@ pub fn writes_in(roles: &[u8; 1280], i: Ins, r: u16) -> bool
     named | (b <= at) & (at < b + run)
 }
 
+// `writes` of an instruction.
+pub fn writes_in(roles: &[u8; 1280], i: Ins, r: u16) -> bool
+    requires { ⌜ now roles ≡ roleTable ⌝ }
+    ensures { λ t. ⌜ t ≡ writesIt i r ⌝ }
+{
+    writes_by(i, kinds_in(roles, i), r)
+}
+
 pub fn writes_of(i: Ins, r: u16) -> bool
     ensures { λ t. ⌜ t ≡ writesIt i r ⌝ }
 {
-    writes_in(&table(), i, r)
+    writes_by(i, kinds_of(i), r)
 }
 
 // `kinds` at a position: refusals 1, 2, 6.

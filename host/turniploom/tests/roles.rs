@@ -23,7 +23,8 @@ fn the_page_is_the_table() {
     let named = |n: usize| op::ALL.iter().find(|o| usize::from(o.number()) == n).map(|o| format!("{n} {o}")).unwrap_or_default();
     for (n, line) in table.iter().enumerate() { assert_eq!(line.1, named(n)) }
     let page = text("docs/OPCODES.md");
-    let rows: Vec<Vec<&str>> = page.lines().map(|l| l.split('|').skip(1).map(str::trim).collect::<Vec<_>>()).filter(|c| c.len() > 8 && c[0].parse::<u16>().is_ok()).collect();
+    let cells = page.lines().map(|l| l.split('|').skip(1).map(str::trim).collect::<Vec<_>>());
+    let rows: Vec<Vec<&str>> = cells.filter(|c| c.len() > 8 && c[0].parse::<u16>().is_ok()).collect();
     assert_eq!(rows.len(), op::ALL.len());
     for c in rows {
         let bits = table[c[0].parse::<usize>().unwrap()].0;
@@ -41,7 +42,8 @@ fn the_archive_answers_the_table() {
             let code = [0, 0, 0, 0, 0, 0, n as u16, 0, a, 1, 2, x];
             let answer = abi::kinds(&code, 1);
             let raised = Op(n as u16) == op::Raise && a != 0;
-            if answer.refusal != 0 { refused.push((n, x)) } else { assert_eq!(answer.first, if raised { 32 } else { bits[x.min(4) as usize].into() }, "{n} {x} {a}") }
+            let bits = if raised { 32 } else { bits[x.min(4) as usize] };
+            if answer.refusal != 0 { refused.push((n, x)) } else { assert_eq!(answer.first, u64::from(bits), "{n} {x} {a}") }
         }
     }
     refused.dedup();

@@ -4,8 +4,8 @@ use Rattle.day.proofs.Counts.{step-counts}
 use Rattle.day.proofs.count_step.Statement.{statement}
 use Rattle.day.proofs.count_step.Tie as tie
 
-step-at-requires : tie.Need-step-at-requires
-step-at-requires c κs = search needs
+step-in-requires : tie.Need-step-in-requires
+step-in-requires c κs = search needs
 
 short-requires : tie.Need-short-requires
 short-requires c κs = search needs
@@ -29,7 +29,7 @@ pub count-step-spec : {M : Type 1} → statement M
 count-step-spec =
     tie.close
     (tie.spec
-    step-at-requires
+    step-in-requires
     short-requires
     short-requires-2
     short-requires-3

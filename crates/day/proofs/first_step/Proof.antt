@@ -10,10 +10,13 @@ use Rattle.day.proofs.first_step.Statement.{statement}
 use Rattle.day.proofs.first_step.Tie as tie
 
 abbrev Inv-loop : tie.InvT-loop
-Inv-loop code tries t b end s₀ s = (127 * b ≤ s) × (s ≤ end) × (end ≡ 127 * b + 127) × (first (badStep code tries t) s (end - s) ≡ firstStep code tries t b)
+Inv-loop code tries t b roles end s₀ s = (127 * b ≤ s) × (s ≤ end) × (end ≡ 127 * b + 127) × (first (badStep code tries t) s (end - s) ≡ firstStep code tries t b)
 
 abbrev μ-loop : tie.MeasureT-loop
-μ-loop code tries t b end s₀ s = end - s
+μ-loop code tries t b roles end s₀ s = end - s
+
+table-requires : tie.Need-table-requires Inv-loop μ-loop
+table-requires c κs = search needs
 
 mul-end : tie.Need-mul-end Inv-loop μ-loop
 mul-end c = search needs
@@ -51,6 +54,7 @@ first-step-spec =
     (tie.spec
     Inv-loop
     μ-loop
+    table-requires
     mul-end
     add-end
     mul-s

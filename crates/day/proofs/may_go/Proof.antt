@@ -4,8 +4,8 @@ use Rattle.day.proofs.Calls.{go-is}
 use Rattle.day.proofs.may_go.Statement.{statement}
 use Rattle.day.proofs.may_go.Tie as tie
 
-step-at-requires : tie.Need-step-at-requires
-step-at-requires c κs = search (needs, go-is)
+step-in-requires : tie.Need-step-in-requires
+step-in-requires c κs = search (needs, go-is)
 
 ins-in-requires : tie.Need-ins-in-requires
 ins-in-requires c κs = search (needs, go-is)
@@ -29,7 +29,7 @@ pub may-go-spec : {M : Type 1} → statement M
 may-go-spec =
     tie.close
     (tie.spec
-    step-at-requires
+    step-in-requires
     ins-in-requires
     level-at-requires
     store-of-requires

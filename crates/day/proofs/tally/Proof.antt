@@ -6,10 +6,13 @@ use Rattle.day.proofs.tally.Statement.{statement}
 use Rattle.day.proofs.tally.Tie as tie
 
 abbrev Inv-loop : tie.InvT-loop
-Inv-loop reads₀ regs code t steps levels₀ s₀ reads levels s = Counting code t regs reads₀ reads levels steps s
+Inv-loop reads₀ regs code t steps roles levels₀ s₀ reads levels s = Counting code t regs reads₀ reads levels steps s
 
 abbrev μ-loop : tie.MeasureT-loop
-μ-loop reads₀ regs code t steps levels₀ s₀ reads levels s = steps - s
+μ-loop reads₀ regs code t steps roles levels₀ s₀ reads levels s = steps - s
+
+table-requires : tie.Need-table-requires Inv-loop μ-loop
+table-requires c κs = search needs
 
 loop-holds : tie.Need-loop-holds Inv-loop μ-loop
 loop-holds c = search (needs, countings)
@@ -53,6 +56,7 @@ tally-spec =
     (tie.spec
     Inv-loop
     μ-loop
+    table-requires
     loop-holds
     slot-at-requires
     count-step-requires

@@ -4,6 +4,9 @@ use Rattle.needed.proofs.Telling.{ready, none, done}
 use Rattle.needed.proofs.asks.Statement.{statement}
 use Rattle.needed.proofs.asks.Tie as tie
 
+table-requires : tie.Need-table-requires
+table-requires c κs = search needs
+
 add-words : tie.Need-add-words
 add-words c = search needs
 
@@ -14,7 +17,7 @@ cast-search : tie.Need-cast-search
 cast-search c = search needs
 
 search-requires : tie.Need-search-requires
-search-requires c κs = (search ready, search none)
+search-requires c κs = (search needs, search ready, search none)
 
 clear-marks-requires-2 : tie.Need-clear-marks-requires-2
 clear-marks-requires-2 c κs = search needs
@@ -35,6 +38,7 @@ pub asks-spec : {M : Type 1} → statement M
 asks-spec =
     tie.close
     (tie.spec
+    table-requires
     add-words
     clear-marks-requires
     cast-search

@@ -9,10 +9,10 @@ use Rattle.needed.proofs.search.Statement.{statement}
 use Rattle.needed.proofs.search.Tie as tie
 
 abbrev Inv-loop : tie.InvT-loop
-Inv-loop code r start seen₀ todo₀ n top₀ seen todo top = Loop code r start seen₀ todo₀ seen todo top
+Inv-loop roles code r start seen₀ todo₀ n top₀ seen todo top = Loop code r start seen₀ todo₀ seen todo top
 
 abbrev μ-loop : tie.MeasureT-loop
-μ-loop code r start seen₀ todo₀ n top₀ seen todo top = 2 * (length code / 6 - marked seen (length code / 6)) + top
+μ-loop roles code r start seen₀ todo₀ n top₀ seen todo top = 2 * (length code / 6 - marked seen (length code / 6)) + top
 
 slice-write-todo : tie.Need-slice-write-todo Inv-loop μ-loop
 slice-write-todo c = search (needs, turn)
@@ -50,8 +50,8 @@ loop-again-2 c = search (needs, turn)
 slice-write-seen : tie.Need-slice-write-seen Inv-loop μ-loop
 slice-write-seen c = search (needs, turn)
 
-step-at-requires : tie.Need-step-at-requires Inv-loop μ-loop
-step-at-requires c κs = search (needs, turn)
+step-in-requires : tie.Need-step-in-requires Inv-loop μ-loop
+step-in-requires c κs = search (needs, turn)
 
 names-requires : tie.Need-names-requires Inv-loop μ-loop
 names-requires c κs = search (needs, turn)
@@ -122,7 +122,7 @@ search-spec =
     loop-less-2
     loop-again-2
     slice-write-seen
-    step-at-requires
+    step-in-requires
     names-requires
     same-length
     same-length-2

@@ -243,6 +243,10 @@ turniploom_answer turniploom_touched(const uint16_t *code, size_t code_len, size
 turniploom_answer turniploom_needed(const uint16_t *code, size_t code_len, size_t regs, size_t at, uint16_t r, uint8_t *seen,
                                     size_t seen_len, uint32_t *todo, size_t todo_len);
 
+/* The version of the calls, as the header has it: that of the archive which is linked. It is never refused.
+ * first: major; second: minor; third: patch. */
+turniploom_answer turniploom_version(void);
+
 /* Opcode numbers, as docs/OPCODES.md lists them. 0 is any other. */
 enum turniploom_opcode {
     TURNIPLOOM_LoadConst = 2, TURNIPLOOM_LoadName = 4, TURNIPLOOM_StoreName = 6, TURNIPLOOM_Call = 8, TURNIPLOOM_PopTop = 10,

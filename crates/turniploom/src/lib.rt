@@ -12,6 +12,7 @@ ghost use lib.ListN.{length};
 ghost use Rattle.figures.specs.Answers.{reports, addCall, joinCall};
 ghost use Rattle.saver.specs.Saver.{saver as words, returned, thrown};
 ghost use Rattle.turniploom.specs.Answers.{MadeTold, EnterTold, LeaveTold, ReplayTold};
+ghost use Rattle.code.specs.Answers.{answerOf};
 use callee::GlobalAnswer;
 use callee::PushAnswer;
 use callee::StackAnswer;
@@ -444,4 +445,12 @@ pub extern "C" fn turniploom_replay(
     ensures { λ r. ⌜ ReplayTold (now (code .entry)) regs (now (tries .entry)) (now (trace .entry)) (now (reads .entry)) (now (reads .exit)) r ⌝ }
 {
     day::told(day::day(code, regs, tries, trace, reads))
+}
+
+// The version of the calls: major, minor and patch, as the header has them. Nothing is lent, and nothing refused.
+#[no_mangle]
+pub extern "C" fn turniploom_version() -> Answer
+    ensures { λ r. ⌜ r ≡ answerOf 0 2 0 0 ⌝ }
+{
+    code::tell(0, 2, 0, 0)
 }

@@ -9,6 +9,7 @@ pub fn random(rng: &mut Rng, call: Call) -> Question {
         Fold => return chunks::random(rng),
         Clear => return chunks::random_clear(rng),
         FiguresJoin => return figures::random_join(rng),
+        Version => return Question::of(Version, []),
         _ if call.saves() => return saver::random(rng, call),
         _ => {}
     }
@@ -230,6 +231,7 @@ pub fn systematic(rng: &mut Rng, call: Call, take: &mut dyn FnMut(Question)) {
         Fold => return chunks::systematic(rng, take),
         Clear => return chunks::systematic_clear(rng, take),
         FiguresJoin => return figures::systematic_join(take),
+        Version => return take(Question::of(Version, [])),
         _ if call.saves() => return saver::systematic(rng, call, take),
         _ => {}
     }

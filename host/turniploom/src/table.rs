@@ -93,4 +93,6 @@ calls! {
     /// Whether register r is needed at a position: some path from there uses it before it gives it up. The end may be asked about, where none is.
     /// seen and todo are n + 1 long, and 0 after an answer.
     needed(code: &[u16], regs: usize, at: usize, r: u16, seen: &mut [u8], todo: &mut [u32]) -> { first: "1 if so, else 0" };
+    /// The version of the calls, as the header has it: that of the archive which is linked. It is never refused.
+    version() -> { first: "major", second: "minor", third: "patch" };
 }

@@ -256,6 +256,10 @@ turniploom_answer turniploom_kept_raising(const uint16_t *code, size_t code_len,
 turniploom_answer turniploom_exposed(const uint16_t *plain, size_t plain_len, const uint16_t *list, size_t list_len, uint16_t *out,
                                      size_t out_len);
 
+/* The version of the calls, as the header has it: that of the archive which is linked. It is never refused.
+ * first: major; second: minor; third: patch. */
+turniploom_answer turniploom_version(void);
+
 /* Opcode numbers, as docs/OPCODES.md lists them. 0 is any other. */
 enum turniploom_opcode {
     TURNIPLOOM_LoadConst = 2, TURNIPLOOM_LoadName = 4, TURNIPLOOM_StoreName = 6, TURNIPLOOM_Call = 8, TURNIPLOOM_PopTop = 10,

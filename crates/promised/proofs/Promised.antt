@@ -7,6 +7,7 @@ use Rattle.values.proofs.Division.{divides, one-pair}
 use Rattle.values.proofs.Digits.{and-law, or-law, xor-law, one-digits}
 use Rattle.values.proofs.Order.{lt-ints, le-ints, eq-ints, ne-ints, eqZ-true, eqZ-same, exact-int, lt-mixed, gt-mixed, eq-mixed}
 use Rattle.chunk.proofs.Nan.{the-nan, nan-read, nan-kept}
+use Rattle.code.specs.Answers.{answerOf}
 use Rattle.roles.specs.Answers.{kindsAnswer, roleAnswer, fieldAnswer, writesAnswer, touchAnswer}
 use Rattle.roles.proofs.ByTable.{table-is}
 use Rattle.roles.proofs.Trapped.{traps}
@@ -58,6 +59,7 @@ promised =
       one-field = λ w at f. one (fieldTold (fieldAnswer w at f));
       one-writes = λ w at r. one (truthTold (writesAnswer w at r));
       one-touched = λ w at. one (touchTold (touchAnswer w at));
+      one-version = one (answerOf 0 2 0 0);
       one-pure = λ w. one (truthTold (pureAnswer w));
       one-flat = λ w. one (truthTold (flatAnswer w));
       one-guarded = λ w. one (truthTold (guardedAnswer w));

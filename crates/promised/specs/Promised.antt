@@ -123,6 +123,8 @@ pub record Promised : Type 0 where
   pub one-writes : (w : List ℕ) (at r : ℕ) → OneAnswer (truthTold (writesAnswer w at r))
   -- touched has one answer
   pub one-touched : (w : List ℕ) (at : ℕ) → OneAnswer (touchTold (touchAnswer w at))
+  -- version has one answer, 0.2.0
+  pub one-version : OneAnswer (answerOf 0 2 0 0)
   -- pure has one answer
   pub one-pure : (w : List ℕ) → OneAnswer (truthTold (pureAnswer w))
   -- flat has one answer

@@ -17,6 +17,7 @@ ghost use Rattle.figures.specs.Answers.{reports, addCall, joinCall};
 ghost use Rattle.saver.specs.Saver.{saver as words, returned, thrown};
 ghost use Rattle.turniploom.specs.Answers.{MadeTold, EnterTold, LeaveTold, ReplayTold};
 ghost use Rattle.turniploom.specs.Answers.{countTold, RaisingTold, ExposedTold};
+ghost use Rattle.code.specs.Answers.{answerOf};
 use callee::GlobalAnswer;
 use clear::ClearAnswer;
 use code::Answer;
@@ -467,4 +468,12 @@ pub extern "C" fn turniploom_exposed(plain: &[u16], list: &[u16], out: &mut [u16
     ensures { λ r. ⌜ ExposedTold (now (plain .entry)) (now (list .entry)) (now (out .entry)) (now (out .exit)) r ⌝ }
 {
     counted(raises::exposed(plain, list, out))
+}
+
+// The version of the calls: major, minor and patch, as the header has them. Nothing is lent, and nothing refused.
+#[no_mangle]
+pub extern "C" fn turniploom_version() -> Answer
+    ensures { λ r. ⌜ r ≡ answerOf 0 2 0 0 ⌝ }
+{
+    code::tell(0, 2, 0, 0)
 }

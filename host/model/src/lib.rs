@@ -24,6 +24,7 @@ pub fn ask(q: &Question) -> Reply {
     let answer = match q.call {
         Fold => folding(q, &mut lent, &mut |_| fold::NAN),
         Clear => clearing(q, &mut lent),
+        Version => Ok([0, 2, 0, 0]),
         FiguresJoin => figures::join(q.u64("later"), lent.u64("report")),
         Exposed => exposing(q, &mut lent),
         _ if q.call.saves() => saver::answer(q, &mut lent).map(one),

@@ -18,7 +18,7 @@ macro_rules! calls {
 calls! {
     Kinds, Role, Field, Writes, Pure, Flat, Guarded, Returns, ParamsWritten, Passed, GenPure, DeadPhi, LoopsAround, Targets, GlobalOf, PushedBack,
     StackCallee, Kept, Fold, Clear, Kept32, Level, SaverMake, SaverEnter, SaverReturn, SaverException, FiguresAdd, FiguresJoin, Replay, Touched, Needed,
-    KeptRaising, Exposed
+    KeptRaising, Exposed, Version
 }
 
 pub use Call::*;
@@ -40,7 +40,7 @@ impl Call {
     /// Whether it is one of the frame saver's.
     pub fn saves(self) -> bool { matches!(self, SaverMake | SaverEnter | SaverReturn | SaverException) }
     /// Whether the Rust has it not: the model alone decides what is right.
-    pub fn is_new(self) -> bool { self.saves() || matches!(self, Clear | FiguresAdd | FiguresJoin | Replay | KeptRaising | Exposed) }
+    pub fn is_new(self) -> bool { self.saves() || matches!(self, Clear | FiguresAdd | FiguresJoin | Replay | KeptRaising | Exposed | Version) }
 }
 
 /// A number or a slice.
@@ -175,6 +175,7 @@ impl Reply {
             FiguresJoin => self.answer.fourth != 0,
             SaverReturn | SaverException => self.lent.buffers[1] != *asked.arg("file"),
             Touched => self.values()[1..].iter().any(|&v| v != 0),
+            Version => true,
             _ => first != 0,
         }
     }

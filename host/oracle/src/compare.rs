@@ -200,7 +200,7 @@ impl Comparison {
             let row = rows.get(&(call as usize)).copied().unwrap_or_default();
             let lacks = match row {
                 Row { calls: 0, .. } => "was never asked",
-                Row { refused: 0, .. } => "was never refused",
+                Row { refused: 0, .. } if !call.params().is_empty() => "was never refused",
                 Row { telling: 0, .. } => "never had a telling answer",
                 Row { rust: 0, .. } if !call.is_new() => "was never answered by the Rust",
                 _ => return None,

@@ -8,6 +8,7 @@ use turniploom::abi::Kind;
 /// A question with a few of its words, numbers and lengths made extreme.
 fn question(rng: &mut Rng, call: Call) -> Question {
     let mut q = questions::random(rng, call);
+    if q.args.is_empty() { return q }
     for _ in 0..rng.below(4) {
         let k = rng.below(q.args.len());
         let extreme = rng.pick(&[0, 1, 255, 256, 1_024, 1_025, 65_535, 65_536, u64::from(u32::MAX), u64::MAX, u64::MAX / 2 + 1]);

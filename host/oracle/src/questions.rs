@@ -10,6 +10,7 @@ pub fn random(rng: &mut Rng, call: Call) -> Question {
         Clear => return chunks::random_clear(rng),
         FiguresJoin => return figures::random_join(rng),
         Exposed => return random_exposed(rng),
+        Version => return Question::of(Version, []),
         _ if call.saves() => return saver::random(rng, call),
         _ => {}
     }
@@ -257,6 +258,7 @@ pub fn systematic(rng: &mut Rng, call: Call, take: &mut dyn FnMut(Question)) {
         Clear => return chunks::systematic_clear(rng, take),
         FiguresJoin => return figures::systematic_join(take),
         Exposed => return systematic_exposed(take),
+        Version => return take(Question::of(Version, [])),
         _ if call.saves() => return saver::systematic(rng, call, take),
         _ => {}
     }

@@ -42,6 +42,6 @@ pub use level::{Level, level};
 pub use op::Op;
 pub use refusal::Refusal;
 pub use saver::Saver;
-pub use whose::{ARCHIVE_SHA256, KIT, VERSION};
+pub use whose::{ARCHIVE_SHA256, KIT, VERSION, version};
 #[cfg(feature = "std")]
 pub use trace::{Recorder, Unread, replay_from};

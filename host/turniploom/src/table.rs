@@ -101,4 +101,6 @@ calls! {
     /// The registers of a list that another has not, in order, at the front of out: of one level's lists by kept_raising and by kept, those that a
     /// later exception needs and kept does not keep. out is as long as list.
     exposed(plain: &[u16], list: &[u16], out: &mut [u16]) -> { first: "how many" };
+    /// The version of the calls, as the header has it: that of the archive which is linked. It is never refused.
+    version() -> { first: "major", second: "minor", third: "patch" };
 }

@@ -58,6 +58,14 @@ fn the_sample_in_c() {
     if let Some(said) = said { assert_eq!(said, due) } else { println!("skipped: there is no gcc") }
 }
 
+/// The archive, the crate and the header are of one version.
+#[test]
+fn the_archive_has_the_crates_version() {
+    assert_eq!(turniploom::abi::version(), Answer { refusal: 0, first: 0, second: 2, third: 0, fourth: 0 });
+    let (major, minor, patch) = turniploom::version();
+    assert_eq!(format!("{major}.{minor}.{patch}"), turniploom::VERSION);
+}
+
 #[test]
 fn the_header_has_the_crates_version() {
     let text = header();

@@ -34,7 +34,7 @@ fn no_call_allocates() {
     let (mut head, mut area, mut file) = ([9u64; 2], [9u64; 4096], [9u64; 64]);
     let (mut rows, mut offsets, mut list) = ([9u64; 7], [9u32; 7], [9u16; 8]);
     let before = ALLOCATED.get();
-    assert_eq!(abi::kinds(code, 4).first, 13);
+    assert_eq!((abi::kinds(code, 4).first, abi::version().second), (13, 2));
     assert_eq!(abi::role(code, 4).third, 6);
     assert_eq!(abi::global_of(code, 2).second, 9);
     let touched = abi::touched(code, 3);

@@ -63,6 +63,7 @@ impl Stacks {
 
     /// Every call that asks about the whole code.
     fn whole(&mut self, code: &[u16], tries: &[u32]) {
+        self.make("version", abi::version);
         let n = code.len() / 6;
         let (mut bytes, mut words) = (vec![9; n + 1], vec![9; n + 1]);
         self.make("pure", || abi::pure(code));

@@ -3,6 +3,7 @@ ghost use mathlib.Core.Path.{_≡_};
 ghost use Prim.Native.Nat.{_<_, _≤_};
 ghost use Rattle.code.specs.Ins.{count};
 ghost use Rattle.code.specs.Check.{Valid};
+ghost use Rattle.roles.specs.Roles.{roleTable};
 ghost use Rattle.callee.specs.Trace.{setsIt, passesBy, stepAt, traced, globalOf};
 ghost use Rattle.callee.specs.Answers.{globalAnswer};
 use code::Checked;
@@ -32,18 +33,20 @@ pub enum GlobalAnswer {
 }
 
 // Whether i sets register a, as the trace sees it.
-fn sets_it(i: Ins, a: u16) -> bool
+fn sets_it(roles: &[u8; 1280], i: Ins, a: u16) -> bool
+    requires { ⌜ now roles ≡ roleTable ⌝ }
     ensures { λ b. ⌜ b ≡ setsIt i a ⌝ }
 {
-    roles::writes_of(i, a) & (i.op != ForIterR)
+    roles::writes_in(roles, i, a) & (i.op != ForIterR)
 }
 
 // Whether the trace passes by i.
-fn passes_by(i: Ins) -> bool
+fn passes_by(roles: &[u8; 1280], i: Ins) -> bool
+    requires { ⌜ now roles ≡ roleTable ⌝ }
     ensures { λ b. ⌜ b ≡ passesBy i ⌝ }
 {
     let o = i.op;
-    roles::has_role(i)
+    roles::has_role_in(roles, i)
         | (o == CallSectionR)
         | (o == SectionR)
         | (o == MakeFunction)
@@ -51,12 +54,12 @@ fn passes_by(i: Ins) -> bool
 }
 
 // What the instruction at d says of register a.
-fn step_at(code: &[u16], d: usize, a: u16) -> Step
-    requires { ⌜ Valid (now code) × (d < count (now code)) ⌝ }
+fn step_at(roles: &[u8; 1280], code: &[u16], d: usize, a: u16) -> Step
+    requires { ⌜ (now roles ≡ roleTable) × Valid (now code) × (d < count (now code)) ⌝ }
     ensures { λ v. ⌜ v ≡ stepAt (now (code .entry)) d a ⌝ }
 {
     let i = code::ins_at(code, d);
-    if sets_it(i, a) {
+    if sets_it(roles, i, a) {
         if i.op == StoreTopR {
             match pushes::pushed_back_of(code, d, a) {
                 Place::At(p) => return Step::Back(p as u16),
@@ -68,7 +71,7 @@ fn step_at(code: &[u16], d: usize, a: u16) -> Step
         }
         return Step::Tell(Callee::Unknown);
     }
-    if passes_by(i) {
+    if passes_by(roles, i) {
         return Step::Pass;
     }
     Step::Tell(Callee::Unknown)
@@ -79,19 +82,19 @@ const NEAR: usize = 8192;
 
 // What register a holds before j. Each restart is from the push that was found, at an earlier position: near j the loop goes on there, further back
 // the trace calls itself. Code has at most 65,535 instructions, so no more than 8 calls are ever open.
-fn trace(code: &[u16], j: usize, a: u16) -> Callee
-    requires { ⌜ Valid (now code) × (j ≤ count (now code)) ⌝ }
+fn trace(roles: &[u8; 1280], code: &[u16], j: usize, a: u16) -> Callee
+    requires { ⌜ (now roles ≡ roleTable) × Valid (now code) × (j ≤ count (now code)) ⌝ }
     ensures { λ v. ⌜ v ≡ traced (now (code .entry)) a j ⌝ }
 {
     let mut d = j;
     while 0 < d {
         d -= 1;
-        match step_at(code, d, a) {
+        match step_at(roles, code, d, a) {
             Step::Pass => {}
             Step::Back(p) => {
                 d = p as usize;
                 if d + NEAR < j {
-                    return trace(code, d, a);
+                    return trace(roles, code, d, a);
                 }
             }
             Step::Tell(v) => return v,
@@ -110,7 +113,8 @@ pub fn global_at(code: &[u16], j: usize) -> Callee
         return Callee::Bound(i.a);
     }
     if i.op == CallR {
-        return trace(code, j, i.a);
+        let roles = roles::table();
+        return trace(&roles, code, j, i.a);
     }
     Callee::Unknown
 }

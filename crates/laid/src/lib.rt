@@ -3,6 +3,7 @@ ghost use mathlib.Core.Path.{_≡_};
 ghost use Prim.Native.Nat.{_-_, _<_};
 ghost use lib.ListN.{length};
 ghost use Rattle.code.specs.Check.{Whole};
+ghost use Rattle.roles.specs.Roles.{roleTable};
 ghost use Rattle.laid.specs.Section.{stackWork, jumpFits, plainFits, yieldFits, fits, laidAt, laid};
 ghost use Rattle.laid.specs.Answers.{pureAnswer};
 use code::Checked;
@@ -177,13 +178,24 @@ fn yield_fits(i: Ins, next: Ins) -> bool
 }
 
 // Whether i may stand at k of n.
-fn fits(i: Ins, prev: Ins, next: Ins, s: Ins, t: Ins, k: usize, n: usize, yields: bool) -> bool
+fn fits(
+    roles: &[u8; 1280],
+    i: Ins,
+    prev: Ins,
+    next: Ins,
+    s: Ins,
+    t: Ins,
+    k: usize,
+    n: usize,
+    yields: bool,
+) -> bool
+    requires { ⌜ now roles ≡ roleTable ⌝ }
     ensures { λ r. ⌜ r ≡ fits i prev next s t k n yields ⌝ }
 {
-    if roles::is_jump(i) {
+    if roles::is_jump_in(roles, i) {
         return jump_fits(i, t, k, n);
     }
-    if roles::has_role(i) {
+    if roles::has_role_in(roles, i) {
         return plain_fits(i, prev, s);
     }
     let work = stack_work(i.op);
@@ -201,8 +213,8 @@ fn before(k: usize) -> usize
     k - 1
 }
 
-fn laid_at(code: &[u16], yields: bool, k: usize) -> bool
-    requires { ⌜ Whole (now code) × (k < length (now code)) ⌝ }
+fn laid_at(roles: &[u8; 1280], code: &[u16], yields: bool, k: usize) -> bool
+    requires { ⌜ (now roles ≡ roleTable) × Whole (now code) × (k < length (now code)) ⌝ }
     ensures { λ r. ⌜ r ≡ laidAt (now (code .entry)) yields k ⌝ }
 {
     let i = code::ins_at(code, k);
@@ -211,7 +223,7 @@ fn laid_at(code: &[u16], yields: bool, k: usize) -> bool
     let next = code::ins_at(code, k + 1);
     let s = code::ins_at(code, k + 1 + wide as usize);
     let t = code::ins_at(code, i.a as usize);
-    fits(i, prev, next, s, t, k, code.len() / 6, yields)
+    fits(roles, i, prev, next, s, t, k, code.len() / 6, yields)
 }
 
 // `laid`.
@@ -219,10 +231,11 @@ pub fn all_laid(code: &[u16], yields: bool) -> bool
     requires { ⌜ Whole (now code) ⌝ }
     ensures { λ r. ⌜ r ≡ laid (now (code .entry)) yields ⌝ }
 {
+    let roles = roles::table();
     let n = code.len() / 6;
     let mut k = 0;
     while k < n {
-        let fine = laid_at(code, yields, k);
+        let fine = laid_at(&roles, code, yields, k);
         if !fine {
             return false;
         }

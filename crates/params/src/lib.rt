@@ -4,6 +4,7 @@ ghost use Prim.Native.Nat.{min, _*_, _<_, _≤_};
 ghost use lib.ListN.{length};
 ghost use mir.Val.{boolByte};
 ghost use Rattle.code.specs.Check.{Whole};
+ghost use Rattle.roles.specs.Roles.{roleTable};
 ghost use Rattle.params.specs.Answers.{writtenAnswer, passedAnswer};
 ghost use Rattle.params.specs.Masks.{written, paramsWritten, arguments, keeps, passedIn, passedAt};
 use code::Checked;
@@ -54,14 +55,14 @@ fn bit(b: bool, v: u64) -> u64
 }
 
 // Whether some instruction writes r.
-fn any_writes(code: &[u16], r: u16) -> bool
-    requires { ⌜ Whole (now code) ⌝ }
+fn any_writes(roles: &[u8; 1280], code: &[u16], r: u16) -> bool
+    requires { ⌜ (now roles ≡ roleTable) × Whole (now code) ⌝ }
     ensures { λ b. ⌜ b ≡ written (now (code .entry)) r ⌝ }
 {
     let n = code.len() / 6;
     let mut k = 0;
     while k < n {
-        if roles::writes_of(code::ins_at(code, k), r) {
+        if roles::writes_in(roles, code::ins_at(code, k), r) {
             return true;
         }
         k += 1;
@@ -84,11 +85,12 @@ fn params_in(code: &[u16], arity: usize) -> u64
     requires { ⌜ Whole (now code) ⌝ }
     ensures { λ m. ⌜ m ≡ paramsWritten (now (code .entry)) arity ⌝ }
 {
+    let roles = roles::table();
     let n = at_most_64(arity);
     let mut m: u64 = 0;
     let mut r: usize = 0;
     while r < n {
-        m |= bit(any_writes(code, r as u16), 1u64 << r);
+        m |= bit(any_writes(&roles, code, r as u16), 1u64 << r);
         r += 1;
     }
     m

@@ -3,6 +3,7 @@ ghost use mathlib.Core.Path.{_≡_};
 ghost use Prim.Native.Nat.{ℕ, _+_, _/_, _<_};
 ghost use lib.ListN.{length, getD};
 ghost use mir.Val.{boolByte};
+ghost use Rattle.roles.specs.Roles.{roleTable};
 ghost use Rattle.paths.specs.Search.{pushed, Searched, Settles};
 ghost use Rattle.phis.specs.Phi.{reads, stops, Read, Dead, Room};
 ghost use Rattle.phis.specs.Answers.{DeadPhi};
@@ -34,10 +35,11 @@ fn wide(x: u32) -> usize
 }
 
 // Whether i reads r.
-fn reads(i: Ins, r: u16) -> bool
+fn reads(roles: &[u8; 1280], i: Ins, r: u16) -> bool
+    requires { ⌜ now roles ≡ roleTable ⌝ }
     ensures { λ b. ⌜ b ≡ reads i r ⌝ }
 {
-    let k = roles::kinds_of(i);
+    let k = roles::kinds_in(roles, i);
     let o = i.op;
     let a = i.a == r;
     let named = (k / roles::A % 2 == 1) & a
@@ -48,10 +50,11 @@ fn reads(i: Ins, r: u16) -> bool
 }
 
 // Whether a path stops at i: r is written, or the code is left.
-fn stops(i: Ins, r: u16) -> bool
+fn stops(roles: &[u8; 1280], i: Ins, r: u16) -> bool
+    requires { ⌜ now roles ≡ roleTable ⌝ }
     ensures { λ b. ⌜ b ≡ stops i r ⌝ }
 {
-    let k = roles::kinds_of(i);
+    let k = roles::kinds_in(roles, i);
     let o = i.op;
     let a = i.a == r;
     let none = k / roles::NONE % 2 == 1;
@@ -74,8 +77,15 @@ fn push(todo: &mut [u32], top: usize, at: u32, yes: bool) -> usize
 }
 
 // Whether a path from `start` reads r; no mark is set at entry.
-fn search(code: &[u16], r: u16, start: u32, seen: &mut [u8], todo: &mut [u32]) -> bool
-    requires { ⌜ Room (now code) (now seen) (now todo) × ((j : ℕ) → j < length (now code) / 6 → getD (now seen) j 0 ≡ 0) ⌝ }
+fn search(
+    roles: &[u8; 1280],
+    code: &[u16],
+    r: u16,
+    start: u32,
+    seen: &mut [u8],
+    todo: &mut [u32],
+) -> bool
+    requires { ⌜ (now roles ≡ roleTable) × Room (now code) (now seen) (now todo) × ((j : ℕ) → j < length (now code) / 6 → getD (now seen) j 0 ≡ 0) ⌝ }
     ensures { λ b. ⌜ Searched (Read (now (code .entry)) r start) (length (now (code .entry)) / 6)
         (now (seen .entry)) (now (todo .entry)) b (now (seen .exit)) (now (todo .exit)) ⌝ }
 {
@@ -93,14 +103,14 @@ fn search(code: &[u16], r: u16, start: u32, seen: &mut [u8], todo: &mut [u32]) -
         }
         seen[j] = 1;
         let i = code::ins_at(code, j);
-        if reads(i, r) {
+        if reads(roles, i, r) {
             return true;
         }
-        if stops(i, r) {
+        if stops(roles, i, r) {
             continue;
         }
         top = push(todo, top, (j + 1) as u32, i.op != Jump);
-        top = push(todo, top, i.a as u32, roles::is_jump(i));
+        top = push(todo, top, i.a as u32, roles::is_jump_in(roles, i));
     }
     false
 }
@@ -110,9 +120,10 @@ pub fn dead(code: &[u16], k: usize, r: u16, seen: &mut [u8], todo: &mut [u32]) -
     requires { ⌜ Room (now code) (now seen) (now todo) × (k < length (now code) / 6) ⌝ }
     ensures { λ b. ⌜ Settles (Dead (now (code .entry)) k r) (length (now (code .entry)) / 6 + 1) (now (seen .entry)) (now (todo .entry)) b (now (seen .exit)) (now (todo .exit)) ⌝ }
 {
+    let roles = roles::table();
     let words = code.len() / 6 + 1;
     walks::clear_marks(seen, words);
-    let found = search(code, r, (k + 1) as u32, seen, todo);
+    let found = search(&roles, code, r, (k + 1) as u32, seen, todo);
     walks::clear_marks(seen, words);
     walks::clear_words(todo, words);
     !found

@@ -3,6 +3,7 @@ ghost use mathlib.Core.Path.{_≡_};
 ghost use Prim.Native.Nat.{_<_, _≤_};
 ghost use Rattle.code.specs.Ins.{count};
 ghost use Rattle.code.specs.Check.{Valid};
+ghost use Rattle.roles.specs.Roles.{roleTable};
 ghost use Rattle.stack.specs.Stack.{Narrow, workOf, effectOf, sourceOf, turnOf, Grows, stackCallee};
 ghost use Rattle.stack.specs.Answers.{stackAnswer};
 use code::Checked;
@@ -90,8 +91,8 @@ fn work_of(o: u16) -> Work
 }
 
 // What i does to the stack.
-fn effect_of(i: Ins) -> Effect
-    requires { ⌜ Narrow i ⌝ }
+fn effect_of(roles: &[u8; 1280], i: Ins) -> Effect
+    requires { ⌜ (now roles ≡ roleTable) × Narrow i ⌝ }
     ensures { λ e. ⌜ e ≡ effectOf i ⌝ }
 {
     let a = i.a;
@@ -110,7 +111,7 @@ fn effect_of(i: Ins) -> Effect
         } else {
             Effect::Stops
         },
-        Work::Role => if roles::has_role(i) {
+        Work::Role => if roles::has_role_in(roles, i) {
             Effect::Moves(0, 0)
         } else {
             Effect::Stops
@@ -129,11 +130,11 @@ fn source_of(i: Ins, k: usize, f: u8) -> Source
 }
 
 // The walk's step over i at k, for the value that lies `need` deep after it.
-fn turn_of(i: Ins, k: usize, need: usize) -> Turn
-    requires { ⌜ Narrow i × (need ≤ 4294967296) ⌝ }
+fn turn_of(roles: &[u8; 1280], i: Ins, k: usize, need: usize) -> Turn
+    requires { ⌜ (now roles ≡ roleTable) × Narrow i × (need ≤ 4294967296) ⌝ }
     ensures { λ t. ⌜ (t ≡ turnOf i k need) × Grows need t ⌝ }
 {
-    match effect_of(i) {
+    match effect_of(roles, i) {
         Effect::Stops => Turn::Ends(Source::Lost),
         Effect::Moves(pops, pushes) => {
             let pushed = pushes as usize;
@@ -150,11 +151,12 @@ pub fn stack_callee_of(code: &[u16], j: usize, n: u16) -> Source
     requires { ⌜ Valid (now code) × (j < count (now code)) ⌝ }
     ensures { λ v. ⌜ v ≡ stackCallee (now (code .entry)) j n ⌝ }
 {
+    let roles = roles::table();
     let mut need = n as usize + 1;
     let mut k = j;
     while 0 < k {
         k -= 1;
-        match turn_of(code::ins_at(code, k), k, need) {
+        match turn_of(&roles, code::ins_at(code, k), k, need) {
             Turn::Ends(s) => return s,
             Turn::Needs(m) => need = m,
         }

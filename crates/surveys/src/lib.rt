@@ -48,11 +48,12 @@ fn land_jumps(code: &[u16], out: &mut [u8])
     requires { ⌜ Whole (now code) × (length (now code) / 6 + 1 ≤ length (now out)) ⌝ }
     ensures { λ _. ⌜ Lands (length (now (code .entry)) / 6) (jumped (now (code .entry)) (length (now (code .entry)) / 6)) (now (out .entry)) (now (out .exit)) ⌝ }
 {
+    let roles = roles::table();
     let n = code.len() / 6;
     let mut k = 0;
     while k < n {
         let i = code::ins_at(code, k);
-        land(out, n, roles::is_jump(i), i.a as usize);
+        land(out, n, roles::is_jump_in(&roles, i), i.a as usize);
         k += 1;
     }
 }

@@ -13,24 +13,24 @@ use Rattle.callee.proofs.step_at.Reads as step-at-reads
 use Rattle.callee.proofs.+trace.{statement}
 use Rattle.callee.proofs.+trace.Tie.{close}
 
-abbrev measure : Measures 1 trace-kinds.ps ℕ
-measure κs a = a .1 .0
+abbrev measure : Measures 2 trace-kinds.ps ℕ
+measure κs a = a .1 .1 .0
 
-abbrev at : ℕ → In 1 trace-kinds.ps
-at t = and 1 trace-kinds.ps (is 1 trace-kinds.ps measure t) trace.Pre
+abbrev at : ℕ → In 2 trace-kinds.ps
+at t = and 2 trace-kinds.ps (is 2 trace-kinds.ps measure t) trace.Pre
 
-abbrev below : ℕ → In 1 trace-kinds.ps
-below t = and 1 trace-kinds.ps (falls 1 trace-kinds.ps _<_ measure t) trace.Pre
+abbrev below : ℕ → In 2 trace-kinds.ps
+below t = and 2 trace-kinds.ps (falls 2 trace-kinds.ps _<_ measure t) trace.Pre
 
 -- what `step_at` and the trace itself claim
 abbrev calls : ℕ → trace-lts.Claims
 calls t = (step-at-reads.Asked, step-at-reads.Learnt, below t, trace.Post)
 
 abbrev Inv-loop : trace-lts.InvT-loop
-Inv-loop code j a d₀ d = (d ≤ j) × (traced code a d ≡ traced code a j)
+Inv-loop roles code j a d₀ d = (d ≤ j) × (traced code a d ≡ traced code a j)
 
 abbrev μ-loop : trace-lts.MeasureT-loop
-μ-loop code j a d₀ d = d
+μ-loop roles code j a d₀ d = d
 
 loop-holds : (t : ℕ) → trace-lts.Need-loop-holds (calls t) (at t) trace.Post Inv-loop μ-loop
 loop-holds t c = search needs

@@ -33,6 +33,9 @@ ins-at-requires c κs = search needs
 returns : tie.Need-returns
 returns c = search (by-name, by-trace, no-call)
 
+table-requires : tie.Need-table-requires
+table-requires c κs = search needs
+
 trace-requires : tie.Need-trace-requires
 trace-requires c κs = search needs
 
@@ -43,4 +46,4 @@ returns-3 : tie.Need-returns-3
 returns-3 c = search (by-name, by-trace, no-call)
 
 pub global-at-spec : {M : Type 1} → statement M
-global-at-spec = tie.close (tie.spec ins-at-requires returns trace-requires returns-2 returns-3)
+global-at-spec = tie.close (tie.spec ins-at-requires returns table-requires trace-requires returns-2 returns-3)

@@ -15,11 +15,11 @@ is : (i : Ins) (a : ℕ) (b : Bool) → b ≡ writes i a → b && not (eqb (i .o
 unfolding setsIt
 is i a b e = rw e
 
-writes-of-requires : tie.Need-writes-of-requires
-writes-of-requires c κs = search needs
+writes-in-requires : tie.Need-writes-in-requires
+writes-in-requires c κs = search needs
 
 returns : tie.Need-returns
 returns c = search is
 
 pub sets-it-spec : {M : Type 1} → statement M
-sets-it-spec = tie.close (tie.spec writes-of-requires returns)
+sets-it-spec = tie.close (tie.spec writes-in-requires returns)

@@ -70,8 +70,8 @@ pushed-back-of-requires c κs = search needs
 enum-known-p : tie.Need-enum-known-p
 enum-known-p c = search needs
 
-cast-t9 : tie.Need-cast-t9
-cast-t9 c = search (needs, fits)
+cast-t10 : tie.Need-cast-t10
+cast-t10 c = search (needs, fits)
 
 returns : tie.Need-returns
 returns c = search (to-push, to-none, loaded, written, passes, lost)
@@ -105,7 +105,7 @@ step-at-spec =
     sets-it-requires
     pushed-back-of-requires
     enum-known-p
-    cast-t9
+    cast-t10
     returns
     enum-told
     returns-2

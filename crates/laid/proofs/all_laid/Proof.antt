@@ -10,10 +10,13 @@ use Rattle.laid.proofs.all_laid.Statement.{statement}
 use Rattle.laid.proofs.all_laid.Tie as tie
 
 abbrev Inv-loop : tie.InvT-loop
-Inv-loop code yields n k₀ k = (k ≤ n) × (every (laidAt code yields) k ≡ true)
+Inv-loop code yields roles n k₀ k = (k ≤ n) × (every (laidAt code yields) k ≡ true)
 
 abbrev μ-loop : tie.MeasureT-loop
-μ-loop code yields n k₀ k = n - k
+μ-loop code yields roles n k₀ k = n - k
+
+table-requires : tie.Need-table-requires Inv-loop μ-loop
+table-requires c κs = search needs
 
 loop-holds : tie.Need-loop-holds Inv-loop μ-loop
 loop-holds c = search (needs, all)
@@ -44,6 +47,7 @@ all-laid-spec =
     (tie.spec
     Inv-loop
     μ-loop
+    table-requires
     loop-holds
     laid-at-requires
     returns

@@ -23,8 +23,8 @@ module _ (i prev next s t : Ins) (k n : ℕ) (y j : Bool) (e : j ≡ isJump i) w
     unfolding fits
     work a b g p q = rw (← e, h, ← f, g, p, q)
 
-is-jump-requires : tie.Need-is-jump-requires
-is-jump-requires c κs = search needs
+is-jump-in-requires : tie.Need-is-jump-in-requires
+is-jump-in-requires c κs = search needs
 
 jump-fits-requires : tie.Need-jump-fits-requires
 jump-fits-requires c κs = search needs
@@ -32,8 +32,8 @@ jump-fits-requires c κs = search needs
 returns : tie.Need-returns
 returns c = search jumps
 
-has-role-requires : tie.Need-has-role-requires
-has-role-requires c κs = search needs
+has-role-in-requires : tie.Need-has-role-in-requires
+has-role-in-requires c κs = search needs
 
 plain-fits-requires : tie.Need-plain-fits-requires
 plain-fits-requires c κs = search needs
@@ -54,10 +54,10 @@ pub fits-spec : {M : Type 1} → statement M
 fits-spec =
     tie.close
     (tie.spec
-    is-jump-requires
+    is-jump-in-requires
     jump-fits-requires
     returns
-    has-role-requires
+    has-role-in-requires
     plain-fits-requires
     returns-2
     stack-work-requires

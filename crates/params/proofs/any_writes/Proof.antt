@@ -18,10 +18,10 @@ unfolding writesAt
 at-k w r k i b e f = f ∙ rw e
 
 abbrev Inv-loop : tie.InvT-loop
-Inv-loop code r n k₀ k = (k ≤ n) × (some (writesAt code r) k ≡ false)
+Inv-loop roles code r n k₀ k = (k ≤ n) × (some (writesAt code r) k ≡ false)
 
 abbrev μ-loop : tie.MeasureT-loop
-μ-loop code r n k₀ k = n - k
+μ-loop roles code r n k₀ k = n - k
 
 loop-holds : tie.Need-loop-holds Inv-loop μ-loop
 loop-holds c = search (needs, somewhere)
@@ -29,8 +29,8 @@ loop-holds c = search (needs, somewhere)
 ins-at-requires : tie.Need-ins-at-requires Inv-loop μ-loop
 ins-at-requires c κs = search needs
 
-writes-of-requires : tie.Need-writes-of-requires Inv-loop μ-loop
-writes-of-requires c κs = search needs
+writes-in-requires : tie.Need-writes-in-requires Inv-loop μ-loop
+writes-in-requires c κs = search needs
 
 returns : tie.Need-returns Inv-loop μ-loop
 unfolding written
@@ -57,7 +57,7 @@ any-writes-spec =
     μ-loop
     loop-holds
     ins-at-requires
-    writes-of-requires
+    writes-in-requires
     returns
     add-k
     loop-less

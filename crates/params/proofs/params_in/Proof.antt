@@ -9,10 +9,13 @@ use Rattle.params.proofs.params_in.Statement.{statement}
 use Rattle.params.proofs.params_in.Tie as tie
 
 abbrev Inv-loop : tie.InvT-loop
-Inv-loop code arity n m₀ r₀ m r = (r ≤ n) × (m ≡ mask (written code) r)
+Inv-loop code arity roles n m₀ r₀ m r = (r ≤ n) × (m ≡ mask (written code) r)
 
 abbrev μ-loop : tie.MeasureT-loop
-μ-loop code arity n m₀ r₀ m r = n - r
+μ-loop code arity roles n m₀ r₀ m r = n - r
+
+table-requires : tie.Need-table-requires Inv-loop μ-loop
+table-requires c κs = search needs
 
 at-most-64-requires : tie.Need-at-most-64-requires Inv-loop μ-loop
 at-most-64-requires c κs = search needs
@@ -51,6 +54,7 @@ params-in-spec =
     (tie.spec
     Inv-loop
     μ-loop
+    table-requires
     at-most-64-requires
     loop-holds
     cast-any-writes

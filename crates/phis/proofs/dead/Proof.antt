@@ -36,6 +36,9 @@ done : (w seen seen₁ seen₂ seen₃ todo todo₁ todo₂ : List ℕ) (k r : �
 done w seen seen₁ seen₂ seen₃ todo todo₁ todo₂ k r b c s d e =
     settles (Read w r (k + 1)) (Dead w k r) (length w / 6) seen seen₁ seen₂ seen₃ todo todo₁ todo₂ b (not b) c s d e (other (Read w r (k + 1)) b)
 
+table-requires : tie.Need-table-requires
+table-requires c κs = search needs
+
 add-words : tie.Need-add-words
 add-words c = search needs
 
@@ -49,7 +52,7 @@ cast-search : tie.Need-cast-search
 cast-search c = search needs
 
 search-requires : tie.Need-search-requires
-search-requires c κs = search (ready, none)
+search-requires c κs = (search needs, search ready, search none)
 
 clear-marks-requires-2 : tie.Need-clear-marks-requires-2
 clear-marks-requires-2 c κs = search needs
@@ -70,6 +73,7 @@ pub dead-spec : {M : Type 1} → statement M
 dead-spec =
     tie.close
     (tie.spec
+    table-requires
     add-words
     clear-marks-requires
     add-search

@@ -6,15 +6,15 @@ use lib.ListN.{length}
 use Rattle.paths.specs.Search.{owed}
 use Rattle.paths.proofs.Loop.{few-wait, top-in, push-in-2, turning}
 use Rattle.phis.specs.Phi.{leadsAt}
-use Rattle.phis.proofs.Loop.{Loop, turn}
+use Rattle.phis.proofs.Loop.{Loop, turn, falls-go, goes}
 use Rattle.phis.proofs.search.Statement.{statement}
 use Rattle.phis.proofs.search.Tie as tie
 
 abbrev Inv-loop : tie.InvT-loop
-Inv-loop code r start seen₀ todo₀ n top₀ seen todo top = Loop code r start seen₀ todo₀ seen todo top
+Inv-loop roles code r start seen₀ todo₀ n top₀ seen todo top = Loop code r start seen₀ todo₀ seen todo top
 
 abbrev μ-loop : tie.MeasureT-loop
-μ-loop code r start seen₀ todo₀ n top₀ seen todo top = owed (leadsAt code) seen (length code / 6) + top
+μ-loop roles code r start seen₀ todo₀ n top₀ seen todo top = owed (leadsAt code) seen (length code / 6) + top
 
 slice-write-todo : tie.Need-slice-write-todo Inv-loop μ-loop
 slice-write-todo c = search (needs, turning, turn)
@@ -88,17 +88,35 @@ push-requires c κs = top-in _ _ _ _ _ _ _ _ _ _ (c .before .before .before .bef
 cast-push-2 : tie.Need-cast-push-2 Inv-loop μ-loop
 cast-push-2 c = search (needs, turning, turn)
 
-is-jump-requires : tie.Need-is-jump-requires Inv-loop μ-loop
-is-jump-requires c κs = search (needs, turning, turn)
+is-jump-in-requires : tie.Need-is-jump-in-requires Inv-loop μ-loop
+is-jump-in-requires c κs =
+    let p = c .before .before .before .before .before .before .before .before .before .before .before in
+    p .before .before .before .before .before .before .before .before .before .before .before .pre .0
 
 push-requires-2 : tie.Need-push-requires-2 Inv-loop μ-loop
 push-requires-2 c κs = push-in-2 _ _ _ _ _ _ _ _ _ _ (c .before .before .before .before .before .before .before .before .before .before .before .before .before .before .before .before .before .before .before .loop .inv) (omega arith) (c .before .before .before .before .before .before .before .before .before .before .before .before .before .before .before .before .wide .result) (c .before .before .before .before .before .before .before .before .before .before .before .before .before .before .before .before .wide .ensures) (omega arith) (omega arith) _ _ _ _ (c .before .before .before .before .before .push .ensures .0) (c .before .before .before .before .before .push .ensures .1)
 
 loop-less-4 : tie.Need-loop-less-4 Inv-loop μ-loop
-loop-less-4 c = search (needs, turning, turn)
+loop-less-4 c =
+    let p = c .before .before .before .before .before .before .before .before in
+    let q = p .before .before .before .before .before .before in
+    let s = q .before .before .before .before .before in
+    falls-go _ _ _ _ _ _ _ _ (s .before .before .before .loop .inv) (s .before .before .loop-test .taken) (s .wide .result) (s .wide .ensures)
+    (omega arith) (omega arith) _ (q .before .ins-at .ensures) _ (q .reads .ensures) (p .before .before .before .before .before .if3 .left)
+    _ (p .before .before .before .before .stops .ensures) (p .before .before .before .if4 .left)
+    _ _ _ _ _ (p .push .ensures .0) (p .push .ensures .1) (c .before .before .before .is-jump-in .ensures)
+    (c .before .before .push2 .ensures .0) (c .before .before .push2 .ensures .1)
 
 loop-again-4 : tie.Need-loop-again-4 Inv-loop μ-loop
-loop-again-4 c = search (needs, turning, turn)
+loop-again-4 c =
+    let p = c .before .before .before .before .before .before .before .before in
+    let q = p .before .before .before .before .before .before in
+    let s = q .before .before .before .before .before in
+    goes _ _ _ _ _ _ _ _ (s .before .before .before .loop .inv) (s .before .before .loop-test .taken) (s .wide .result) (s .wide .ensures)
+    (omega arith) (omega arith) _ (q .before .ins-at .ensures) _ (q .reads .ensures) (p .before .before .before .before .before .if3 .left)
+    _ (p .before .before .before .before .stops .ensures) (p .before .before .before .if4 .left)
+    _ _ _ _ _ (p .push .ensures .0) (p .push .ensures .1) (c .before .before .before .is-jump-in .ensures)
+    (c .before .before .push2 .ensures .0) (c .before .before .push2 .ensures .1)
 
 same-length-3 : tie.Need-same-length-3 Inv-loop μ-loop
 same-length-3 c = search (needs, turning, turn)
@@ -139,7 +157,7 @@ search-spec =
     cast-push
     push-requires
     cast-push-2
-    is-jump-requires
+    is-jump-in-requires
     push-requires-2
     loop-less-4
     loop-again-4

@@ -32,8 +32,8 @@ work-of-requires c κs = search needs
 enum-told : tie.Need-enum-told
 enum-told c = search needs
 
-cast-t8 : tie.Need-cast-t8
-cast-t8 c = search needs
+cast-t9 : tie.Need-cast-t9
+cast-t9 c = search needs
 
 enum-told-2 : tie.Need-enum-told-2
 enum-told-2 c = search needs
@@ -41,8 +41,8 @@ enum-told-2 c = search needs
 enum-known-pops : tie.Need-enum-known-pops
 enum-known-pops c = search needs
 
-cast-t11 : tie.Need-cast-t11
-cast-t11 c = search needs
+cast-t12 : tie.Need-cast-t12
+cast-t12 c = search needs
 
 enum-told-3 : tie.Need-enum-told-3
 enum-told-3 c = search needs
@@ -50,14 +50,14 @@ enum-told-3 c = search needs
 enum-told-4 : tie.Need-enum-told-4
 enum-told-4 c = search needs
 
-add-t14 : tie.Need-add-t14
-add-t14 c = search needs
+add-t15 : tie.Need-add-t15
+add-t15 c = search needs
 
 enum-told-5 : tie.Need-enum-told-5
 enum-told-5 c = search needs
 
-has-role-requires : tie.Need-has-role-requires
-has-role-requires c κs = search needs
+has-role-in-requires : tie.Need-has-role-in-requires
+has-role-in-requires c κs = search needs
 
 returns : tie.Need-returns
 returns c = search (needs, by-work, branch)
@@ -92,15 +92,15 @@ effect-of-spec =
     (tie.spec
     work-of-requires
     enum-told
-    cast-t8
+    cast-t9
     enum-told-2
     enum-known-pops
-    cast-t11
+    cast-t12
     enum-told-3
     enum-told-4
-    add-t14
+    add-t15
     enum-told-5
-    has-role-requires
+    has-role-in-requires
     returns
     returns-2
     returns-3

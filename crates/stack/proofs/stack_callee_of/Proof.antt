@@ -48,10 +48,13 @@ begins w j n = refl
 ruleset walk = (ends, goes-on, nothing, fits, begins, narrow-at, deep)
 
 abbrev Inv-loop : tie.InvT-loop
-Inv-loop code j n need₀ k₀ need k = (k ≤ j) × (need ≤ 65536 * (1 + (j - k))) × (pushedAt code k need ≡ stackCallee code j n)
+Inv-loop code j n roles need₀ k₀ need k = (k ≤ j) × (need ≤ 65536 * (1 + (j - k))) × (pushedAt code k need ≡ stackCallee code j n)
 
 abbrev μ-loop : tie.MeasureT-loop
-μ-loop code j n need₀ k₀ need k = k
+μ-loop code j n roles need₀ k₀ need k = k
+
+table-requires : tie.Need-table-requires Inv-loop μ-loop
+table-requires c κs = search needs
 
 add-need : tie.Need-add-need Inv-loop μ-loop
 add-need c = search (needs, walk)
@@ -92,6 +95,7 @@ stack-callee-of-spec =
     (tie.spec
     Inv-loop
     μ-loop
+    table-requires
     add-need
     loop-holds
     sub-k

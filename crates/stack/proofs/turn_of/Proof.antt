@@ -41,14 +41,14 @@ source-of-requires c κs = search needs
 returns : tie.Need-returns
 returns c = search (needs, by-effect, ended, branch)
 
-sub-t14 : tie.Need-sub-t14
-sub-t14 c = search needs
+sub-t15 : tie.Need-sub-t15
+sub-t15 c = search needs
 
-cast-t15 : tie.Need-cast-t15
-cast-t15 c = search needs
+cast-t16 : tie.Need-cast-t16
+cast-t16 c = search needs
 
-add-t16 : tie.Need-add-t16
-add-t16 c = search needs
+add-t17 : tie.Need-add-t17
+add-t17 c = search needs
 
 returns-2 : tie.Need-returns-2
 returns-2 c = search (needs, by-effect, ended, branch)
@@ -67,8 +67,8 @@ turn-of-spec =
     cast-source-of
     source-of-requires
     returns
-    sub-t14
-    cast-t15
-    add-t16
+    sub-t15
+    cast-t16
+    add-t17
     returns-2
     returns-3)

@@ -7,10 +7,13 @@ use Rattle.surveys.proofs.land_jumps.Statement.{statement}
 use Rattle.surveys.proofs.land_jumps.Tie as tie
 
 abbrev Inv-loop : tie.InvT-loop
-Inv-loop code out₀ n k₀ out k = Landing n (jumped code) out₀ out n k
+Inv-loop code out₀ roles n k₀ out k = Landing n (jumped code) out₀ out n k
 
 abbrev μ-loop : tie.MeasureT-loop
-μ-loop code out₀ n k₀ out k = n - k
+μ-loop code out₀ roles n k₀ out k = n - k
+
+table-requires : tie.Need-table-requires Inv-loop μ-loop
+table-requires c κs = search needs
 
 loop-holds : tie.Need-loop-holds Inv-loop μ-loop
 loop-holds c = search (needs, landing)
@@ -18,8 +21,8 @@ loop-holds c = search (needs, landing)
 ins-at-requires : tie.Need-ins-at-requires Inv-loop μ-loop
 ins-at-requires c κs = search needs
 
-is-jump-requires : tie.Need-is-jump-requires Inv-loop μ-loop
-is-jump-requires c κs = search needs
+is-jump-in-requires : tie.Need-is-jump-in-requires Inv-loop μ-loop
+is-jump-in-requires c κs = search needs
 
 cast-land : tie.Need-cast-land Inv-loop μ-loop
 cast-land c = search needs
@@ -48,9 +51,10 @@ land-jumps-spec =
     (tie.spec
     Inv-loop
     μ-loop
+    table-requires
     loop-holds
     ins-at-requires
-    is-jump-requires
+    is-jump-in-requires
     cast-land
     land-requires
     add-k

@@ -1,38 +1,24 @@
 -- A trace goes back: a restart is before the store that it starts from. And what a turn of the trace keeps. Assumes nothing.
 use mathlib.Core.Path.{_≡_, refl, sym, _∙_}
 use mathlib.Core.Logic.{⊎-elim}
-use mathlib.Core.Bool.{Bool, true, false, cond, _&&_}
+use mathlib.Core.Bool.{Bool, true, false, cond}
 use mathlib.Core.List.{List}
-use Prim.Native.Nat.{ℕ, zero, suc, _+_, _-_, _<_, _≤_}
+use Prim.Native.Nat.{ℕ, zero, suc, _-_, _<_, _≤_}
 use native.Mathlib.Nat.{eq-or-lt-of-le}
 use native.Mathlib.Omega.{arith}
-use lib.Dec.{eqb, ltb}
-use borrow.Author.Tests.{ltb-true, le-leb, lt-leb}
+use lib.Dec.{eqb}
+use borrow.Author.Tests.{le-leb, lt-leb}
 use Rattle.code.specs.Op.{StoreTopR, LoadGlobalR}
-use Rattle.code.specs.Ins.{insAt, count}
-use Rattle.callee.specs.declared.Place.{Place}
-use Rattle.callee.specs.declared.Place.the-variants.{At, Nowhere}
+use Rattle.code.specs.Ins.{insAt}
+use Rattle.pushes.specs.declared.Place.{Place}
+use Rattle.pushes.specs.declared.Place.the-variants.{At, Nowhere}
+use Rattle.pushes.specs.Pushes.{pushedBack}
+use Rattle.pushes.proofs.Falling.{pushed-falls}
 use Rattle.callee.specs.declared.Step.{Step}
 use Rattle.callee.specs.declared.Step.the-variants.{Pass, Back, Tell}
 use Rattle.callee.specs.declared.Callee.{Callee}
 use Rattle.callee.specs.declared.Callee.the-variants.{Bound, Unknown}
-use Rattle.callee.specs.Trace.{storesFrom, callBefore, givesBack, pushUnder, pushedBack, setsIt, passesBy, sentBack, stepAt, heard, tracedBy, traced}
-
-stores-le : (w : List ℕ) (d : ℕ) → storesFrom w d ≤ d
-unfolding storesFrom
-stores-le w zero = omega arith
-stores-le w (suc k) = go (eqb (insAt w k .op) StoreTopR) (stores-le w k)
-  where
-    go : (b : Bool) → storesFrom w k ≤ k → cond b (storesFrom w k) (suc k) ≤ suc k
-    go true h = omega arith
-    go false h = omega arith
-
-call-le : (w : List ℕ) (s : ℕ) → callBefore w s ≤ s
-unfolding callBefore
-call-le w s = omega arith
-
-no-at : {A : Type 0} (p : ℕ) → At p ≡ Nowhere → A
-no-at p e = let y : _≡_ {A = ℕ} 0 1 = cc in absurd (omega arith)
+use Rattle.callee.specs.Trace.{setsIt, passesBy, sentBack, stepAt, heard, tracedBy, traced}
 
 no-tell : {A : Type 0} (p : ℕ) (v : Callee) → Back p ≡ Tell v → A
 no-tell p v e = let y : _≡_ {A = ℕ} 0 1 = cc in absurd (omega arith)
@@ -41,24 +27,9 @@ no-pass : {A : Type 0} (p : ℕ) → Back p ≡ Pass → A
 no-pass p e = let y : _≡_ {A = ℕ} 0 1 = cc in absurd (omega arith)
 
 module _ (w : List ℕ) (d r p : ℕ) where
-  under-falls : (c s : ℕ) → c ≤ d → At p ≡ pushUnder w c s d r → p < d
-  unfolding pushUnder
-  under-falls c s l = go (ltb 0 c) refl (givesBack w c s d r)
-    where
-      go : (a : Bool) → ltb 0 c ≡ a → (g : Bool) → At p ≡ cond (a && g) (At (c - 1)) Nowhere → p < d
-      go true t true e = let q : p ≡ c - 1 = cc in omega (arith, ltb-true 0 c t)
-      go true t false e = no-at p e
-      go false t g e = no-at p e
-
-  pub pushed-falls : At p ≡ pushedBack w d r → p < d
-  unfolding pushedBack
-  pushed-falls =
-      under-falls (callBefore w (storesFrom w d)) (storesFrom w d)
-      (omega (arith, call-le w (storesFrom w d), stores-le w d))
-
   sent-falls : (v : Place) → v ≡ pushedBack w d r → Back p ≡ sentBack v → p < d
   sent-falls Nowhere f e = no-tell p Unknown e
-  sent-falls (At q) f e = let z : p ≡ q = cc in pushed-falls (rw z f)
+  sent-falls (At q) f e = let z : p ≡ q = cc in pushed-falls w d r p (rw z f)
 
   pub step-falls : Back p ≡ stepAt w d r → p < d
   unfolding stepAt

@@ -20,8 +20,8 @@ use Rattle.chunk.specs.Pool.{constToVal}
 use Rattle.landings.specs.Landings.{lands, landsAny, handlesAny, barred}
 use Rattle.fold.specs.Pass.{byScan}
 use Rattle.fold.specs.Plan.{Chunk, kindOf, prevLive, operandOf, skipsInto, blocked, withFound, withVal, foldUnary, tryFoldBinop, tryFoldUnary, planFor, planAt}
-use Rattle.fold.specs.declared.Found.{Found}
-use Rattle.fold.specs.declared.Found.the-variants.{At, Nowhere}
+use Rattle.operands.specs.declared.Found.{Found}
+use Rattle.operands.specs.declared.Found.the-variants.{At, Nowhere}
 use Rattle.fold.specs.declared.Kind.{Kind}
 use Rattle.fold.specs.declared.Kind.the-variants.{Binop, Not, Minus, Other}
 use Rattle.fold.specs.declared.Plan.{Plan}

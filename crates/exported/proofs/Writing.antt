@@ -21,7 +21,7 @@ use Rattle.code.proofs.Stages.{room-before, room-there}
 use Rattle.surveys.specs.declared.Filled.{Filled}
 use Rattle.surveys.specs.declared.Filled.the-variants as filled
 use Rattle.surveys.specs.Answers.{Fills, targetMark}
-use Rattle.surveys.specs.Loops.{depth}
+use Rattle.loops.specs.Loops.{depth}
 use Rattle.phis.specs.Phi as phi
 use Rattle.phis.specs.Phi.{Dead}
 use Rattle.phis.specs.Generator.{GenPure}

@@ -19,13 +19,13 @@ use Rattle.values.specs.declared.Op.{Op}
 use Rattle.chunk.specs.Pool.{Room}
 use Rattle.fold.specs.Plan.{Chunk, page, kindOf, prevLive, operandOf, blocked, withFound, withVal, foldUnary, tryFoldBinop, tryFoldUnary, planFor, planAt}
 use Rattle.fold.specs.Pass.{Readable, Ready}
-use Rattle.fold.specs.declared.Found.{Found}
-use Rattle.fold.specs.declared.Found.the-variants.{At, Nowhere}
+use Rattle.operands.specs.declared.Found.{Found}
+use Rattle.operands.specs.declared.Found.the-variants.{At, Nowhere}
 use Rattle.fold.specs.declared.Kind.{Kind}
 use Rattle.fold.specs.declared.Kind.the-variants.{Binop, Not, Minus, Other}
 use Rattle.fold.specs.declared.Plan.{Plan}
 use Rattle.fold.specs.declared.Plan.the-variants.{Stay, Put}
-use Rattle.fold.proofs.Parts.{before, operand-load}
+use Rattle.operands.proofs.Parts.{before, operand-load}
 
 -- ---- what the page names is a folding operator
 

@@ -20,8 +20,8 @@ use Rattle.chunk.specs.declared.Kept.{Kept}
 use Rattle.chunk.specs.declared.Kept.the-variants.{At as KeptAt, Full}
 use Rattle.fold.specs.Plan.{Chunk, chunk, kindOf, prevLive, operandOf, blocked, foldUnary, tryFoldBinop, tryFoldUnary, planFor, planAt}
 use Rattle.fold.specs.Pass.{Loading, loading, fromPool, constLoad, put, landed, applied, tryFold}
-use Rattle.fold.specs.declared.Found.{Found}
-use Rattle.fold.specs.declared.Found.the-variants.{At, Nowhere}
+use Rattle.operands.specs.declared.Found.{Found}
+use Rattle.operands.specs.declared.Found.the-variants.{At, Nowhere}
 use Rattle.fold.specs.declared.Kind.{Kind}
 use Rattle.fold.specs.declared.Kind.the-variants.{Binop, Not, Minus, Other}
 use Rattle.fold.specs.declared.Loaded.{Loaded}

@@ -1,22 +1,20 @@
 -- What an operator at i may fold to: document 01, 'Folding'.
-use Prim.Native.Nat.{ℕ, zero, suc, _-_}
-use mathlib.Core.Bool.{Bool, true, false, cond, _&&_, _||_}
+use Prim.Native.Nat.{ℕ}
+use mathlib.Core.Bool.{Bool, true, false, cond}
 use mathlib.Core.List.{List, [], _∷_}
-use lib.Dec.{ltb, eqb}
-use lib.ListN.{getD}
 use Rattle.laws.specs.Page.{Row, _↝_, look}
 use Rattle.code.specs.Op as op
-use Rattle.lent.specs.Chunk.{opAt, operandAt}
-use Rattle.landings.specs.Landings.{lands}
+use Rattle.lent.specs.Chunk.{opAt}
 use Rattle.values.specs.Folds.{foldBinop, foldNot, foldNeg}
 use Rattle.values.specs.declared.Val.{Val}
 use Rattle.values.specs.declared.Maybe.{Maybe}
 use Rattle.values.specs.declared.Maybe.the-variants.{Is, Nothing}
 use Rattle.values.specs.declared.Op.{Op}
 use Rattle.values.specs.declared.Op.the-variants.{Add, Sub, Mul, Div, Mod, FloorDiv, Eq, NotEq, Lt, Gt, LtEq, GtEq, BitAnd, BitOr, BitXor, Shl, Shr}
-use Rattle.chunk.specs.Pool.{constToVal}
-use Rattle.fold.specs.declared.Found.{Found}
-use Rattle.fold.specs.declared.Found.the-variants.{At, Nowhere}
+use Rattle.operands.specs.declared.Found.{Found}
+use Rattle.operands.specs.declared.Found.the-variants.{At, Nowhere}
+unfoldable pub use Rattle.operands.specs.Operands.{prevLive, operandOf, skipsInto, blocked}
+pub use Rattle.operands.specs.Operands.{after}
 use Rattle.fold.specs.declared.Kind.{Kind}
 use Rattle.fold.specs.declared.Kind.the-variants.{Binop, Not, Minus, Other}
 use Rattle.fold.specs.declared.Plan.{Plan}
@@ -60,29 +58,6 @@ page =
 unfoldable pub kindOf : ℕ → Kind
 unfolding page
 kindOf o = look Other o page
-
--- the nearest undead instruction before i
-unfoldable pub prevLive : List ℕ → ℕ → Found
-prevLive dead zero = Nowhere
-prevLive dead (suc i) = cond (eqb (getD dead i 0) 0) (At i) (prevLive dead i)
-
--- an operand must be a LoadConst, of a constant that is one
-unfoldable pub operandOf : (code kinds words : List ℕ) → ℕ → ℕ → Maybe
-operandOf code kinds words constants p = cond (eqb (opAt code p) op.LoadConst) (constToVal kinds words constants (operandAt code p)) Nothing
-
--- no fold if the instruction just before the first operand is a jump into (first operand, operator]
-unfoldable pub skipsInto : List ℕ → ℕ → ℕ → Bool
-unfolding lands
-skipsInto w p i = ltb 0 p && lands w p i (p - 1)
-
--- and none if a landing bars the first operand p: strict mode
-unfoldable pub blocked : (ℕ → Bool) → List ℕ → ℕ → ℕ → Bool
-unfolding skipsInto
-blocked bars w p i = skipsInto w p i || bars p
-
--- the last landing bars every operand before it
-abbrev pub after : ℕ → ℕ → Bool
-after last p = ltb p last
 
 -- each missing operand ends the attempt
 abbrev pub withFound : Found → (ℕ → Plan) → Plan

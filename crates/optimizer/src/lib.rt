@@ -43,7 +43,7 @@ fn fold_pass(
     ensures { λ r. ⌜ chunk (now (code .exit)) (now (dead .exit)) (now (kinds .exit)) (now (words .exit)) r ≡ foldPass (byTable strict (now (landings .entry))) (chunk (now (code .entry)) (now (dead .entry)) (now (kinds .entry)) (now (words .entry)) constants) ⌝ }
 {
     clear_marks(dead);
-    fold::fold_all(code, dead, kinds, words, constants, landings, strict)
+    pass::fold_all(code, dead, kinds, words, constants, landings, strict)
 }
 
 // The tries follow, if anything died.

@@ -12,7 +12,7 @@ use Rattle.laws.proofs.Table.{cleared-length, cleared-twice}
 use Rattle.code.specs.Op.{Phi}
 use Rattle.code.specs.Ins.{insAt}
 use Rattle.code.specs.declared.Ins.{Ins}
-use Rattle.walks.specs.Section.{laid}
+use Rattle.laid.specs.Section.{laid}
 use Rattle.phis.specs.Phi.{Dead, Says, Room, Settles}
 use Rattle.phis.specs.Generator.{made, returnsOutside, PhisDead, Clear, GenPure}
 

@@ -11,7 +11,8 @@ use Rattle.laws.specs.Table.{clearedTo}
 use Rattle.code.specs.Op.{Phi, MakeFunction, MakeCoroutine, SetupExcept, SetupFinally, PopExcept, WithExit, ReturnR, ReturnValue}
 use Rattle.code.specs.Ins.{insAt, count}
 use Rattle.code.specs.declared.Ins.{Ins}
-use Rattle.walks.specs.Section.{laid, returnsAt}
+use Rattle.laid.specs.Section.{laid}
+use Rattle.walks.specs.Returns.{returnsAt}
 use Rattle.walks.specs.There.{there}
 use Rattle.phis.specs.Phi.{Dead, Room}
 

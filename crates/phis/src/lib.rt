@@ -235,7 +235,7 @@ fn generates(code: &[u16], seen: &mut [u8], todo: &mut [u32]) -> bool
     ensures { λ b. ⌜ Settles (GenPure (now (code .entry))) (length (now (code .entry)) / 6 + 1) (now (seen .entry)) (now (todo .entry)) b (now (seen .exit)) (now (todo .exit)) ⌝ }
 {
     let dead = phis_dead(code, seen, todo);
-    let laid = walks::all_laid(code, true);
+    let laid = laid::all_laid(code, true);
     let made = any_makes(code);
     let outside = returns_outside(code);
     laid & dead & !made & outside

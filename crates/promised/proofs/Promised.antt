@@ -8,9 +8,13 @@ use Rattle.values.proofs.Digits.{and-law, or-law, xor-law, one-digits}
 use Rattle.values.proofs.Order.{lt-ints, le-ints, eq-ints, ne-ints, eqZ-true, eqZ-same, exact-int, lt-mixed, gt-mixed, eq-mixed}
 use Rattle.chunk.proofs.Nan.{the-nan, nan-read, nan-kept}
 use Rattle.roles.specs.Answers.{kindsAnswer, roleAnswer, fieldAnswer, writesAnswer, touchAnswer}
-use Rattle.walks.specs.Answers.{pureAnswer, flatAnswer, guardedAnswer, returnsAnswer}
-use Rattle.surveys.specs.Answers.{writtenAnswer, passedAnswer}
-use Rattle.callee.specs.Answers.{globalAnswer, pushAnswer, stackAnswer}
+use Rattle.laid.specs.Answers.{pureAnswer}
+use Rattle.shapes.specs.Answers.{flatAnswer, guardedAnswer}
+use Rattle.walks.specs.Answers.{returnsAnswer}
+use Rattle.params.specs.Answers.{writtenAnswer, passedAnswer}
+use Rattle.callee.specs.Answers.{globalAnswer}
+use Rattle.pushes.specs.Answers.{pushAnswer}
+use Rattle.stack.specs.Answers.{stackAnswer}
 use Rattle.turniploom.specs.Answers.{kindsTold, roleTold, fieldTold, touchTold, truthTold, bitsTold, globalTold, pushTold, stackTold}
 use Rattle.fold.proofs.Landed.{same-folds, still-true}
 use Rattle.runs.proofs.Lock.{one-end}

@@ -15,9 +15,13 @@ use Rattle.code.specs.declared.Answer.{Answer}
 use Rattle.code.specs.declared.Refusal.the-variants.{Table}
 use Rattle.code.specs.declared.Checked.the-variants as stage
 use Rattle.roles.specs.Answers.{kindsAnswer, roleAnswer, fieldAnswer, writesAnswer, touchAnswer}
-use Rattle.walks.specs.Answers.{pureAnswer, flatAnswer, guardedAnswer, returnsAnswer}
-use Rattle.surveys.specs.Answers.{writtenAnswer, passedAnswer}
-use Rattle.callee.specs.Answers.{globalAnswer, pushAnswer, stackAnswer}
+use Rattle.laid.specs.Answers.{pureAnswer}
+use Rattle.shapes.specs.Answers.{flatAnswer, guardedAnswer}
+use Rattle.walks.specs.Answers.{returnsAnswer}
+use Rattle.params.specs.Answers.{writtenAnswer, passedAnswer}
+use Rattle.callee.specs.Answers.{globalAnswer}
+use Rattle.pushes.specs.Answers.{pushAnswer}
+use Rattle.stack.specs.Answers.{stackAnswer}
 use Rattle.callee.specs.Trace.{stepAt, heard, tracedBy, traced}
 use Rattle.phis.specs.Phi.{Dead}
 use Rattle.phis.specs.Generator.{GenPure}

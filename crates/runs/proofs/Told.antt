@@ -16,8 +16,8 @@ use Rattle.values.specs.declared.Op.{Op}
 use Rattle.values.specs.declared.Maybe.{Maybe}
 use Rattle.values.specs.declared.Maybe.the-variants.{Is, Nothing}
 use Rattle.values.specs.Folds.{foldBinop}
-use Rattle.fold.specs.declared.Found.{Found}
-use Rattle.fold.specs.declared.Found.the-variants.{At, Nowhere}
+use Rattle.operands.specs.declared.Found.{Found}
+use Rattle.operands.specs.declared.Found.the-variants.{At, Nowhere}
 use Rattle.fold.specs.declared.Kind.{Kind}
 use Rattle.fold.specs.declared.Kind.the-variants.{Binop, Not, Minus, Other}
 use Rattle.fold.specs.declared.Plan.{Plan}

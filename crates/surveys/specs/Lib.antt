@@ -1,4 +1,2 @@
 pub mod Answers
-pub mod Loops
-pub mod Masks
 pub mod Targets

@@ -10,7 +10,7 @@ use Rattle.code.specs.Check.{checkOf, insideOf, registersOf, triedOf, roomOf}
 use Rattle.code.specs.declared.Answer.{Answer}
 use Rattle.flow.specs.Words.{Small}
 use Rattle.surveys.specs.Answers.{targetMark}
-use Rattle.surveys.specs.Loops.{depth}
+use Rattle.loops.specs.Loops.{depth}
 use Rattle.surveys.proofs.Filling.{one-filling}
 use Rattle.phis.specs.Phi.{Dead}
 use Rattle.phis.specs.Generator.{GenPure}

@@ -16,19 +16,20 @@ use Rattle.roles.specs.declared.FieldAnswer.{FieldAnswer}
 use Rattle.roles.specs.declared.FieldAnswer.the-variants as field
 use Rattle.roles.specs.declared.TouchAnswer.{TouchAnswer}
 use Rattle.roles.specs.declared.TouchAnswer.the-variants as touch
-use Rattle.surveys.specs.declared.Bits.{Bits}
-use Rattle.surveys.specs.declared.Bits.the-variants as bits
+use Rattle.params.specs.declared.Bits.{Bits}
+use Rattle.params.specs.declared.Bits.the-variants as bits
 use Rattle.surveys.specs.declared.Filled.{Filled}
 use Rattle.surveys.specs.declared.Filled.the-variants as filled
-use Rattle.surveys.specs.Answers.{Targets, LoopsAround}
+use Rattle.surveys.specs.Answers.{Targets}
+use Rattle.loops.specs.Answers.{LoopsAround}
 use Rattle.phis.specs.Answers as phis
 use Rattle.needed.specs.Answers as needed
 use Rattle.callee.specs.declared.GlobalAnswer.{GlobalAnswer}
 use Rattle.callee.specs.declared.GlobalAnswer.the-variants as global
-use Rattle.callee.specs.declared.PushAnswer.{PushAnswer}
-use Rattle.callee.specs.declared.PushAnswer.the-variants as push
-use Rattle.callee.specs.declared.StackAnswer.{StackAnswer}
-use Rattle.callee.specs.declared.StackAnswer.the-variants as stack
+use Rattle.pushes.specs.declared.PushAnswer.{PushAnswer}
+use Rattle.pushes.specs.declared.PushAnswer.the-variants as push
+use Rattle.stack.specs.declared.StackAnswer.{StackAnswer}
+use Rattle.stack.specs.declared.StackAnswer.the-variants as stack
 use Rattle.lent.specs.declared.Counts.{Counts}
 use Rattle.optimizer.specs.Fold.{FoldAnswer, Buffers}
 use Rattle.folding.specs.Answers as folding

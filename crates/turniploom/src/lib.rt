@@ -1,9 +1,13 @@
 // The exported calls: for Rust and C, each answers one `Answer` by value, 0 and its values or a refusal's number and what it also returns.
 ghost use mathlib.Core.Path.{_≡_};
 ghost use Rattle.roles.specs.Answers.{kindsAnswer, roleAnswer, fieldAnswer, writesAnswer, touchAnswer};
-ghost use Rattle.walks.specs.Answers.{pureAnswer, flatAnswer, guardedAnswer, returnsAnswer};
-ghost use Rattle.surveys.specs.Answers.{writtenAnswer, passedAnswer};
-ghost use Rattle.callee.specs.Answers.{globalAnswer, pushAnswer, stackAnswer};
+ghost use Rattle.laid.specs.Answers.{pureAnswer};
+ghost use Rattle.shapes.specs.Answers.{flatAnswer, guardedAnswer};
+ghost use Rattle.walks.specs.Answers.{returnsAnswer};
+ghost use Rattle.params.specs.Answers.{writtenAnswer, passedAnswer};
+ghost use Rattle.callee.specs.Answers.{globalAnswer};
+ghost use Rattle.pushes.specs.Answers.{pushAnswer};
+ghost use Rattle.stack.specs.Answers.{stackAnswer};
 ghost use Rattle.turniploom.specs.Answers.{truthTold, kindsTold, roleTold, fieldTold, touchTold, bitsTold, filledTold, TargetsTold, LoopsTold, DeadTold, GenTold, NeededTold, globalTold, pushTold, stackTold, keptTold as keptAnswered, KeptTold, FoldTold, clearTold, ClearTold};
 ghost use Rattle.optimizer.specs.Fold.{buffers};
 ghost use Rattle.clear.specs.Clear.{buffers as clearable};
@@ -13,17 +17,17 @@ ghost use Rattle.figures.specs.Answers.{reports, addCall, joinCall};
 ghost use Rattle.saver.specs.Saver.{saver as words, returned, thrown};
 ghost use Rattle.turniploom.specs.Answers.{MadeTold, EnterTold, LeaveTold, ReplayTold};
 use callee::GlobalAnswer;
-use callee::PushAnswer;
-use callee::StackAnswer;
 use clear::ClearAnswer;
 use code::Answer;
 use code::Told;
 use kept::KeptAnswer;
+use params::Bits;
+use pushes::PushAnswer;
 use roles::FieldAnswer;
 use roles::KindsAnswer;
 use roles::RoleAnswer;
 use roles::TouchAnswer;
-use surveys::Bits;
+use stack::StackAnswer;
 use surveys::Filled;
 
 // A truth is 1, a falsehood 0.
@@ -138,21 +142,21 @@ pub extern "C" fn turniploom_touched(code: &[u16], at: usize) -> Answer
 pub extern "C" fn turniploom_pure(code: &[u16]) -> Answer
     ensures { λ r. ⌜ r ≡ truthTold (pureAnswer (now (code .entry))) ⌝ }
 {
-    truth(walks::pure(code))
+    truth(laid::pure(code))
 }
 
 #[no_mangle]
 pub extern "C" fn turniploom_flat(code: &[u16]) -> Answer
     ensures { λ r. ⌜ r ≡ truthTold (flatAnswer (now (code .entry))) ⌝ }
 {
-    truth(walks::flat(code))
+    truth(shapes::flat(code))
 }
 
 #[no_mangle]
 pub extern "C" fn turniploom_guarded(code: &[u16]) -> Answer
     ensures { λ r. ⌜ r ≡ truthTold (guardedAnswer (now (code .entry))) ⌝ }
 {
-    truth(walks::guarded(code))
+    truth(shapes::guarded(code))
 }
 
 #[no_mangle]
@@ -166,14 +170,14 @@ pub extern "C" fn turniploom_returns(code: &[u16], at: usize) -> Answer
 pub extern "C" fn turniploom_params_written(code: &[u16], arity: usize) -> Answer
     ensures { λ r. ⌜ r ≡ bitsTold (writtenAnswer (now (code .entry)) arity) ⌝ }
 {
-    bits(surveys::params_written(code, arity))
+    bits(params::params_written(code, arity))
 }
 
 #[no_mangle]
 pub extern "C" fn turniploom_passed(code: &[u16], at: usize, arity: usize) -> Answer
     ensures { λ r. ⌜ r ≡ bitsTold (passedAnswer (now (code .entry)) at arity) ⌝ }
 {
-    bits(surveys::passed(code, at, arity))
+    bits(params::passed(code, at, arity))
 }
 
 #[no_mangle]
@@ -200,7 +204,7 @@ pub extern "C" fn turniploom_dead_phi(
 pub extern "C" fn turniploom_loops_around(code: &[u16], out: &mut [u32]) -> Answer
     ensures { λ r. ⌜ LoopsTold (now (code .entry)) (now (out .entry)) r (now (out .exit)) ⌝ }
 {
-    filled(surveys::loops_around(code, out))
+    filled(loops::loops_around(code, out))
 }
 
 #[no_mangle]
@@ -225,7 +229,7 @@ pub extern "C" fn turniploom_global_of(code: &[u16], at: usize) -> Answer
 pub extern "C" fn turniploom_pushed_back(code: &[u16], at: usize, r: u16) -> Answer
     ensures { λ a. ⌜ a ≡ pushTold (pushAnswer (now (code .entry)) at r) ⌝ }
 {
-    match callee::pushed_back(code, at, r) {
+    match pushes::pushed_back(code, at, r) {
         PushAnswer::Is(p) => code::tell(1, p as u64, 0, 0),
         PushAnswer::Nothing => code::tell(0, 0, 0, 0),
         PushAnswer::No(q) => code::refused(q),
@@ -236,7 +240,7 @@ pub extern "C" fn turniploom_pushed_back(code: &[u16], at: usize, r: u16) -> Ans
 pub extern "C" fn turniploom_stack_callee(code: &[u16], at: usize, count: u16) -> Answer
     ensures { λ r. ⌜ r ≡ stackTold (stackAnswer (now (code .entry)) at count) ⌝ }
 {
-    match callee::stack_callee(code, at, count) {
+    match stack::stack_callee(code, at, count) {
         StackAnswer::Is(p, q) => code::tell(1, p as u64, q as u64, 0),
         StackAnswer::Nothing => code::tell(0, 0, 0, 0),
         StackAnswer::No(r) => code::refused(r),

@@ -1,3 +1,3 @@
 pub mod Answers
-pub mod Section
+pub mod Returns
 pub mod There

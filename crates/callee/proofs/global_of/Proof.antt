@@ -10,7 +10,7 @@ use Rattle.callee.specs.declared.Callee.the-variants.{Bound, Unknown}
 use Rattle.callee.specs.declared.GlobalAnswer.the-variants.{Is, Nothing}
 use Rattle.callee.specs.Trace.{globalOf}
 use Rattle.callee.specs.Answers.{globalTold, globalAnswer}
-use Rattle.callee.proofs.Accepted.{at-in}
+use Rattle.stack.proofs.Accepted.{at-in}
 use Rattle.callee.proofs.global_of.Statement.{statement}
 use Rattle.callee.proofs.global_of.Tie as tie
 

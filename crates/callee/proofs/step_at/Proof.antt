@@ -10,12 +10,13 @@ use Rattle.code.specs.Op.{StoreTopR, LoadGlobalR}
 use Rattle.code.specs.Ins.{insAt, count}
 use Rattle.code.specs.Check.{Valid}
 use Rattle.code.specs.declared.Ins.{Ins}
-use Rattle.callee.specs.declared.Place.{Place}
-use Rattle.callee.specs.declared.Place.the-variants.{At, Nowhere}
+use Rattle.pushes.specs.declared.Place.{Place}
+use Rattle.pushes.specs.declared.Place.the-variants.{At, Nowhere}
 use Rattle.callee.specs.declared.Step.the-variants.{Pass, Back, Tell}
 use Rattle.callee.specs.declared.Callee.the-variants.{Bound, Unknown}
-use Rattle.callee.specs.Trace.{pushedBack, setsIt, passesBy, stepAt}
-use Rattle.callee.proofs.Tracing.{pushed-falls}
+use Rattle.callee.specs.Trace.{setsIt, passesBy, stepAt}
+use Rattle.pushes.specs.Pushes.{pushedBack}
+use Rattle.pushes.proofs.Falling.{pushed-falls}
 use Rattle.callee.proofs.step_at.Statement.{statement}
 use Rattle.callee.proofs.step_at.Tie as tie
 

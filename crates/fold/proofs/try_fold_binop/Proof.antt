@@ -1,6 +1,6 @@
 -- `fold::try_fold_binop` meets its contract: one law for each part that is missing. Assumes nothing.
 use borrow.Author.Needs.{needs}
-use Rattle.fold.proofs.Parts.{below-too, within-too, operand-sound}
+use Rattle.operands.proofs.Parts.{below-too, within-too, operand-sound}
 use Rattle.fold.proofs.Ways.{no-second, no-first, no-a, no-b, no-result, a-jump, no-jump}
 use Rattle.fold.proofs.try_fold_binop.Statement.{statement}
 use Rattle.fold.proofs.try_fold_binop.Tie as tie

@@ -1,6 +1,6 @@
 -- `fold::try_fold_unary` meets its contract: one law for each part that is missing. Assumes nothing.
 use borrow.Author.Needs.{needs}
-use Rattle.fold.proofs.Parts.{below-too, operand-sound}
+use Rattle.operands.proofs.Parts.{below-too, operand-sound}
 use Rattle.fold.proofs.Ways.{none-before, no-operand, no-unary, a-jump-1, no-jump-1}
 use Rattle.fold.proofs.try_fold_unary.Statement.{statement}
 use Rattle.fold.proofs.try_fold_unary.Tie as tie

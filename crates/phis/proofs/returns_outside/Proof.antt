@@ -13,7 +13,7 @@ use Rattle.laws.proofs.Byte.{byte-small}
 use Rattle.laws.proofs.Every.{one-more, one-fails, all}
 use Rattle.code.specs.Ins.{insAt}
 use Rattle.code.specs.declared.Ins.{Ins}
-use Rattle.walks.specs.Section.{returnsAt}
+use Rattle.walks.specs.Returns.{returnsAt}
 use Rattle.walks.specs.There.{there}
 use Rattle.phis.specs.Generator.{opens, closes, leaves, outsideAt, returnsOutside}
 use Rattle.phis.proofs.returns_outside.Statement.{statement}

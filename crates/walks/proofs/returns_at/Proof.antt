@@ -6,7 +6,7 @@ use mathlib.Core.List.{List}
 use Prim.Native.Nat.{ℕ, _+_}
 use Rattle.code.specs.Ins.{insAt}
 use Rattle.code.specs.declared.Ins.{Ins}
-use Rattle.walks.specs.Section.{returnsHere, returnsAt}
+use Rattle.walks.specs.Returns.{returnsHere, returnsAt}
 use Rattle.walks.proofs.returns_at.Statement.{statement}
 use Rattle.walks.proofs.returns_at.Tie as tie
 

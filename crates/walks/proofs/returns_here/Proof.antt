@@ -1,6 +1,6 @@
 -- `walks::returns_here` meets its contract: its code is the rule. Assumes nothing.
 use mathlib.Core.Path.{refl}
-use Rattle.walks.specs.Section.{returnsHere}
+use Rattle.walks.specs.Returns.{returnsHere}
 use Rattle.walks.proofs.returns_here.Statement.{statement}
 use Rattle.walks.proofs.returns_here.Tie as tie
 

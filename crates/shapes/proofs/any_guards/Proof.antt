@@ -1,0 +1,59 @@
+-- `shapes::any_guards` meets its contract. Assumes nothing.
+use borrow.Author.Needs.{needs}
+use mathlib.Core.Path.{_≡_}
+use mathlib.Core.Bool.{false}
+use Prim.Native.Nat.{_-_, _≤_}
+use Rattle.laws.specs.Some.{some}
+use Rattle.laws.proofs.Some.{somewhere}
+use Rattle.shapes.specs.Shape.{guards, guarded}
+use Rattle.walks.specs.There.{there}
+use Rattle.walks.proofs.There.{tested-there}
+use Rattle.shapes.proofs.any_guards.Statement.{statement}
+use Rattle.shapes.proofs.any_guards.Tie as tie
+
+abbrev Inv-loop : tie.InvT-loop
+Inv-loop code n k₀ k = (k ≤ n) × (some (there guards code) k ≡ false)
+
+abbrev μ-loop : tie.MeasureT-loop
+μ-loop code n k₀ k = n - k
+
+loop-holds : tie.Need-loop-holds Inv-loop μ-loop
+loop-holds c = search (needs, somewhere)
+
+ins-at-requires : tie.Need-ins-at-requires Inv-loop μ-loop
+ins-at-requires c κs = search needs
+
+guards-requires : tie.Need-guards-requires Inv-loop μ-loop
+guards-requires c κs = search needs
+
+returns : tie.Need-returns Inv-loop μ-loop
+unfolding guarded
+returns c = search (needs, somewhere, tested-there)
+
+add-k : tie.Need-add-k Inv-loop μ-loop
+add-k c = search needs
+
+loop-less : tie.Need-loop-less Inv-loop μ-loop
+loop-less c = search needs
+
+loop-again : tie.Need-loop-again Inv-loop μ-loop
+loop-again c = search (needs, somewhere, tested-there)
+
+returns-2 : tie.Need-returns-2 Inv-loop μ-loop
+unfolding guarded
+returns-2 c = search (needs, somewhere)
+
+pub any-guards-spec : {M : Type 1} → statement M
+any-guards-spec =
+    tie.close
+    (tie.spec
+    Inv-loop
+    μ-loop
+    loop-holds
+    ins-at-requires
+    guards-requires
+    returns
+    add-k
+    loop-less
+    loop-again
+    returns-2)

@@ -1,0 +1,32 @@
+-- `shapes::guarded` meets its contract. Assumes nothing.
+use borrow.Author.Needs.{needs}
+use Rattle.shapes.specs.Answers.{guardedAnswer}
+use Rattle.code.proofs.Stages.{passing}
+use Rattle.walks.proofs.Truths.{truths}
+use Rattle.shapes.proofs.guarded.Statement.{statement}
+use Rattle.shapes.proofs.guarded.Tie as tie
+
+check-requires : tie.Need-check-requires
+check-requires c κs = search needs
+
+enum-known-r : tie.Need-enum-known-r
+enum-known-r c = search needs
+
+enum-told : tie.Need-enum-told
+enum-told c = search needs
+
+any-guards-requires : tie.Need-any-guards-requires
+any-guards-requires c κs = search passing
+
+returns : tie.Need-returns
+unfolding guardedAnswer
+returns c = search truths
+
+returns-2 : tie.Need-returns-2
+unfolding guardedAnswer
+returns-2 c = search truths
+
+pub guarded-spec : {M : Type 1} → statement M
+guarded-spec =
+    tie.close
+    (tie.spec check-requires enum-known-r enum-told any-guards-requires returns returns-2)

@@ -1,0 +1,33 @@
+-- `stack::source_of` meets its contract. Assumes nothing.
+use borrow.Author.Needs.{needs}
+use mathlib.Core.Path.{_≡_}
+use Prim.Native.Nat.{ℕ}
+use borrow.Author.Tests.{eq-eqb, ne-eqb}
+use Rattle.code.specs.Op.{PushRegs}
+use Rattle.code.specs.declared.Ins.{Ins}
+use Rattle.roles.specs.Kinds.{fieldOf}
+use Rattle.stack.specs.declared.Source.the-variants.{From, Lost}
+use Rattle.stack.specs.Stack.{sourceOf}
+use Rattle.stack.proofs.source_of.Statement.{statement}
+use Rattle.stack.proofs.source_of.Tie as tie
+
+module _ (i : Ins) (k f : ℕ) where
+  pushed : (r : ℕ) → i .op ≡ PushRegs → r ≡ fieldOf i f → From k r ≡ sourceOf i k f
+  unfolding sourceOf
+  pushed r o e = rw (eq-eqb (i .op) PushRegs o, e)
+
+  made : (i .op ≡ PushRegs → ⊥) → Lost ≡ sourceOf i k f
+  unfolding sourceOf
+  made o = rw (ne-eqb (i .op) PushRegs o)
+
+field-of-requires : tie.Need-field-of-requires
+field-of-requires c κs = search needs
+
+returns : tie.Need-returns
+returns c = search pushed
+
+returns-2 : tie.Need-returns-2
+returns-2 c = search made
+
+pub source-of-spec : {M : Type 1} → statement M
+source-of-spec = tie.close (tie.spec field-of-requires returns returns-2)

@@ -171,7 +171,7 @@ turniploom_answer turniploom_kept(const uint16_t *code, size_t code_len, size_t 
 /* Folds a chunk. kinds and words need max(count, min(65,535, count + folding operators)) entries, phi_map n, phi_sources two for each pair
  * or Phi, dead n, remap and landings n + 1. The counts of pair tables are in words. tries are pairs of a start and a handler, and follow
  * the code. In strict mode nothing folds that a jump or a handler lands in. Entry t of landings is then how many of both land on position t
- * of what is left.
+ * of what is left. Instructions keep their origins.
  * first: instructions; second: constants; third: entries of phi_map; fourth: words of phi_sources. */
 turniploom_answer turniploom_fold(uint16_t *code, size_t code_len, uint8_t *kinds, size_t kinds_len, uint64_t *words, size_t words_len,
                                   size_t constants, uint32_t *phi_map, size_t phi_map_len, size_t phi_map_count, uint16_t *phi_sources,

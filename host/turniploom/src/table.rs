@@ -48,7 +48,7 @@ calls! {
     /// Folds a chunk. kinds and words need max(count, min(65,535, count + folding operators)) entries, phi_map n, phi_sources two for
     /// each pair or Phi, dead n, remap and landings n + 1. The counts of pair tables are in words. tries are pairs of a start and a
     /// handler, and follow the code. In strict mode nothing folds that a jump or a handler lands in. Entry t of landings is then how
-    /// many of both land on position t of what is left.
+    /// many of both land on position t of what is left. Instructions keep their origins.
     fold(
         code: &mut [u16], kinds: &mut [u8], words: &mut [u64], constants: usize, phi_map: &mut [u32], phi_map_count: usize,
         phi_sources: &mut [u16], phi_sources_count: usize, stmt_pos: &mut [u32], stmt_pos_count: usize,

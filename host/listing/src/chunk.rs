@@ -77,7 +77,8 @@ impl View {
         let n = chunk.code.len();
         let line = |k: usize| {
             let comment = chunk.comments.get(k).cloned().unwrap_or_default();
-            Line { text: shown(chunk.code[k], &chunk.constants) + &was(chunk.origins[k], k), after: None, was: chunk.origins[k], into: None, result: false, notes: vec![], comment }
+            let text = shown(chunk.code[k], &chunk.constants) + &was(chunk.origins[k], k);
+            Line { text, after: None, was: chunk.origins[k], into: None, result: false, notes: vec![], comment }
         };
         let mut before: Vec<Line> = (0..n).map(line).collect();
         let live = before.iter_mut().zip(&folded.dead).filter(|(_, dead)| !**dead);

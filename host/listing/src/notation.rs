@@ -84,7 +84,9 @@ impl Chunk {
 }
 
 /// The lent words of this code with these origins.
-pub fn words(code: &[[u16; 3]], origins: &[u16]) -> Vec<u16> { code.iter().zip(origins).flat_map(|(&[o, marks, operand], &origin)| [o, marks, operand, origin]).collect() }
+pub fn words(code: &[[u16; 3]], origins: &[u16]) -> Vec<u16> {
+    code.iter().zip(origins).flat_map(|(&[o, marks, operand], &origin)| [o, marks, operand, origin]).collect()
+}
 
 /// The code and the origins of lent words.
 pub fn parted(words: &[u16]) -> (Vec<[u16; 3]>, Vec<u16>) {
@@ -131,6 +133,11 @@ struct Entry {
     origin: Option<u16>,
     line: usize,
     comment: String,
+}
+
+impl Entry {
+    /// Nothing as yet, on that line.
+    fn at(line: usize) -> Entry { Entry { op: Op::OTHER, fields: [None; 4], marks: 0, exact: None, origin: None, line, comment: String::new() } }
 }
 
 #[derive(Default)]
@@ -216,7 +223,7 @@ impl Reader {
     }
 
     fn instruction(&mut self, name: &str, fields: &[&str], line: usize) -> Read<()> {
-        let mut entry = Entry { op: Op::OTHER, fields: [None; 4], marks: 0, exact: None, origin: None, line, comment: String::new() };
+        let mut entry = Entry::at(line);
         let read = opcode(name).and_then(|op| {
             entry.op = op;
             let fields = self.origin(&mut entry, name, fields)?;
@@ -228,7 +235,7 @@ impl Reader {
     }
 
     /// An instruction that is not there takes its position all the same.
-    fn unread(&mut self, line: usize) { self.entries.push(Entry { op: Op::OTHER, fields: [None; 4], marks: 0, exact: None, origin: None, line, comment: String::new() }) }
+    fn unread(&mut self, line: usize) { self.entries.push(Entry::at(line)) }
 
     /// Takes `was 12` from the end of an instruction of a chunk.
     fn origin<'a>(&self, entry: &mut Entry, name: &str, fields: &'a [&'a str]) -> Read<&'a [&'a str]> {

@@ -162,7 +162,8 @@ fn around(code: &[[u16; 3]]) -> Vec<usize> {
 /// The lent words of this code, with origins that count up from somewhere, or with any.
 fn words(rng: &mut Rng, code: &[[u16; 3]]) -> Vec<u16> {
     let (from, any) = (rng.word() as u16, rng.once_in(4));
-    code.iter().enumerate().flat_map(|(k, &[o, marks, operand])| [o, marks, operand, if any { rng.word() as u16 } else { from.wrapping_add(k as u16) }]).collect()
+    let mut origin = |k: usize| if any { rng.word() as u16 } else { from.wrapping_add(k as u16) };
+    code.iter().enumerate().flat_map(|(k, &[o, marks, operand])| [o, marks, operand, origin(k)]).collect()
 }
 
 /// The lent words of this code, each instruction with its position as origin.

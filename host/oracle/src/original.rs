@@ -213,7 +213,9 @@ pub fn ssa_chunk(q: &Question, lent: &mut Lent) -> SSAChunk {
 /// The Rust's chunk in the model's form.
 fn plain(chunk: &SSAChunk) -> Chunk {
     Chunk {
-        code: chunk.instructions.iter().map(|i| Instruction { op: number(i.opcode), jump: i.opcode.is_jump(), names: false, operand: i.operand, origin: 0 }).collect(),
+        code: chunk.instructions.iter().map(|i| {
+            Instruction { op: number(i.opcode), jump: i.opcode.is_jump(), names: false, operand: i.operand, origin: 0 }
+        }).collect(),
         constants: chunk.constants.iter().map(|c| match c {
             Value::Int(i) => Constant::Int(*i),
             Value::Float(f) => Constant::Float(f.to_bits()),

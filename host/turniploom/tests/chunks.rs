@@ -83,7 +83,8 @@ fn in_their_order_and_past_the_count() {
 #[test]
 fn origins_are_carried() {
     let origins = |chunk: &Chunk| chunk.instructions.iter().map(|i| i.origin).collect::<Vec<_>>();
-    let mut chunk = Chunk::new(vec![i(PopTop, 0), i(LoadConst, 0), i(LoadConst, 1), i(Add, 0), i(PopTop, 0), i(LoadConst, 0), i(Minus, 0), i(PopTop, 0)], vec![Int(2), Int(3)]);
+    let code = [(PopTop, 0), (LoadConst, 0), (LoadConst, 1), (Add, 0), (PopTop, 0), (LoadConst, 0), (Minus, 0), (PopTop, 0)];
+    let mut chunk = Chunk::new(code.map(|(op, operand)| i(op, operand)).into(), vec![Int(2), Int(3)]);
     let mut own = chunk.clone();
     for (k, i) in own.instructions.iter_mut().enumerate() { i.origin = (k % 2 == 1).then_some(900 - k as u16) }
     chunk.tries = vec![(0, 3)];

@@ -62,18 +62,18 @@ impl View {
         let (code, n) = (&body.code, body.code.len());
         let tries = found::tries(body)?;
         let own: Vec<Own> = code.iter().map(Own::of).collect();
-        let mut callees = Callees::of(code);
+        let (mut callees, around) = (Callees::of(code), handlers::around(n, &tries));
         let mut lines: Vec<Line> = (0..n).map(|k| {
             let (used, given_up) = sets(code, k, &own[k], body.registers);
             let level = found.levels[k].map(|(resume, result)| Level {
-                resume, result, callee: callees.at(k), unstored: unstored(code, k, resume), kept: parts(&found, k, resume, result, &tries),
+                resume, result, callee: callees.at(k), unstored: unstored(code, k, resume), kept: parts(&found, k, resume, result, &open(&tries, &around, k)),
             });
             let comment = body.comments.get(k).cloned().unwrap_or_default();
             Line { text: ins_text(code, k), used, given_up, after: after(code, k, &own[k]), row: found.row(k).to_vec(), level, notes: vec![], comment }
         }).collect();
         lines.push(Line { text: "end".into(), row: found.row(n).to_vec(), ..Line::default() });
         note(code, &own, &tries, &mut lines);
-        let lost = handlers::lost(&lines, &tries, body.registers);
+        let lost = handlers::lost(&lines, &tries, around, body.registers);
         for l in lost.iter().flatten() { for &k in &l.levels { lines[k].notes.push(format!("WARNING: r{} is not kept for the handler at {}", l.register,
             l.handler)) } }
         let columns = columns(&lines, body.registers);
@@ -133,8 +133,16 @@ fn sets(code: &[Ins], k: usize, own: &Own, registers: usize) -> (Vec<u16>, Vec<u
 /// Whether the level at `k` is one of the four calls, and no StoreTopR stands where it resumes.
 fn unstored(code: &[Ins], k: usize, resume: usize) -> bool { code[k].op.is_call() && code.get(resume).is_none_or(|i| i.op != op::StoreTopR) }
 
+/// The handlers of the tries around a position, in order.
+fn open(tries: &[(usize, usize)], around: &Option<Vec<Vec<usize>>>, k: usize) -> Vec<usize> {
+    match around {
+        Some(around) => around[k].iter().map(|&t| tries[t].1).collect(),
+        None => tries.iter().filter(|&&(s, h)| s < k && k < h).map(|t| t.1).collect(),
+    }
+}
+
 /// The kept list of the archive, taken apart by what each register is kept for.
-fn parts(found: &Found, k: usize, resume: usize, result: Option<u16>, tries: &[(usize, usize)]) -> Vec<Part> {
+fn parts(found: &Found, k: usize, resume: usize, result: Option<u16>, handlers: &[usize]) -> Vec<Part> {
     let mut left = found.kept[k].iter().copied().peekable();
     let mut seen = vec![];
     let mut take = |handler: Option<usize>, row: &mut dyn Iterator<Item = u16>| {
@@ -144,7 +152,7 @@ fn parts(found: &Found, k: usize, resume: usize, result: Option<u16>, tries: &[(
     };
     let mut parts = vec![take(None, &mut found.row(resume).iter().copied().filter(|&r| Some(r) != result))];
     seen.extend(parts[0].registers.iter().copied());
-    for &(_, h) in tries.iter().filter(|&&(s, h)| s < k && k < h) {
+    for &h in handlers {
         let part = take(Some(h), &mut found.row(h).iter().copied().filter(|r| !seen.contains(r)));
         seen.extend(part.registers.iter().copied());
         parts.push(part);

@@ -7,8 +7,8 @@ use turniploom::{Ins, WIDE, op};
 /// How many instructions before a call are lent, first and then.
 const NEAR: [usize; 2] = [64, 2_048];
 
-/// How many instructions are lent in all; past that a callee is not asked for.
-const MOST: usize = 24_000_000;
+/// How many instructions are lent in all; past that a callee is asked for near its call alone.
+const MOST: usize = 12_000_000;
 
 pub struct Callees<'a> {
     code: &'a [Ins],
@@ -49,6 +49,7 @@ impl<'a> Callees<'a> {
     /// The binding, if there is one; nothing if it is not asked for.
     fn binding(&mut self, k: usize) -> Option<Option<u16>> {
         for near in NEAR {
+            if near > NEAR[0] { self.may_ask()? }
             let from = self.whole_from(k.saturating_sub(near));
             let cut = Ins { op: op::LoadGlobalR, a: self.code[k].a, b: self.cut, ..Ins::default() };
             let part = self.part(from, k, cut);
@@ -68,6 +69,7 @@ impl<'a> Callees<'a> {
     /// The push and its register; nothing if they are not asked for.
     fn pushed(&mut self, k: usize) -> Option<Option<(usize, u16)>> {
         for near in NEAR {
+            if near > NEAR[0] { self.may_ask()? }
             let from = k.saturating_sub(near);
             let part = self.part(from, k, Ins::default());
             let found = turniploom::stack_callee(&part, k - from + 1, self.code[k].a).expect("good code");
@@ -78,9 +80,12 @@ impl<'a> Callees<'a> {
         Some(turniploom::stack_callee(self.code, k, self.code[k].a).expect("good code"))
     }
 
+    /// Something as long as not too much is lent already.
+    fn may_ask(&self) -> Option<()> { (self.lent <= MOST).then_some(()) }
+
     /// Counts the whole code as lent, as long as that is not too much.
     fn asked(&mut self) -> Option<()> {
-        if self.lent > MOST { return None }
+        self.may_ask()?;
         self.lent += self.code.len();
         Some(())
     }

@@ -168,6 +168,14 @@ impl Of {
         }
     }
 
+    /// How many warnings it has.
+    pub fn warnings(&self) -> usize {
+        match self {
+            Of::Body(of) => of.1.lost.len(),
+            Of::Chunk(_) => 0,
+        }
+    }
+
     fn text(&self, form: Form) -> String {
         match self {
             Of::Body(of) if form == Form::Kept => text::levels(&of.1),

@@ -102,8 +102,8 @@ impl Rows<'_> {
     }
 }
 
-/// The tries around each position, none if they are too many to be looked at.
-fn around(n: usize, tries: &[(usize, usize)]) -> Option<Vec<Vec<usize>>> {
+/// The tries around each position, in order; none if they are too many to be looked at.
+pub fn around(n: usize, tries: &[(usize, usize)]) -> Option<Vec<Vec<usize>>> {
     let many: usize = tries.iter().map(|&(s, h)| h.min(n).saturating_sub(s + 1)).sum();
     if many > MOST.0 { return None }
     let mut around = vec![vec![]; n];
@@ -112,10 +112,10 @@ fn around(n: usize, tries: &[(usize, usize)]) -> Option<Vec<Vec<usize>>> {
 }
 
 /// What handlers lose, in order; nothing if there are too many tries to tell.
-pub fn lost(lines: &[Line], tries: &[(usize, usize)], registers: usize) -> Option<Vec<Lost>> {
+pub fn lost(lines: &[Line], tries: &[(usize, usize)], around: Option<Vec<Vec<usize>>>, registers: usize) -> Option<Vec<Lost>> {
     if tries.is_empty() { return Some(vec![]) }
     let (n, words) = (lines.len() - 1, registers.div_ceil(64).max(1));
-    let rows = Rows { lines, tries, around: around(n, tries)?, words, bits: vec![0; (n + 1) * words] }.solved();
+    let rows = Rows { lines, tries, around: around?, words, bits: vec![0; (n + 1) * words] }.solved();
     let mut found: BTreeMap<(usize, usize, u16), Vec<usize>> = BTreeMap::new();
     let mut traced = 0;
     for (k, level) in lines.iter().enumerate().filter_map(|(k, l)| Some((k, l.level.as_ref()?))) {

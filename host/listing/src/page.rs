@@ -32,7 +32,14 @@ pub fn files(listed: &[Listed]) -> String {
     whole(&count(listed.len(), "file"), "Bodies and chunks, each below with all that is known of it.", &content)
 }
 
-fn heading(listed: &Listed) -> String { listed.of.as_ref().map_or("not listed".into(), |of| of.heading().to_string()) }
+/// What a file is, and how many warnings it has.
+fn heading(listed: &Listed) -> String {
+    let Ok(of) = &listed.of else { return "not listed".into() };
+    match of.warnings() {
+        0 => of.heading().into(),
+        many => format!("{}; {}", of.heading(), count(many, "warning")),
+    }
+}
 
 fn shown(listed: &Listed) -> String {
     match &listed.of {

@@ -140,6 +140,8 @@ fn files_and_folders() {
     assert_eq!(text.matches("archive sha256").count(), 1);
     let page = fs::read_to_string(page).unwrap();
     for k in 0..4 { assert!(page.contains(&format!("<a href=\"#f{k}\">")) && page.contains(&format!("<section id=\"f{k}\">")), "{k}") }
+    let warned = printed(&["--html=-", &sample("exposed.txt"), &sample("K.txt")]);
+    for due in ["exposed.txt</a>: 10 instructions, 6 registers, 1 try; 1 warning</li>", "K.txt</a>: 6 instructions, 4 registers, no try</li>"] { assert!(warned.contains(due)) }
     assert!(page.contains("not listed") && page.contains("wrong.txt: line 1: ") && page.matches("<table").count() == 3);
     let none = folder.join("empty");
     fs::create_dir(&none).unwrap();

@@ -34,7 +34,7 @@ pub enum Until {
 /// The first failures of a run, each made small and printed.
 const SHOWN: usize = 5;
 
-/// How often a run says how far it is.
+/// How often a run says how far it is, unless it is told otherwise.
 const PROGRESS: Duration = Duration::from_secs(10);
 
 pub struct Comparison {
@@ -47,6 +47,8 @@ pub struct Comparison {
     failed: AtomicUsize,
     asked: AtomicUsize,
     told: Mutex<Instant>,
+    /// How often it says how far it is.
+    pub every: Duration,
 }
 
 /// What is found of one question.
@@ -72,7 +74,7 @@ impl Comparison {
     pub fn of(port: Option<Ask>, model: Ask, calls: &[Call]) -> Comparison {
         Comparison {
             port, model, calls: calls.to_vec(), rows: Mutex::default(), failures: Mutex::default(), failed: AtomicUsize::new(0), asked: AtomicUsize::new(0),
-            told: Mutex::new(Instant::now()),
+            told: Mutex::new(Instant::now()), every: PROGRESS,
         }
     }
 
@@ -125,7 +127,7 @@ impl Comparison {
     /// Says now and then how far the run is.
     fn progress(&self, at: &str) {
         let mut told = self.told.lock().unwrap();
-        if told.elapsed() < PROGRESS { return }
+        if told.elapsed() < self.every { return }
         *told = Instant::now();
         let (asked, failed) = (self.asked.load(Ordering::Relaxed), self.failed.load(Ordering::Relaxed));
         eprintln!("{at}: {asked} questions, {failed} wrong so far");

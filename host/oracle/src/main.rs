@@ -1,7 +1,7 @@
 //! The command of the comparison.
 
 use oracle::{compare::{self, Comparison, Until}, hostile, model, port, question::Call, record, runs, saver};
-use std::{env, process::ExitCode, thread};
+use std::{env, process::ExitCode, thread, time::Duration};
 
 const USE: &str = "oracle [--seed S] [--rounds R | --minutes M] [--threads T]         compare the port with the Rust and the model
 oracle model [--seed S] [--rounds R | --minutes M] [--threads T]   compare the model with the Rust
@@ -10,7 +10,7 @@ oracle hostile [--seed S] [--rounds R]                             hostile input
 oracle saver [--events E] [--seed S] [--threads T]                 random events of a saver, played on the port, the model and a plain stack
 oracle runs [--chunks C] [--seed S] [--threads T]                   random rules, run before folding, after it, after clearing and after a second fold
 oracle record FILE [--seed S]                                      write recorded answers
---calls NAME,.. asks these calls alone; without it, every call is asked.
+--calls NAME,.. asks these calls alone; without it, every call is asked. --progress S says every S seconds how far it is, 10 if not given.
 A round asks 1,000 random questions of each call; the systematic questions come once, before them.";
 
 struct Options {
@@ -28,13 +28,14 @@ struct Options {
     only: Option<u64>,
     each: bool,
     alone: bool,
+    progress: Option<u64>,
 }
 
 fn options() -> Result<Options, String> {
     let threads = thread::available_parallelism().map_or(1, usize::from);
     let mut o = Options {
         words: vec![], seed: 1, rounds: None, minutes: None, threads, calls: vec![], events: None, chunks: None, inside: false, questions: 1_000,
-        only: None, each: false, alone: false,
+        only: None, each: false, alone: false, progress: None,
     };
     let mut args = env::args().skip(1);
     while let Some(word) = args.next() {
@@ -49,6 +50,7 @@ fn options() -> Result<Options, String> {
             "--chunks" => o.chunks = Some(number(value()?)?),
             "--questions" => o.questions = number(value()?)?,
             "--only" => o.only = Some(number(value()?)?),
+            "--progress" => o.progress = Some(number(value()?)?),
             "--inside" => o.inside = true,
             "--each" => o.each = true,
             "--alone" => o.alone = true,
@@ -66,7 +68,8 @@ fn run() -> Result<bool, String> {
     let calls: Vec<Call> = if o.calls.is_empty() { Call::ALL.to_vec() } else { o.calls.clone() };
     let compared = |alone: bool, constants: bool| {
         compare::quiet();
-        let comparison = Comparison::of((!alone).then_some(port::ask), model::ask, &calls);
+        let mut comparison = Comparison::of((!alone).then_some(port::ask), model::ask, &calls);
+        if let Some(seconds) = o.progress { comparison.every = Duration::from_secs(seconds) }
         let report = if constants {
             comparison.constants(o.threads);
             comparison.report_of_constants()

@@ -24,6 +24,20 @@ fn all_is_well() {
     assert!(text.contains("calls: questions asked; refused: with a refusal; telling: "), "{text}");
 }
 
+/// A run says how far it is, on its own channel.
+#[test]
+fn progress_is_told() {
+    let run = |every: &str| {
+        let out = std::process::Command::new(env!("CARGO_BIN_EXE_oracle"))
+            .args(["--calls", "pure", "--rounds", "2", "--threads", "1", "--progress", every]).output().unwrap();
+        assert!(out.status.success() && String::from_utf8(out.stdout).unwrap().lines().last().unwrap().starts_with("All is well: "));
+        String::from_utf8(out.stderr).unwrap()
+    };
+    let told = run("0");
+    assert!(told.lines().any(|l| l.starts_with("round 1 of 2 rounds: ") && l.ends_with(" questions, 0 wrong so far")), "{told}");
+    assert_eq!(run("600"), "");
+}
+
 /// A model that is wrong where a binding is 9.
 fn wrong(q: &Question) -> Reply {
     let mut reply = model::ask(q);

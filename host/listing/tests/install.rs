@@ -68,7 +68,7 @@ fn the_manuals() {
     let (command, calls) = (unzipped(&at.join("man1/turniploom-listing.1.gz")), unzipped(&at.join("man3/turniploom.3.gz")));
     let options = listing::options::USE.split(|c: char| c.is_whitespace() || "=,".contains(c)).filter(|w| w.starts_with("--"));
     for option in options { assert!(command.replace("\\-", "-").contains(option), "{option}") }
-    for call in abi::CALLS { assert!(calls.contains(&format!(".B turniploom_{}\n", call.name)), "{}", call.name) }
+    for call in abi::CALLS { assert!(calls.contains(&format!(".B turniploom_{}\n{}\n", call.name, call.says.concat().trim())), "{}", call.name) }
     for page in [&command, &calls] { assert!(page.starts_with(".TH ") && page.contains(&format!("\"turniploom {VERSION}\"")) && page
         .contains("/opt/t/") && !page.contains('@'), "{page}") }
     assert!(calls.contains(&format!("sha256 {ARCHIVE_SHA256}, proved with {KIT}")));

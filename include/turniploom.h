@@ -3,7 +3,7 @@
  * A slice is a pointer and a length in elements, an array whose length is fixed a pointer. No call asks anything of its input but
  * that each pointer has as many elements as its length says (a length of 0 may come with any pointer that is not null), that buffers
  * lent to be written do not overlap anything else, and that a bool is one. Nothing is allocated. No call needs more than 4 KiB of
- * stack. docs/BUFFERS.md has the order of the tests and what each buffer holds afterwards. */
+ * stack, but kept_raising 6. docs/BUFFERS.md has the order of the tests and what each buffer holds afterwards. */
 #ifndef TURNIPLOOM_H
 #define TURNIPLOOM_H
 

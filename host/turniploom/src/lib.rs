@@ -7,7 +7,7 @@
 //!   imports; they panic on what is refused;
 //! - [`abi`] lends the caller's own buffers and allocates nothing.
 //!
-//! No call takes more than 4 KiB of stack. [`abi::CALLS`] lists the exported calls. The archive must have every one: if one is missing, the build fails and names it.
+//! No call takes more than 4 KiB of stack, but kept_raising 6. [`abi::CALLS`] lists the exported calls. The archive must have every one: if one is missing, the build fails and names it.
 //! Answers hang on the marks of the code that is lent: [`marked`] sets them as the Rust's own tests do, from the code and the host's
 //! `dunder_op`. Code that has none takes [`Ins::unmarked`].
 #![no_std]

@@ -175,11 +175,13 @@ impl Dice {
 /// A file of the repository.
 fn text(file: &str) -> String { fs::read_to_string(Path::new(env!("CARGO_MANIFEST_DIR")).join("../..").join(file)).unwrap() }
 
-/// The bytes that a file states, in KiB.
-fn stated(file: &str) -> usize {
+/// The bytes that a file states, in KiB: of every call, and of kept_raising.
+fn stated(file: &str) -> [usize; 2] {
     let line = text(file).split_whitespace().filter(|w| *w != "*").collect::<Vec<_>>().join(" ");
-    let said = line.split_once("No call needs more than ").and_then(|(_, rest)| rest.split_once(" KiB of stack"));
-    said.unwrap_or_else(|| panic!("{file} does not say it")).0.parse::<usize>().unwrap() * 1024
+    let said = line.split_once("No call needs more than ").and_then(|(_, rest)| rest.split_once(" KiB of stack, but kept_raising "));
+    let (all, rest) = said.unwrap_or_else(|| panic!("{file} does not say it"));
+    let raising: String = rest.chars().take_while(char::is_ascii_digit).collect();
+    [all, &raising].map(|n| n.parse::<usize>().unwrap() * 1024)
 }
 
 #[test]
@@ -204,10 +206,11 @@ fn no_call_needs_more_than_is_stated() {
         let code = dice.chunk(n);
         for strict in [false, true] { stacks.chunk(&code, &kinds, &ints, &[1, 1, 2, 2, 3, 1], strict) }
     }
-    let limit = stated("include/turniploom.h");
-    assert_eq!(stated("docs/BUFFERS.md"), limit);
+    let limits = stated("include/turniploom.h");
+    assert_eq!(stated("docs/BUFFERS.md"), limits);
     for (name, stack) in &stacks.0 {
         println!("{:5} bytes {name}", stack.used());
+        let limit = limits[usize::from(*name == "kept_raising")];
         assert!(stack.used() <= limit, "{name} needs {} bytes", stack.used());
     }
     let header = text("include/turniploom.h");

@@ -37,7 +37,7 @@ fn sets_it(roles: &[u8; 1280], i: Ins, a: u16) -> bool
     requires { ⌜ now roles ≡ roleTable ⌝ }
     ensures { λ b. ⌜ b ≡ setsIt i a ⌝ }
 {
-    roles::writes_in(roles, i, a) & (i.op != ForIterR)
+    touch::writes_in(roles, i, a) & (i.op != ForIterR)
 }
 
 // Whether the trace passes by i.

@@ -7,20 +7,17 @@ use native.Mathlib.Omega.{arith}
 use lib.Dec.{eqb}
 use Rattle.code.specs.Ins.{insAt}
 use Rattle.code.specs.Check.{checkOf, insideOf}
-use Rattle.code.specs.Answers.{asked}
+use Rattle.code.specs.Answers.{asked, refusedOf}
 use Rattle.code.specs.declared.Answer.{Answer}
 use Rattle.code.specs.declared.Checked.{Checked}
 use Rattle.code.specs.declared.Checked.the-variants.{Count, No}
 use Rattle.code.specs.declared.Ins.{Ins}
-use Rattle.roles.specs.Answers.{touchAnswer}
 use Rattle.roles.specs.Kinds.{a, b, c, has}
 use Rattle.roles.specs.Sets.{only, from}
-use Rattle.roles.specs.Touch.{named, touchOf, Touches}
-use Rattle.roles.specs.declared.Touch.{Touch}
-use Rattle.roles.specs.declared.TouchAnswer.{TouchAnswer}
-use Rattle.roles.specs.declared.TouchAnswer.the-variants as touch
-use Rattle.roles.proofs.Cases.{touches}
-use Rattle.turniploom.specs.Answers.{touchTold}
+use Rattle.touch.specs.Touch.{named, touchOf, Touches}
+use Rattle.touch.specs.declared.Touch.{Touch}
+use Rattle.touch.proofs.Cases.{touches}
+use Rattle.fields.specs.Answers.{touchTold, touchAnswer}
 use Rattle.exported.specs.Told.{fieldsOf, TouchedHolds}
 use Rattle.exported.proofs.Answered.{refused-not}
 
@@ -37,7 +34,7 @@ halved m x y z = rw (bit-a, bit-b, bit-c)
     bit-c : 2 * (m / 2) / 8 ≡ m / 8
     bit-c = omega arith
 
-holds : (i : Ins) (t : Touch) → Touches i t → TouchedHolds i (touchTold (touch.Is t))
+holds : (i : Ins) (t : Touch) → Touches i t → TouchedHolds i (touchTold t)
 holds i t x =
     record {
       used = halved (t .used) (i .a) (i .b) (i .c) ∙ x .used;
@@ -45,12 +42,12 @@ holds i t x =
       written = ap (λ (l : List ℕ). l ++ from (i .b) (t .run)) (halved (t .written) (i .a) (i .b) (i .c)) ∙ x .written;
     }
 
-pub touched-holds : (w : List ℕ) (at : ℕ) (r : Answer) → r ≡ touchTold (touchAnswer w at) → r .refusal ≡ 0 → TouchedHolds (insAt w at) r
+pub touched-holds : (w : List ℕ) (at : ℕ) (r : Answer) → r ≡ touchAnswer w at → r .refusal ≡ 0 → TouchedHolds (insAt w at) r
 unfolding touchAnswer
 touched-holds w at r e z = go (insideOf (checkOf w) at) refl
   where
     told : Checked → Answer
-    told v = touchTold (asked v touch.No (touch.Is (touchOf (insAt w at))))
+    told v = asked v refusedOf (touchTold (touchOf (insAt w at)))
 
     go : (v : Checked) → insideOf (checkOf w) at ≡ v → TouchedHolds (insAt w at) r
     go (No q) h = absurd (refused-not q (sym (ap (λ (s : Answer). s .refusal) (e ∙ ap told h)) ∙ z))

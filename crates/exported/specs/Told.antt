@@ -9,7 +9,7 @@ use Rattle.code.specs.Ins.{insAt, count}
 use Rattle.code.specs.declared.Answer.{Answer}
 use Rattle.code.specs.declared.Ins.{Ins}
 use Rattle.roles.specs.Sets.{from, usedBy, givenBy}
-use Rattle.roles.specs.Touch.{named as fieldsNamed, writtenBy}
+use Rattle.touch.specs.Touch.{named as fieldsNamed, writtenBy}
 use Rattle.flow.specs.Flow.{Least, Closed}
 use Rattle.flow.specs.Sweep.{row, backs, startOf}
 use Rattle.flow.specs.Demand.{Keeps, Lost, Once}

@@ -5,8 +5,8 @@ use Prim.Native.Nat.{ℕ, _+_}
 use lib.Dec.{leb, ltb}
 use Rattle.laws.specs.Page.{among}
 use Rattle.roles.specs.Sets.{from}
-use Rattle.roles.proofs.Sets.{among-from}
-use Rattle.roles.proofs.Written.{among-append}
+use Rattle.touch.proofs.Sets.{among-from}
+use Rattle.touch.proofs.Written.{among-append}
 use Rattle.steps.specs.Step.{named, usedOf, givenOf}
 use Rattle.steps.specs.declared.Step.{Step}
 

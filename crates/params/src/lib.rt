@@ -62,7 +62,7 @@ fn any_writes(roles: &[u8; 1280], code: &[u16], r: u16) -> bool
     let n = code.len() / 6;
     let mut k = 0;
     while k < n {
-        if roles::writes_in(roles, code::ins_at(code, k), r) {
+        if touch::writes_in(roles, code::ins_at(code, k), r) {
             return true;
         }
         k += 1;

@@ -8,9 +8,9 @@ use Rattle.values.proofs.Digits.{and-law, or-law, xor-law, one-digits}
 use Rattle.values.proofs.Order.{lt-ints, le-ints, eq-ints, ne-ints, eqZ-true, eqZ-same, exact-int, lt-mixed, gt-mixed, eq-mixed}
 use Rattle.chunk.proofs.Nan.{the-nan, nan-read, nan-kept}
 use Rattle.code.specs.Answers.{answerOf}
-use Rattle.roles.specs.Answers.{kindsAnswer, roleAnswer, fieldAnswer, writesAnswer, touchAnswer}
+use Rattle.fields.specs.Answers.{kindsAnswer, roleAnswer, fieldAnswer, writesAnswer, touchAnswer}
 use Rattle.roles.proofs.ByTable.{table-is}
-use Rattle.roles.proofs.Trapped.{traps}
+use Rattle.touch.proofs.Trapped.{traps}
 use Rattle.laid.specs.Answers.{pureAnswer}
 use Rattle.shapes.specs.Answers.{flatAnswer, guardedAnswer}
 use Rattle.walks.specs.Answers.{returnsAnswer}
@@ -18,7 +18,7 @@ use Rattle.params.specs.Answers.{writtenAnswer, passedAnswer}
 use Rattle.callee.specs.Answers.{globalAnswer}
 use Rattle.pushes.specs.Answers.{pushAnswer}
 use Rattle.stack.specs.Answers.{stackAnswer}
-use Rattle.turniploom.specs.Answers.{kindsTold, roleTold, fieldTold, touchTold, truthTold, bitsTold, globalTold, pushTold, stackTold}
+use Rattle.turniploom.specs.Answers.{truthTold, bitsTold, globalTold, pushTold, stackTold}
 use Rattle.fold.proofs.Landed.{same-folds, still-true}
 use Rattle.runs.proofs.Lock.{one-end}
 use Rattle.clear.proofs.Kept.{named-by, naming}
@@ -54,11 +54,11 @@ pub promised : Promised
 promised =
     record {
       marked = marked;
-      one-kinds = λ w at. one (kindsTold (kindsAnswer w at));
-      one-role = λ w at. one (roleTold (roleAnswer w at));
-      one-field = λ w at f. one (fieldTold (fieldAnswer w at f));
-      one-writes = λ w at r. one (truthTold (writesAnswer w at r));
-      one-touched = λ w at. one (touchTold (touchAnswer w at));
+      one-kinds = λ w at. one (kindsAnswer w at);
+      one-role = λ w at. one (roleAnswer w at);
+      one-field = λ w at f. one (fieldAnswer w at f);
+      one-writes = λ w at r. one (writesAnswer w at r);
+      one-touched = λ w at. one (touchAnswer w at);
       one-version = one (answerOf 0 2 0 0);
       one-pure = λ w. one (truthTold (pureAnswer w));
       one-flat = λ w. one (truthTold (flatAnswer w));

@@ -17,10 +17,10 @@ use Rattle.code.specs.declared.Answer.{Answer}
 use Rattle.code.specs.declared.Ins.{Ins as Instruction}
 use Rattle.code.specs.declared.Refusal.the-variants.{Table}
 use Rattle.code.specs.declared.Checked.the-variants as stage
-use Rattle.roles.specs.Answers.{kindsAnswer, roleAnswer, fieldAnswer, writesAnswer, touchAnswer}
+use Rattle.fields.specs.Answers.{kindsAnswer, roleAnswer, fieldAnswer, writesAnswer, touchAnswer}
 use Rattle.roles.specs.Kinds.{none, kindsOf}
 use Rattle.roles.specs.Roles.{roleTable}
-use Rattle.roles.specs.Traps.{Traps}
+use Rattle.touch.specs.Traps.{Traps}
 use Rattle.laid.specs.Answers.{pureAnswer}
 use Rattle.shapes.specs.Answers.{flatAnswer, guardedAnswer}
 use Rattle.walks.specs.Answers.{returnsAnswer}
@@ -58,7 +58,7 @@ use Rattle.refold.specs.Examples.{jumping, summed, crossed, crossedCounts, cros
 use Rattle.refold.specs.Origins.{OriginsLeft}
 use Rattle.runs.specs.Machine.{Ins, Stack, End, Run}
 use Rattle.runs.specs.Rule.{Rule}
-use Rattle.turniploom.specs.Answers.{kindsTold, roleTold, fieldTold, touchTold, truthTold, bitsTold, globalTold, pushTold, stackTold, MadeTold, EnterTold, LeaveTold, ReplayTold}
+use Rattle.turniploom.specs.Answers.{truthTold, bitsTold, globalTold, pushTold, stackTold, MadeTold, EnterTold, LeaveTold, ReplayTold}
 use Rattle.exported.specs.Settles.{One, Settles}
 use Rattle.exported.specs.Calls.{TargetsCall, LoopsCall, EntriesBeyond, Marks, DeadCall, GenCall, NeededCall, MarksBeyond, Lists, KeptCall, KeptSettles}
 use Rattle.exported.specs.Calls.{FoldCall, ClearCall, ClearBeyond}
@@ -114,15 +114,15 @@ pub record Promised : Type 0 where
   -- ---- each call has one result; a call that writes settles every lent word, leaves all as lent where it refuses, and touches no word past a need
 
   -- kinds has one answer
-  pub one-kinds : (w : List ℕ) (at : ℕ) → OneAnswer (kindsTold (kindsAnswer w at))
+  pub one-kinds : (w : List ℕ) (at : ℕ) → OneAnswer (kindsAnswer w at)
   -- role has one answer
-  pub one-role : (w : List ℕ) (at : ℕ) → OneAnswer (roleTold (roleAnswer w at))
+  pub one-role : (w : List ℕ) (at : ℕ) → OneAnswer (roleAnswer w at)
   -- field has one answer
-  pub one-field : (w : List ℕ) (at f : ℕ) → OneAnswer (fieldTold (fieldAnswer w at f))
+  pub one-field : (w : List ℕ) (at f : ℕ) → OneAnswer (fieldAnswer w at f)
   -- writes has one answer
-  pub one-writes : (w : List ℕ) (at r : ℕ) → OneAnswer (truthTold (writesAnswer w at r))
+  pub one-writes : (w : List ℕ) (at r : ℕ) → OneAnswer (writesAnswer w at r)
   -- touched has one answer
-  pub one-touched : (w : List ℕ) (at : ℕ) → OneAnswer (touchTold (touchAnswer w at))
+  pub one-touched : (w : List ℕ) (at : ℕ) → OneAnswer (touchAnswer w at)
   -- version has one answer, 0.2.0
   pub one-version : OneAnswer (answerOf 0 2 0 0)
   -- pure has one answer
@@ -186,7 +186,7 @@ pub record Promised : Type 0 where
   -- ---- wish 3: what an instruction touches
 
   -- the fields that touched answers, and the run from b on, are the registers that the instruction by itself uses, gives up and writes
-  pub touched-holds : (w : List ℕ) (at : ℕ) (r : Answer) → r ≡ touchTold (touchAnswer w at) → r .refusal ≡ 0 → TouchedHolds (insAt w at) r
+  pub touched-holds : (w : List ℕ) (at : ℕ) (r : Answer) → r ≡ touchAnswer w at → r .refusal ≡ 0 → TouchedHolds (insAt w at) r
   -- where one of the three sets is not what another leads one to expect, it is so
   pub touched-traps : Traps
   -- ---- wish 6: the table of roles

@@ -1,4 +1,4 @@
--- `kinds`, `role` and `field` of block.rs: a page of rules by opcode. Assumes nothing.
+-- `kinds` and `field` of block.rs: a page of rules by opcode. Assumes nothing.
 use Prim.Native.Nat.{ℕ, _+_, _/_, _%_}
 use mathlib.Core.Bool.{Bool, cond, not, _&&_}
 use mathlib.Core.List.{List, [], _∷_}
@@ -7,8 +7,6 @@ use lib.ListN.{take}
 use Rattle.code.specs.Op.{Jump, JumpIfFalseR, JumpUnlessLt, JumpUnlessLtEq, JumpUnlessGt, JumpUnlessGtEq, JumpUnlessEq, JumpUnlessNotEq, ReturnR, PopTop, PushRegs, StoreTopR, LoadGlobalR, LoadGlobalAtR, UnbindR, UnpackR, SuperR, WrapCellR, CallValueR, Move, MinusR, NotR, AddR, InPlaceAddR, SubR, InPlaceSubR, MulR, DivR, ModR, FloorDivR, BitAndR, BitOrR, BitXorR, ShlR, ShrR, LtR, LtEqR, GtR, GtEqR, EqR, NotEqR, IsR, IsNotR, PowR, InR, NotInR, GetItemR, LenR, GetAttrR, LoadCellR, StoreCellR, StoreItemR, SetAttrR, StoreGlobalR, StoreGlobalAtR, CallGlobalR, CallR, CallMethodR, CallSpreadR, ArgsR, Raise, AppendR, OwnResetR, ListAppendR, SetAddR, MapAddR, ListPushR, ForIterR, ForIter, JumpIfFalse, JumpIfFalseOrPop, JumpIfTrueOrPop, Del}
 use Rattle.laws.specs.Page.{Row, _↝_, look}
 use Rattle.code.specs.declared.Ins.{Ins}
-use Rattle.roles.specs.declared.Found.{Found}
-use Rattle.roles.specs.declared.Found.the-variants.{Is, Nothing}
 
 -- the bits: a written, a, b, c read, a jump to a, no role
 abbrev pub dest : ℕ
@@ -98,10 +96,6 @@ kindsOf i = says (ruleOf (i .op)) (i .x) (i .a)
 -- bit m of `kinds`
 abbrev pub has : ℕ → ℕ → Bool
 has m k = eqb (k / m % 2) 1
-
--- `role` of `kinds`: none, or whether a is written, which of a, b, c are read, and whether a is a jump's target
-unfoldable pub roleOf : ℕ → Found
-roleOf k = cond (has none k) Nothing (Is (record { dest = has dest k; reads = k / 2 % 8; jumps = has jumps k }))
 
 -- the instruction has a role
 unfoldable pub hasRole : Ins → Bool

@@ -12,7 +12,7 @@ use Rattle.code.specs.Ins.{insAt, count, isCall}
 use Rattle.code.specs.declared.Ins.{Ins}
 use Rattle.roles.specs.Kinds.{kindsOf, isJump, page, ruleOf}
 use Rattle.roles.specs.Sets.{only}
-use Rattle.roles.specs.declared.Touch.{Touch}
+use Rattle.touch.specs.declared.Touch.{Touch}
 use Rattle.flow.specs.Sweep.{below}
 use Rattle.steps.specs.Code.{storeOf, overPending, pastStore, restores, idle, afterAt}
 use Rattle.steps.specs.Step.{TouchesAt, StepAt, goesBefore}

@@ -16,13 +16,13 @@ use Rattle.code.specs.Ins.{insAt, count}
 use Rattle.code.specs.declared.Ins.{Ins}
 use Rattle.roles.specs.Kinds.{jumps, has, Rule, Bits, ByX, FirstAbc, FirstBc, Bare, says, kindsOf, page, ruleOf}
 use Rattle.roles.specs.Sets.{cases, caseOf}
-use Rattle.roles.specs.Touch.{plainOf}
+use Rattle.touch.specs.Touch.{plainOf}
 use Rattle.roles.specs.declared.Case.{Case}
 use Rattle.roles.specs.declared.Case.the-variants.{Store, Unpack, Enter, Exit, Judge, Step as For, Plain}
 use Rattle.steps.specs.Code.{idle}
 use Rattle.steps.specs.Step.{StepAt, TouchesAt}
 use Rattle.steps.specs.Calm.{bitsOf, isPlain, tells, stops, told, calmOf, calmStep, turnStep}
-use Rattle.roles.proofs.Cases.{is-plain}
+use Rattle.touch.proofs.Cases.{is-plain}
 use Rattle.steps.proofs.Touched.{at-work}
 use Rattle.steps.proofs.Follows.{is-neither, step-is}
 

@@ -5,9 +5,9 @@ use mathlib.Core.List.{List}
 use Prim.Native.Nat.{ℕ}
 use Rattle.code.specs.Ins.{insAt}
 use Rattle.code.specs.declared.Ins.{Ins}
-use Rattle.roles.specs.Touch.{touch, touchOf, Touches}
-use Rattle.roles.specs.declared.Touch.{Touch}
-use Rattle.roles.proofs.Cases.{touches}
+use Rattle.touch.specs.Touch.{touch, touchOf, Touches}
+use Rattle.touch.specs.declared.Touch.{Touch}
+use Rattle.touch.proofs.Cases.{touches}
 use Rattle.steps.specs.Code.{idle, usedAt, givenAt}
 use Rattle.steps.specs.Step.{TouchesAt}
 

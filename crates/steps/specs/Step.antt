@@ -6,8 +6,8 @@ use mathlib.Core.List.{List, [], _++_}
 use lib.Dec.{ltb}
 use Rattle.code.specs.Ins.{insAt, count}
 use Rattle.roles.specs.Sets.{only, from}
-use Rattle.roles.specs.declared.Touch.{Touch}
-pub use Rattle.roles.specs.Touch.{named}
+use Rattle.touch.specs.declared.Touch.{Touch}
+pub use Rattle.touch.specs.Touch.{named}
 use Rattle.flow.specs.Flow.{Flow}
 use Rattle.steps.specs.Code.{setOf, usedAt, givenAt, afterAt}
 use Rattle.steps.specs.declared.Step.{Step}

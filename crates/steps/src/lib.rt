@@ -13,7 +13,7 @@ ghost use Rattle.steps.specs.Step.{TouchesAt, goesBefore, StepAt};
 ghost use Rattle.steps.specs.Calm.{calmOf, calmStep, turnStep};
 use code::Ins;
 use code::op::*;
-use roles::Touch;
+use touch::Touch;
 
 // Where a level goes on, and the register of its result.
 pub struct Onward {
@@ -175,7 +175,7 @@ fn touch_at(code: &[u16], k: usize, i: Ins, kind: u8) -> Touch
             run: 0,
         };
     }
-    roles::touch_of(i, kind)
+    touch::touch_of(i, kind)
 }
 
 // The step at k, in code of n instructions, by the table of roles.
@@ -198,14 +198,6 @@ pub fn step_in(roles: &[u8; 1280], code: &[u16], n: usize, k: usize) -> Step
         to: kind / 16 % 4 == 1,
         target: code::least(i.a as usize, n),
     }
-}
-
-// The step at k, for one who asks once.
-pub fn step_at(code: &[u16], n: usize, k: usize) -> Step
-    requires { ⌜ Whole (now code) × (n ≡ count (now code)) × (k < n) ⌝ }
-    ensures { λ s. ⌜ StepAt (now (code .entry)) k s ⌝ }
-{
-    step_in(&roles::table(), code, n, k)
 }
 
 // The step of an instruction that only reads and writes the registers that m tells.

@@ -1,5 +1,5 @@
 -- What the exported calls answer for each case of a call's own answer. Assumes nothing.
-use Prim.Native.Nat.{ℕ, _/_}
+use Prim.Native.Nat.{ℕ}
 use mathlib.Core.Path.{_≡_}
 use mathlib.Core.Bool.{Bool}
 use mathlib.Core.List.{List}
@@ -8,14 +8,6 @@ use Rattle.code.specs.Answers.{answerOf, refusedOf}
 use Rattle.code.specs.declared.Answer.{Answer}
 use Rattle.code.specs.declared.Told.{Told}
 use Rattle.code.specs.declared.Told.the-variants as told
-use Rattle.roles.specs.declared.KindsAnswer.{KindsAnswer}
-use Rattle.roles.specs.declared.KindsAnswer.the-variants as kinds
-use Rattle.roles.specs.declared.RoleAnswer.{RoleAnswer}
-use Rattle.roles.specs.declared.RoleAnswer.the-variants as role
-use Rattle.roles.specs.declared.FieldAnswer.{FieldAnswer}
-use Rattle.roles.specs.declared.FieldAnswer.the-variants as field
-use Rattle.roles.specs.declared.TouchAnswer.{TouchAnswer}
-use Rattle.roles.specs.declared.TouchAnswer.the-variants as touch
 use Rattle.params.specs.declared.Bits.{Bits}
 use Rattle.params.specs.declared.Bits.the-variants as bits
 use Rattle.surveys.specs.declared.Filled.{Filled}
@@ -55,27 +47,6 @@ use Rattle.raises.specs.Answers.{ExposedLeft}
 abbrev pub truthTold : Told → Answer
 truthTold (told.Is b) = answerOf (boolByte b) 0 0 0
 truthTold (told.No r) = refusedOf r
-
--- the bits
-abbrev pub kindsTold : KindsAnswer → Answer
-kindsTold (kinds.Is k) = answerOf k 0 0 0
-kindsTold (kinds.No r) = refusedOf r
-
--- 1, dest, read fields (bit 0 a, 1 b, 2 c), jumps; or 0
-abbrev pub roleTold : RoleAnswer → Answer
-roleTold (role.Is f) = answerOf 1 (boolByte (f .dest)) (f .reads) (boolByte (f .jumps))
-roleTold role.Nothing = answerOf 0 0 0 0
-roleTold (role.No r) = refusedOf r
-
--- the word
-abbrev pub fieldTold : FieldAnswer → Answer
-fieldTold (field.Is x) = answerOf x 0 0 0
-fieldTold (field.No r) = refusedOf r
-
--- the fields used, given up and written (bit 0 a, 1 b, 2 c), and how many registers from b on are given up and written besides
-abbrev pub touchTold : TouchAnswer → Answer
-touchTold (touch.Is t) = answerOf (t .used / 2) (t .given / 2) (t .written / 2) (t .run)
-touchTold (touch.No r) = refusedOf r
 
 -- the bits
 abbrev pub bitsTold : Bits → Answer

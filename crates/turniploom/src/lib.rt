@@ -1,6 +1,6 @@
 // The exported calls: for Rust and C, each answers one `Answer` by value, 0 and its values or a refusal's number and what it also returns.
 ghost use mathlib.Core.Path.{_≡_};
-ghost use Rattle.roles.specs.Answers.{kindsAnswer, roleAnswer, fieldAnswer, writesAnswer, touchAnswer};
+ghost use Rattle.fields.specs.Answers.{kindsAnswer, roleAnswer, fieldAnswer, writesAnswer, touchAnswer};
 ghost use Rattle.laid.specs.Answers.{pureAnswer};
 ghost use Rattle.shapes.specs.Answers.{flatAnswer, guardedAnswer};
 ghost use Rattle.walks.specs.Answers.{returnsAnswer};
@@ -8,7 +8,7 @@ ghost use Rattle.params.specs.Answers.{writtenAnswer, passedAnswer};
 ghost use Rattle.callee.specs.Answers.{globalAnswer};
 ghost use Rattle.pushes.specs.Answers.{pushAnswer};
 ghost use Rattle.stack.specs.Answers.{stackAnswer};
-ghost use Rattle.turniploom.specs.Answers.{truthTold, kindsTold, roleTold, fieldTold, touchTold, bitsTold, filledTold, TargetsTold, LoopsTold, DeadTold, GenTold, NeededTold, globalTold, pushTold, stackTold, keptTold as keptAnswered, KeptTold, FoldTold, clearTold, ClearTold};
+ghost use Rattle.turniploom.specs.Answers.{truthTold, bitsTold, filledTold, TargetsTold, LoopsTold, DeadTold, GenTold, NeededTold, globalTold, pushTold, stackTold, keptTold as keptAnswered, KeptTold, FoldTold, clearTold, ClearTold};
 ghost use Rattle.optimizer.specs.Fold.{buffers};
 ghost use Rattle.clear.specs.Clear.{buffers as clearable};
 ghost use Rattle.levels.specs.Answers.{levelAnswer};
@@ -26,10 +26,6 @@ use code::Told;
 use kept::KeptAnswer;
 use params::Bits;
 use pushes::PushAnswer;
-use roles::FieldAnswer;
-use roles::KindsAnswer;
-use roles::RoleAnswer;
-use roles::TouchAnswer;
 use stack::StackAnswer;
 use surveys::Filled;
 
@@ -90,55 +86,37 @@ fn cleared(a: ClearAnswer) -> Answer
 
 #[no_mangle]
 pub extern "C" fn turniploom_kinds(code: &[u16], at: usize) -> Answer
-    ensures { λ r. ⌜ r ≡ kindsTold (kindsAnswer (now (code .entry)) at) ⌝ }
+    ensures { λ r. ⌜ r ≡ kindsAnswer (now (code .entry)) at ⌝ }
 {
-    match roles::kinds(code, at) {
-        KindsAnswer::Is(k) => code::tell(k as u64, 0, 0, 0),
-        KindsAnswer::No(r) => code::refused(r),
-    }
+    fields::kinds(code, at)
 }
 
 #[no_mangle]
 pub extern "C" fn turniploom_role(code: &[u16], at: usize) -> Answer
-    ensures { λ r. ⌜ r ≡ roleTold (roleAnswer (now (code .entry)) at) ⌝ }
+    ensures { λ r. ⌜ r ≡ roleAnswer (now (code .entry)) at ⌝ }
 {
-    match roles::role(code, at) {
-        RoleAnswer::Is(f) => code::tell(1, f.dest as u64, f.reads as u64, f.jumps as u64),
-        RoleAnswer::Nothing => code::tell(0, 0, 0, 0),
-        RoleAnswer::No(r) => code::refused(r),
-    }
+    fields::role(code, at)
 }
 
 #[no_mangle]
 pub extern "C" fn turniploom_field(code: &[u16], at: usize, f: u8) -> Answer
-    ensures { λ r. ⌜ r ≡ fieldTold (fieldAnswer (now (code .entry)) at f) ⌝ }
+    ensures { λ r. ⌜ r ≡ fieldAnswer (now (code .entry)) at f ⌝ }
 {
-    match roles::field(code, at, f) {
-        FieldAnswer::Is(x) => code::tell(x as u64, 0, 0, 0),
-        FieldAnswer::No(r) => code::refused(r),
-    }
+    fields::field(code, at, f)
 }
 
 #[no_mangle]
 pub extern "C" fn turniploom_writes(code: &[u16], at: usize, r: u16) -> Answer
-    ensures { λ a. ⌜ a ≡ truthTold (writesAnswer (now (code .entry)) at r) ⌝ }
+    ensures { λ a. ⌜ a ≡ writesAnswer (now (code .entry)) at r ⌝ }
 {
-    truth(roles::writes(code, at, r))
+    fields::writes(code, at, r)
 }
 
 #[no_mangle]
 pub extern "C" fn turniploom_touched(code: &[u16], at: usize) -> Answer
-    ensures { λ r. ⌜ r ≡ touchTold (touchAnswer (now (code .entry)) at) ⌝ }
+    ensures { λ r. ⌜ r ≡ touchAnswer (now (code .entry)) at ⌝ }
 {
-    match roles::touched(code, at) {
-        TouchAnswer::Is(t) => code::tell(
-            (t.used / 2) as u64,
-            (t.given / 2) as u64,
-            (t.written / 2) as u64,
-            t.run as u64,
-        ),
-        TouchAnswer::No(r) => code::refused(r),
-    }
+    fields::touched(code, at)
 }
 
 #[no_mangle]

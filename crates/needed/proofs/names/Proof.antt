@@ -1,5 +1,5 @@
 -- `needed::names` meets its contract. Assumes nothing.
-use Rattle.roles.proofs.Written.{among-named}
+use Rattle.touch.proofs.Written.{among-named}
 use Rattle.needed.proofs.names.Statement.{statement}
 use Rattle.needed.proofs.names.Tie as tie
 

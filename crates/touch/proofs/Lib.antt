@@ -1,0 +1,4 @@
+pub mod Sets
+pub mod Cases
+pub mod Trapped
+pub mod Written

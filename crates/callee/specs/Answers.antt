@@ -2,18 +2,17 @@
 use Prim.Native.Nat.{ℕ}
 use mathlib.Core.List.{List}
 use Rattle.code.specs.Check.{checkOf, insideOf}
-use Rattle.code.specs.Answers.{asked}
+use Rattle.code.specs.Answers.{asked, answerOf, refusedOf}
+use Rattle.code.specs.declared.Answer.{Answer}
 use Rattle.callee.specs.Trace.{globalOf}
 use Rattle.callee.specs.declared.Callee.{Callee}
 use Rattle.callee.specs.declared.Callee.the-variants.{Bound, Unknown}
-use Rattle.callee.specs.declared.GlobalAnswer.{GlobalAnswer}
-use Rattle.callee.specs.declared.GlobalAnswer.the-variants.{Is, Nothing, No}
 
--- a binding or nothing
-abbrev pub globalTold : Callee → GlobalAnswer
-globalTold (Bound b) = Is b
-globalTold Unknown = Nothing
+-- 1, binding; or 0
+abbrev pub globalTold : Callee → Answer
+globalTold (Bound b) = answerOf 1 b 0 0
+globalTold Unknown = answerOf 0 0 0 0
 
 -- 1, 2, 6
-unfoldable pub globalAnswer : List ℕ → ℕ → GlobalAnswer
-globalAnswer w k = asked (insideOf (checkOf w) k) No (globalTold (globalOf w k))
+unfoldable pub globalAnswer : List ℕ → ℕ → Answer
+globalAnswer w k = asked (insideOf (checkOf w) k) refusedOf (globalTold (globalOf w k))

@@ -6,9 +6,9 @@ ghost use Rattle.code.specs.Check.{Valid};
 ghost use Rattle.roles.specs.Roles.{roleTable};
 ghost use Rattle.callee.specs.Trace.{setsIt, passesBy, stepAt, traced, globalOf};
 ghost use Rattle.callee.specs.Answers.{globalAnswer};
+use code::Answer;
 use code::Checked;
 use code::Ins;
-use code::Refusal;
 use code::op::*;
 use pushes::Place;
 
@@ -23,13 +23,6 @@ pub enum Step {
     Pass,
     Back(u16),
     Tell(Callee),
-}
-
-// The binding, nothing, or the refusal.
-pub enum GlobalAnswer {
-    Is(u16),
-    Nothing,
-    No(Refusal),
 }
 
 // Whether i sets register a, as the trace sees it.
@@ -120,14 +113,14 @@ pub fn global_at(code: &[u16], j: usize) -> Callee
 }
 
 // The module binding that the call at a position calls: refusals 1, 2, 6.
-pub fn global_of(code: &[u16], at: usize) -> GlobalAnswer
+pub fn global_of(code: &[u16], at: usize) -> Answer
     ensures { λ r. ⌜ r ≡ globalAnswer (now (code .entry)) at ⌝ }
 {
     match code::inside(code::check(code), at) {
-        Checked::No(r) => GlobalAnswer::No(r),
+        Checked::No(r) => code::refused(r),
         Checked::Count(_) => match global_at(code, at) {
-            Callee::Bound(b) => GlobalAnswer::Is(b),
-            Callee::Unknown => GlobalAnswer::Nothing,
+            Callee::Bound(b) => code::tell(1, b as u64, 0, 0),
+            Callee::Unknown => code::tell(0, 0, 0, 0),
         },
     }
 }

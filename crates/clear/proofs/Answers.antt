@@ -6,8 +6,7 @@ use Rattle.code.specs.declared.Refusal.{Refusal}
 use Rattle.code.specs.declared.Checked.{Checked}
 use Rattle.code.specs.declared.Checked.the-variants.{Count, No as Refused}
 use Rattle.clear.specs.Unused.{named, before, pooled, recoded, numbered}
-use Rattle.clear.specs.Clear.{Buffers, Outcome, outcome, cleared, readyOf, clearCall}
-use Rattle.clear.specs.declared.ClearAnswer.the-variants.{Is, No}
+use Rattle.clear.specs.Clear.{Is, No, Buffers, Outcome, outcome, cleared, readyOf, clearCall}
 
 -- the four buffers and the count, from those lent
 pub record Answered (b : Buffers) (m r : ℕ) (a : Buffers) : Type 0 where

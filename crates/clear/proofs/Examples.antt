@@ -19,8 +19,7 @@ use Rattle.fold.specs.Plan.{Chunk, chunk, page, kindOf, prevLive, skipsInto, bl
 use Rattle.fold.specs.Plan as plan
 use Rattle.fold.specs.Pass.{constLoad, markOf, put, landed, applied, tryFold, byScan, folded, foldAll}
 use Rattle.clear.specs.Unused.{named, kept, pooled, renumbered, operandOf, recoded, numbered, loaded}
-use Rattle.clear.specs.Clear.{buffers, outcome, cleared, readyOf, clearCall}
-use Rattle.clear.specs.declared.ClearAnswer.the-variants.{Is, No}
+use Rattle.clear.specs.Clear.{Is, No, buffers, outcome, cleared, readyOf, clearCall}
 use Rattle.clear.proofs.Room.{clearedChunk}
 
 -- LoadConst 2; jump 1, pool 2, 3 and 5: 5 alone is left, and loaded

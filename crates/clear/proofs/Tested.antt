@@ -11,6 +11,8 @@ use Rattle.laws.specs.All.{every}
 use Rattle.laws.proofs.Branch.{and-true, or-false}
 use Rattle.code.proofs.Answers.{refused, told}
 use Rattle.code.proofs.Stages.{room-before, room-there}
+use Rattle.code.specs.Answers.{answerOf, refusedOf}
+use Rattle.code.specs.declared.Answer.{Answer}
 use Rattle.code.specs.declared.Refusal.{Refusal}
 use Rattle.code.specs.declared.Refusal.the-variants.{Length, Table}
 use Rattle.code.specs.declared.Checked.{Checked}
@@ -19,8 +21,7 @@ use Rattle.lent.specs.Chunk.{stride, count}
 use Rattle.lent.specs.Tables.{constantKept, within, constantsKept, tableOf}
 use Rattle.lent.specs.Check.{uneven, checkOf}
 use Rattle.lent.proofs.Kept.{few, kinds-there, words-there}
-use Rattle.clear.specs.Clear.{Buffers, Outcome, outcome, cleared, readyOf, clearCall, Held}
-use Rattle.clear.specs.declared.ClearAnswer.the-variants.{No}
+use Rattle.clear.specs.Clear.{Is, No, Buffers, outcome, cleared, readyOf, clearCall, ClearTold, Held}
 
 pub never : {A : Type 0} (n : ℕ) (r : Refusal) → Count n ≡ Refused r → A
 never n r e = let z : _≡_ {A = ℕ} 0 1 = cc in absurd (omega arith)
@@ -57,10 +58,20 @@ module _ (b : Buffers) (m : ℕ) (v : Checked) (e : v ≡ readyOf b m) where
         scratch = room-there n v₁ 1 (length (b .scratch)) m r;
       }
 
-  pub refused-by : (r : Refusal) → v ≡ Refused r → outcome (No r) b ≡ clearCall b m
+  pub refused-by : (q : Refusal) (r : Answer) → v ≡ Refused q → r ≡ refusedOf q → ClearTold b m r b
   unfolding clearCall
-  refused-by r h = refused v (readyOf b m) e (λ q. outcome (No q) b) (cleared b m) r (outcome (No r) b) h refl
+  refused-by q r h z =
+      record {
+        told = No q;
+        allowed = refused v (readyOf b m) e (λ p. outcome (No p) b) (cleared b m) q (outcome (No q) b) h refl;
+        is = z;
+      }
 
-  pub told-by : (n : ℕ) (o : Outcome) → v ≡ Count n → o ≡ cleared b m → o ≡ clearCall b m
+  pub told-by : (n left : ℕ) (b′ : Buffers) (r : Answer) → v ≡ Count n → outcome (Is left) b′ ≡ cleared b m → r ≡ answerOf left 0 0 0 → ClearTold b m r b′
   unfolding clearCall
-  told-by n o h z = told v (readyOf b m) e (λ q. outcome (No q) b) (cleared b m) n o h z
+  told-by n left b′ r h g z =
+      record {
+        told = Is left;
+        allowed = told v (readyOf b m) e (λ p. outcome (No p) b) (cleared b m) n (outcome (Is left) b′) h g;
+        is = z;
+      }

@@ -25,8 +25,7 @@ use Rattle.lent.specs.Chunk.{stride, count, operandAt, names, breaksAt}
 use Rattle.lent.specs.Tables.{constantKept, within, constantsKept, tableOf}
 use Rattle.lent.specs.Check.{firstBad, checkOf}
 use Rattle.clear.specs.Unused.{named, before, kept, pooled, operandOf, recoded, numbered}
-use Rattle.clear.specs.Clear.{Buffers, Outcome, outcome, cleared, readyOf, clearCall, Held}
-use Rattle.clear.specs.declared.ClearAnswer.the-variants.{Is, No}
+use Rattle.clear.specs.Clear.{Is, No, Buffers, Outcome, outcome, cleared, readyOf, clearCall, Held}
 use Rattle.clear.proofs.Answers.{refused-call, answered-call}
 use Rattle.clear.proofs.Whole.{numbered-ext}
 use Rattle.clear.proofs.Moving.{Recoding, recoding-none, recoding-more, recoding-done}

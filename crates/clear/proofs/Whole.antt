@@ -20,8 +20,7 @@ use Rattle.lent.specs.Check.{checkOf}
 use Rattle.lent.proofs.Counting.{many-ext}
 use Rattle.clear.specs.Unused.{named, before, keptAt, kept, pooled, renumbered, operandOf, insOf, recoded, numbered}
 use Rattle.clear.specs.Passes.{Marks, marked, Moved, Down, freed, Low, numberIn}
-use Rattle.clear.specs.Clear.{buffers, outcome, cleared, readyOf}
-use Rattle.clear.specs.declared.ClearAnswer.the-variants.{Is}
+use Rattle.clear.specs.Clear.{Is, buffers, outcome, cleared, readyOf}
 
 -- ---- two tests, or two numberings, that agree below m
 

@@ -3,15 +3,20 @@ use Prim.Native.Nat.{ℕ, _*_, _≤_}
 use mathlib.Core.Path.{_≡_}
 use mathlib.Core.List.{List}
 use lib.ListN.{length}
-use Rattle.code.specs.Answers.{asked}
+use Rattle.code.specs.Answers.{asked, answerOf, refusedOf}
 use Rattle.code.specs.Check.{roomOf}
+use Rattle.code.specs.declared.Answer.{Answer}
 use Rattle.code.specs.declared.Checked.{Checked}
+use Rattle.code.specs.declared.Refusal.{Refusal}
 use Rattle.lent.specs.Chunk.{stride, count}
 use Rattle.lent.specs.Tables.{constantsKept, tableOf}
 use Rattle.lent.specs.Check.{checkOf}
 use Rattle.clear.specs.Unused.{named, before, pooled, recoded, numbered}
-use Rattle.clear.specs.declared.ClearAnswer.{ClearAnswer}
-use Rattle.clear.specs.declared.ClearAnswer.the-variants.{Is, No}
+
+-- how many constants there are then, or the refusal
+pub data ClearAnswer : Type 0 where
+  Is : ℕ → ClearAnswer
+  No : Refusal → ClearAnswer
 
 -- the lent buffers, in the order of the call
 pub record Buffers : Type 0 where
@@ -46,6 +51,17 @@ readyOf b m = roomOf (tableOf (checkOf (b .code)) 1 (constantsKept (b .kinds) (b
 unfoldable pub clearCall : Buffers → ℕ → Outcome
 unfolding cleared readyOf
 clearCall b m = asked (readyOf b m) (λ r. outcome (No r) b) (cleared b m)
+
+-- the new count of constants
+abbrev pub clearTold : ClearAnswer → Answer
+clearTold (Is m) = answerOf m 0 0 0
+clearTold (No r) = refusedOf r
+
+-- an answer that tells what the call is defined to be, with all that is lent as it leaves it
+pub record ClearTold (b : Buffers) (m : ℕ) (r : Answer) (b′ : Buffers) : Type 0 where
+  pub told : ClearAnswer
+  pub allowed : outcome told b′ ≡ clearCall b m
+  pub is : r ≡ clearTold told
 
 -- what the tests leave of the buffers
 pub record Held (b : Buffers) (m : ℕ) : Type 0 where

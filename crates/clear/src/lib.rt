@@ -6,16 +6,10 @@ ghost use Rattle.laws.specs.Table.{clearedTo};
 ghost use Rattle.lent.specs.Chunk.{stride, count};
 ghost use Rattle.clear.specs.Unused.{operandOf, recoded};
 ghost use Rattle.clear.specs.Passes.{noted, Marks, marked, Down, freed, Low, numberIn};
-ghost use Rattle.clear.specs.Clear.{buffers, outcome, cleared, readyOf, clearCall, Held};
+ghost use Rattle.clear.specs.Clear.{Is, buffers, outcome, cleared, readyOf, ClearTold, Held};
+use code::Answer;
 use code::Checked;
-use code::Refusal;
 use lent::STRIDE;
-
-// What the clearing call answers: how many constants there are then.
-pub enum ClearAnswer {
-    Is(usize),
-    No(Refusal),
-}
 
 fn wide(x: u16) -> usize
     ensures { λ r. ⌜ r ≡ x ⌝ }
@@ -138,7 +132,7 @@ fn clear_unused(
     m: usize,
 ) -> usize
     requires { ⌜ Held (buffers (now code) (now kinds) (now words) (now scratch)) m ⌝ }
-    ensures { λ r. ⌜ outcome (ClearAnswer.Is r) (buffers (now (code .exit)) (now (kinds .exit)) (now (words .exit)) (now (scratch .exit))) ≡ cleared (buffers (now (code .entry)) (now (kinds .entry)) (now (words .entry)) (now (scratch .entry))) m ⌝ }
+    ensures { λ r. ⌜ outcome (Is r) (buffers (now (code .exit)) (now (kinds .exit)) (now (words .exit)) (now (scratch .exit))) ≡ cleared (buffers (now (code .entry)) (now (kinds .entry)) (now (words .entry)) (now (scratch .entry))) m ⌝ }
 {
     mark_named(code, scratch, m);
     let r = keep(kinds, words, scratch, m);
@@ -163,11 +157,15 @@ pub fn clear(
     words: &mut [u64],
     constants: usize,
     scratch: &mut [u32],
-) -> ClearAnswer
-    ensures { λ r. ⌜ outcome r (buffers (now (code .exit)) (now (kinds .exit)) (now (words .exit)) (now (scratch .exit))) ≡ clearCall (buffers (now (code .entry)) (now (kinds .entry)) (now (words .entry)) (now (scratch .entry))) constants ⌝ }
+) -> Answer
+    ensures { λ r. ⌜ ClearTold (buffers (now (code .entry)) (now (kinds .entry)) (now (words .entry)) (now (scratch .entry))) constants r
+        (buffers (now (code .exit)) (now (kinds .exit)) (now (words .exit)) (now (scratch .exit))) ⌝ }
 {
     match ready(code, kinds, words, scratch, constants) {
-        Checked::No(r) => ClearAnswer::No(r),
-        Checked::Count(_) => ClearAnswer::Is(clear_unused(code, kinds, words, scratch, constants)),
+        Checked::No(r) => code::refused(r),
+        Checked::Count(_) => {
+            let left = clear_unused(code, kinds, words, scratch, constants);
+            code::tell(left as u64, 0, 0, 0)
+        }
     }
 }

@@ -11,16 +11,13 @@ use Rattle.code.specs.declared.Answer.{Answer}
 use Rattle.code.specs.declared.Checked.{Checked}
 use Rattle.code.specs.declared.Checked.the-variants.{Count, No as Refused}
 use Rattle.clear.specs.Unused.{named, before, pooled, recoded, numbered}
-use Rattle.clear.specs.Clear.{Buffers, Outcome, outcome, cleared, readyOf, clearCall}
-use Rattle.clear.specs.declared.ClearAnswer.{ClearAnswer}
-use Rattle.clear.specs.declared.ClearAnswer.the-variants.{Is, No}
+use Rattle.clear.specs.Clear.{ClearAnswer, Is, No, Buffers, Outcome, outcome, cleared, readyOf, clearCall, clearTold}
 use Rattle.clear.proofs.Answers.{refused-call, answered-call, answered, refusal-keeps}
 use Rattle.clear.proofs.Kept.{in-order, onto, pooled-kept, pooled-freed, pooled-past, pooled-length}
 use Rattle.clear.proofs.Loads.{recoded-length, recoded-op, recoded-mark, unmarked-stays, far-stays, near-moves, loads-same}
 use Rattle.clear.proofs.Room.{no-more}
 use Rattle.clear.proofs.Tested.{held-of}
 use Rattle.clear.proofs.Twice.{clear-twice}
-use Rattle.turniploom.specs.Answers.{clearTold}
 use Rattle.turniploom.proofs.Alone.{one-clear}
 use Rattle.exported.specs.Settles as settles
 use Rattle.exported.specs.Settles.{Settles}

@@ -15,9 +15,7 @@ use Rattle.optimizer.specs.Fold.{FoldAnswer}
 use Rattle.optimizer.specs.Fold.{Is, No}
 use Rattle.clear.specs.Unused.{AllNear}
 use Rattle.clear.specs.Clear as clearing
-use Rattle.clear.specs.Clear.{clearCall}
-use Rattle.clear.specs.declared.ClearAnswer.{ClearAnswer}
-use Rattle.clear.specs.declared.ClearAnswer.the-variants as clear
+use Rattle.clear.specs.Clear.{ClearAnswer, clearCall, clearTold}
 use Rattle.optimizer.proofs.Again.{again}
 use Rattle.clear.proofs.Answers.{answered}
 use Rattle.refold.specs.Lending.{Lending, lending, leaving, foldOf, Folds}
@@ -27,7 +25,7 @@ use Rattle.refold.proofs.Lends.{lends, pool-stays, stays-beyond, refusal-leaves
 use Rattle.refold.proofs.Lands.{tries-follow, table-true}
 use Rattle.refold.proofs.Chain.{fold-clear-fold, fold-fold}
 use Rattle.refold.proofs.Refolds.{refold-call, accepted-again}
-use Rattle.turniploom.specs.Answers.{foldTold, clearTold}
+use Rattle.turniploom.specs.Answers.{foldTold}
 use Rattle.turniploom.proofs.Alone.{one-fold}
 use Rattle.exported.specs.Settles as settles
 use Rattle.exported.specs.Settles.{Settles}
@@ -100,14 +98,14 @@ fold-settles strict c =
 -- ---- clearing, answered
 
 module _ (m : ℕ) (b : clearing.Buffers) (r : Answer) (a : clearing.Buffers) (x : ClearCall m b r a) where
-  pub answered-clear : r .refusal ≡ 0 → clearCall b m ≡ clearing.outcome (clear.Is (r .first)) a
+  pub answered-clear : r .refusal ≡ 0 → clearCall b m ≡ clearing.outcome (clearing.Is (r .first)) a
   answered-clear z = go (x .told) (x .is) (x .allowed)
     where
-      go : (v : ClearAnswer) → r ≡ clearTold v → clearing.outcome v a ≡ clearCall b m → clearCall b m ≡ clearing.outcome (clear.Is (r .first)) a
-      go (clear.Is n) e h = rw e (sym h)
-      go (clear.No q) e h = absurd (refused-not q (sym (ap (λ (s : Answer). s .refusal) e) ∙ z))
+      go : (v : ClearAnswer) → r ≡ clearTold v → clearing.outcome v a ≡ clearCall b m → clearCall b m ≡ clearing.outcome (clearing.Is (r .first)) a
+      go (clearing.Is n) e h = rw e (sym h)
+      go (clearing.No q) e h = absurd (refused-not q (sym (ap (λ (s : Answer). s .refusal) e) ∙ z))
 
-  pub clear-answers : (n : ℕ) (y : clearing.Buffers) → clearCall b m ≡ clearing.outcome (clear.Is n) y → (r ≡ clearTold (clear.Is n)) × (a ≡ y)
+  pub clear-answers : (n : ℕ) (y : clearing.Buffers) → clearCall b m ≡ clearing.outcome (clearing.Is n) y → (r ≡ clearTold (clearing.Is n)) × (a ≡ y)
   clear-answers n y e =
       let h = x .allowed ∙ e in
       (x .is ∙ ap (λ (o : clearing.Outcome). clearTold (o .answer)) h, ap (λ (o : clearing.Outcome). o .after) h)

@@ -7,26 +7,22 @@ use Prim.Native.Nat.{ℕ, _+_, _≤_}
 use native.Mathlib.Omega.{arith}
 use lib.ListN.{length, drop, length-append, length-drop}
 use lib.Seq.{drop-at}
+use mir.Val.{boolByte}
 use Rattle.laws.specs.Table.{table, filledTo, clearedTo, Held}
 use Rattle.laws.proofs.Table.{table-length, cleared-tail, cleared-length}
 use Rattle.code.specs.Ins.{count}
 use Rattle.code.specs.Check.{checkOf, insideOf, triedOf, roomOf}
-use Rattle.code.specs.Answers.{asked}
+use Rattle.code.specs.Answers.{asked, answerOf, refusedOf}
 use Rattle.code.specs.declared.Answer.{Answer}
 use Rattle.code.specs.declared.Checked.{Checked}
 use Rattle.code.specs.declared.Checked.the-variants.{Count, No}
-use Rattle.code.specs.declared.Told.{Told}
-use Rattle.code.specs.declared.Told.the-variants as told
 use Rattle.code.proofs.Stages.{room-before, room-there}
-use Rattle.surveys.specs.declared.Filled.{Filled}
-use Rattle.surveys.specs.declared.Filled.the-variants as filled
 use Rattle.surveys.specs.Answers.{Fills, targetMark}
 use Rattle.loops.specs.Loops.{depth}
 use Rattle.paths.specs.Search as paths
 use Rattle.phis.specs.Phi.{Dead}
 use Rattle.generators.specs.Generator.{GenPure}
 use Rattle.phis.specs.Answers.{Tells, roomBoth}
-use Rattle.turniploom.specs.Answers.{By, filledTold, truthTold}
 use Rattle.turniploom.proofs.Alone.{one-targets, one-loops, one-dead, one-gen}
 use Rattle.exported.specs.Settles as settles
 use Rattle.exported.specs.Settles.{Settles}
@@ -45,23 +41,22 @@ held-front m front b e h = record { same = length-append front (drop m b) ∙ om
 -- ---- one buffer is filled
 
 module _ (v : Checked) (m : ℕ) (f : ℕ → ℕ) (b : List ℕ) (room : (n : ℕ) → v ≡ Count n → m ≤ length b) (r : Answer) (a : List ℕ)
-    (x : By filledTold (λ t. Fills v m f b t a) r) where
+    (x : Fills v m f b r a) where
   filled-refusal : settles.Refusal r → a ≡ b
   filled-refusal h = go v refl
     where
       go : (u : Checked) → v ≡ u → a ≡ b
-      go (No q) e = x .allowed .words ∙ ap (λ (s : Checked). asked s (λ _. b) (filledTo f m b)) e
+      go (No q) e = x .words ∙ ap (λ (s : Checked). asked s (λ _. b) (filledTo f m b)) e
       go (Count n) e =
-          let z : x .told ≡ filled.Done = x .allowed .answer ∙ ap (λ (s : Checked). asked s filled.No filled.Done) e in
-          absurd (h (ap (λ (s : Answer). s .refusal) (x .is) ∙ ap (λ (s : Filled). filledTold s .refusal) z))
+          absurd (h (ap (λ (s : Answer). s .refusal) (x .answer ∙ ap (λ (s : Checked). asked s refusedOf (answerOf 0 0 0 0)) e)))
 
   filled-beyond : Held m b a
   filled-beyond = go v refl
     where
       go : (u : Checked) → v ≡ u → Held m b a
-      go (No q) e = held-same m b a (x .allowed .words ∙ ap (λ (s : Checked). asked s (λ _. b) (filledTo f m b)) e)
+      go (No q) e = held-same m b a (x .words ∙ ap (λ (s : Checked). asked s (λ _. b) (filledTo f m b)) e)
       go (Count n) e =
-          rw (x .allowed .words ∙ ap (λ (s : Checked). asked s (λ _. b) (filledTo f m b)) e) (held-front m (table f m) b (table-length f m) (room n e))
+          rw (x .words ∙ ap (λ (s : Checked). asked s (λ _. b) (filledTo f m b)) e) (held-front m (table f m) b (table-length f m) (room n e))
 
 pub targets-settles : (w tries : List ℕ) → Settles (TargetsCall w tries) (EntriesBeyond w)
 targets-settles w tries =
@@ -92,22 +87,22 @@ pub both : {a a′ b b′ : List ℕ} → a ≡ a′ → b ≡ b′ → _≡_ {A
 both e f = rw (e, f)
 
 module _ (w : List ℕ) (v : Checked) (P : Type 0) (b : Marks) (r : Answer) (a : Marks)
-    (x : By truthTold (λ t. Tells (roomBoth v w (b .seen) (b .todo)) P (count w + 1) (b .seen) (b .todo) t (a .seen) (a .todo)) r) where
+    (x : Tells (roomBoth v w (b .seen) (b .todo)) P (count w + 1) (b .seen) (b .todo) r (a .seen) (a .todo)) where
   abbrev tests : Checked
   tests = roomBoth v w (b .seen) (b .todo)
 
   abbrev Says : Checked → Type 0
-  Says u = Tells u P (count w + 1) (b .seen) (b .todo) (x .told) (a .seen) (a .todo)
+  Says u = Tells u P (count w + 1) (b .seen) (b .todo) r (a .seen) (a .todo)
 
   pub told-refusal : settles.Refusal r → a ≡ b
-  told-refusal h = go tests refl (x .allowed)
+  told-refusal h = go tests refl x
     where
       go : (u : Checked) → tests ≡ u → Says u → a ≡ b
       go (No q) e y = both (y .1) (y .2)
-      go (Count n) e y = absurd (h (ap (λ (s : Answer). s .refusal) (x .is) ∙ ap (λ (s : Told). truthTold s .refusal) (y .1)))
+      go (Count n) e y = absurd (h (ap (λ (s : Answer). s .refusal) (y .1)))
 
   pub told-beyond : MarksBeyond w b a
-  told-beyond = go tests refl (x .allowed)
+  told-beyond = go tests refl x
     where
       m : ℕ
       m = count w + 1
@@ -126,15 +121,15 @@ module _ (w : List ℕ) (v : Checked) (P : Type 0) (b : Marks) (r : Answer) (a :
 
   -- with refusal 0 it says whether P holds
   pub told-truth : r .refusal ≡ 0 → Truth P r
-  told-truth z = go tests (x .allowed)
+  told-truth z = go tests x
     where
-      say : (c : Bool) → r ≡ truthTold (told.Is c) → paths.Says P c → Truth P r
+      say : (c : Bool) → r ≡ answerOf (boolByte c) 0 0 0 → paths.Says P c → Truth P r
       say true e p = inl (ap (λ (s : Answer). s .first) e, p)
       say false e p = inr (ap (λ (s : Answer). s .first) e, p)
 
       go : (u : Checked) → Says u → Truth P r
-      go (No q) y = absurd (refused-not q (sym (ap (λ (s : Answer). s .refusal) (x .is ∙ ap truthTold (y .0))) ∙ z))
-      go (Count n) y = say (y .0) (x .is ∙ ap truthTold (y .1)) (y .2 .says)
+      go (No q) y = absurd (refused-not q (sym (ap (λ (s : Answer). s .refusal) (y .0)) ∙ z))
+      go (Count n) y = say (y .0) (y .1) (y .2 .says)
 
 pub dead-truth : (w : List ℕ) (k q : ℕ) (b : Marks) (r : Answer) (a : Marks) → DeadCall w k q b r a → r .refusal ≡ 0 → Truth (Dead w k q) r
 dead-truth w k q b r a x z = told-truth w (insideOf (checkOf w) k) (Dead w k q) b r a x z

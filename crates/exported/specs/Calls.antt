@@ -15,17 +15,23 @@ use Rattle.steps.specs.Code.{flow}
 use Rattle.rows.specs.Route.{firstOf}
 use Rattle.lent.specs.declared.Counts.{Counts}
 use Rattle.clear.specs.Clear as clearing
+use Rattle.clear.specs.Clear.{ClearTold}
 use Rattle.refold.specs.Lending.{Lending}
-use Rattle.turniploom.specs.Answers.{TargetsTold, LoopsTold, DeadTold, GenTold, NeededTold, ListsTold, FoldTold, ClearTold}
+use Rattle.surveys.specs.Answers.{Targets}
+use Rattle.loops.specs.Answers.{LoopsAround}
+use Rattle.phis.specs.Answers.{DeadPhi}
+use Rattle.generators.specs.Answers.{GenTold}
+use Rattle.needed.specs.Answers.{NeededTold}
+use Rattle.turniploom.specs.Answers.{ListsTold, FoldTold}
 use Rattle.exported.specs.Settles.{Refusal}
 
 -- ---- targets and loops_around write n + 1 entries
 
 abbrev pub TargetsCall : (w tries : List ℕ) → List ℕ → Answer → List ℕ → Type 0
-TargetsCall w tries b r a = TargetsTold w tries b r a
+TargetsCall w tries b r a = Targets w tries b r a
 
 abbrev pub LoopsCall : List ℕ → List ℕ → Answer → List ℕ → Type 0
-LoopsCall w b r a = LoopsTold w b r a
+LoopsCall w b r a = LoopsAround w b r a
 
 abbrev pub EntriesBeyond : List ℕ → List ℕ → List ℕ → Type 0
 EntriesBeyond w b a = Held (count w + 1) b a
@@ -37,7 +43,7 @@ pub record Marks : Type 0 where
   pub todo : List ℕ
 
 abbrev pub DeadCall : List ℕ → (k q : ℕ) → Marks → Answer → Marks → Type 0
-DeadCall w k q b r a = DeadTold w k q (b .seen) (b .todo) r (a .seen) (a .todo)
+DeadCall w k q b r a = DeadPhi w k q (b .seen) (b .todo) r (a .seen) (a .todo)
 
 abbrev pub GenCall : List ℕ → Marks → Answer → Marks → Type 0
 GenCall w b r a = GenTold w (b .seen) (b .todo) r (a .seen) (a .todo)

@@ -3,10 +3,10 @@ use Prim.Native.Nat.{ℕ, _+_}
 use mathlib.Core.List.{List}
 use Rattle.code.specs.Ins.{count}
 use Rattle.code.specs.Check.{checkOf}
-use Rattle.code.specs.declared.Told.{Told}
+use Rattle.code.specs.declared.Answer.{Answer}
 use Rattle.phis.specs.Answers.{roomBoth, Tells}
 use Rattle.generators.specs.Generator.{GenPure}
 
 -- 1, 2, 5
-abbrev pub GenTold : List ℕ → List ℕ → List ℕ → Told → List ℕ → List ℕ → Type 0
+abbrev pub GenTold : List ℕ → List ℕ → List ℕ → Answer → List ℕ → List ℕ → Type 0
 GenTold w seen todo v seen′ todo′ = Tells (roomBoth (checkOf w) w seen todo) (GenPure w) (count w + 1) seen todo v seen′ todo′

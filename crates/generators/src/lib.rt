@@ -7,13 +7,13 @@ ghost use Rattle.paths.specs.Search.{Settles};
 ghost use Rattle.phis.specs.Phi.{Room};
 ghost use Rattle.generators.specs.Generator.{makes, made, opens, closes, leaves, returnsOutside, PhisDead, GenPure, Clear};
 ghost use Rattle.generators.specs.Answers.{GenTold};
+use code::Answer;
 use code::Checked;
 use code::Ins;
-use code::Told;
 use code::op::*;
 
 // `gen_pure`: refusals 1, 2, 5.
-pub fn gen_pure(code: &[u16], seen: &mut [u8], todo: &mut [u32]) -> Told
+pub fn gen_pure(code: &[u16], seen: &mut [u8], todo: &mut [u32]) -> Answer
     ensures { λ v. ⌜ GenTold (now (code .entry)) (now (seen .entry)) (now (todo .entry)) v (now (seen .exit)) (now (todo .exit)) ⌝ }
 {
     let m = code.len() / 6 + 1;
@@ -23,8 +23,8 @@ pub fn gen_pure(code: &[u16], seen: &mut [u8], todo: &mut [u32]) -> Told
         todo.len(),
         m,
     ) {
-        Checked::No(q) => Told::No(q),
-        Checked::Count(_) => Told::Is(generates(code, seen, todo)),
+        Checked::No(q) => code::refused(q),
+        Checked::Count(_) => code::tell(generates(code, seen, todo) as u64, 0, 0, 0),
     }
 }
 

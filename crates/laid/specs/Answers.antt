@@ -3,11 +3,11 @@ use Prim.Native.Nat.{ℕ}
 use mathlib.Core.Bool.{false}
 use mathlib.Core.List.{List}
 use Rattle.code.specs.Check.{checkOf}
-use Rattle.code.specs.Answers.{asked}
-use Rattle.code.specs.declared.Told.{Told}
-use Rattle.code.specs.declared.Told.the-variants.{Is, No}
+use mir.Val.{boolByte}
+use Rattle.code.specs.Answers.{asked, answerOf, refusedOf}
+use Rattle.code.specs.declared.Answer.{Answer}
 use Rattle.laid.specs.Section.{laid}
 
 -- 1, 2
-unfoldable pub pureAnswer : List ℕ → Told
-pureAnswer w = asked (checkOf w) No (Is (laid w false))
+unfoldable pub pureAnswer : List ℕ → Answer
+pureAnswer w = asked (checkOf w) refusedOf (answerOf (boolByte (laid w false)) 0 0 0)

@@ -6,18 +6,18 @@ ghost use Rattle.code.specs.Check.{Whole};
 ghost use Rattle.roles.specs.Roles.{roleTable};
 ghost use Rattle.laid.specs.Section.{stackWork, jumpFits, plainFits, yieldFits, fits, laidAt, laid};
 ghost use Rattle.laid.specs.Answers.{pureAnswer};
+use code::Answer;
 use code::Checked;
 use code::Ins;
-use code::Told;
 use code::op::*;
 
 // `pure`: refusals 1, 2.
-pub fn pure(code: &[u16]) -> Told
+pub fn pure(code: &[u16]) -> Answer
     ensures { λ r. ⌜ r ≡ pureAnswer (now (code .entry)) ⌝ }
 {
     match code::check(code) {
-        Checked::No(r) => Told::No(r),
-        Checked::Count(_) => Told::Is(all_laid(code, false)),
+        Checked::No(r) => code::refused(r),
+        Checked::Count(_) => code::tell(all_laid(code, false) as u64, 0, 0, 0),
     }
 }
 

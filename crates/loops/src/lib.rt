@@ -6,19 +6,19 @@ ghost use Rattle.laws.specs.Table.{filledTo};
 ghost use Rattle.code.specs.Check.{Whole};
 ghost use Rattle.loops.specs.Answers.{LoopsAround};
 ghost use Rattle.loops.specs.Loops.{nextStep, leavesAt, endOf, depth, Added, Low, Space, Zeroed, Counted};
+use code::Answer;
 use code::Checked;
 use code::op::*;
-use surveys::Filled;
 
 // `loops_around`: refusals 1, 2, 5.
-pub fn loops_around(code: &[u16], out: &mut [u32]) -> Filled
+pub fn loops_around(code: &[u16], out: &mut [u32]) -> Answer
     ensures { λ r. ⌜ LoopsAround (now (code .entry)) (now (out .entry)) r (now (out .exit)) ⌝ }
 {
     match code::room(code::check(code), 1, out.len(), code.len() / 6 + 1) {
-        Checked::No(r) => Filled::No(r),
+        Checked::No(r) => code::refused(r),
         Checked::Count(_) => {
             fill_loops(code, out);
-            Filled::Done
+            code::tell(0, 0, 0, 0)
         }
     }
 }

@@ -5,10 +5,10 @@ use mathlib.Core.List.{List}
 use lib.Dec.{ltb}
 use Rattle.code.specs.Ins.{count}
 use Rattle.code.specs.Check.{andThen, checkOf, registersOf}
+use Rattle.code.specs.declared.Answer.{Answer}
 use Rattle.code.specs.declared.Checked.{Checked}
 use Rattle.code.specs.declared.Checked.the-variants.{Count, No}
 use Rattle.code.specs.declared.Refusal.the-variants.{Position}
-use Rattle.code.specs.declared.Told.{Told}
 use Rattle.phis.specs.Answers.{roomBoth, Tells}
 use Rattle.steps.specs.Code.{flow}
 use Rattle.needed.specs.Path.{Needs}
@@ -18,6 +18,6 @@ abbrev pub uptoOf : Checked → ℕ → Checked
 uptoOf v k = andThen v (λ n. cond (ltb n k) (No (Position k)) (Count n))
 
 -- 1, 2, 3, 6, 5
-abbrev pub NeededTold : List ℕ → ℕ → ℕ → ℕ → List ℕ → List ℕ → Told → List ℕ → List ℕ → Type 0
+abbrev pub NeededTold : List ℕ → ℕ → ℕ → ℕ → List ℕ → List ℕ → Answer → List ℕ → List ℕ → Type 0
 NeededTold w regs k r seen todo v seen′ todo′ =
     Tells (roomBoth (uptoOf (registersOf (checkOf w) regs) k) w seen todo) (Needs (flow regs w) r k) (count w + 1) seen todo v seen′ todo′

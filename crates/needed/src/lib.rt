@@ -11,9 +11,9 @@ ghost use Rattle.needed.specs.Path.{Needs};
 ghost use Rattle.needed.specs.Answers.{uptoOf, NeededTold};
 ghost use Rattle.paths.specs.Search.{pushed, Searched, Settles};
 ghost use Rattle.needed.specs.Asked.{Asked, Room};
+use code::Answer;
 use code::Checked;
 use code::Refusal;
-use code::Told;
 use steps::Step;
 
 // Whether register r is needed at a position, n allowed: refusals 1, 2, 3, 6, 5.
@@ -24,14 +24,14 @@ pub fn needed(
     r: u16,
     seen: &mut [u8],
     todo: &mut [u32],
-) -> Told
+) -> Answer
     ensures { λ v. ⌜ NeededTold (now (code .entry)) regs at r (now (seen .entry)) (now (todo .entry)) v (now (seen .exit)) (now (todo .exit)) ⌝ }
 {
     let m = code.len() / 6 + 1;
     let v = up_to(code::registers(code::check(code), regs), at);
     match code::room(code::room(v, 1, seen.len(), m), 2, todo.len(), m) {
-        Checked::No(q) => Told::No(q),
-        Checked::Count(_) => Told::Is(asks(code, regs, at, r, seen, todo)),
+        Checked::No(q) => code::refused(q),
+        Checked::Count(_) => code::tell(asks(code, regs, at, r, seen, todo) as u64, 0, 0, 0),
     }
 }
 

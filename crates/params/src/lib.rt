@@ -7,39 +7,34 @@ ghost use Rattle.code.specs.Check.{Whole};
 ghost use Rattle.roles.specs.Roles.{roleTable};
 ghost use Rattle.params.specs.Answers.{writtenAnswer, passedAnswer};
 ghost use Rattle.params.specs.Masks.{written, paramsWritten, arguments, keeps, passedIn, passedAt};
+use code::Answer;
 use code::Checked;
 use code::Ins;
 use code::Refusal;
 use code::op::*;
 
-// A number's bits, or the refusal.
-pub enum Bits {
-    Is(u64),
-    No(Refusal),
-}
-
 // `params_written`: refusals 1, 2.
-pub fn params_written(code: &[u16], arity: usize) -> Bits
+pub fn params_written(code: &[u16], arity: usize) -> Answer
     ensures { λ r. ⌜ r ≡ writtenAnswer (now (code .entry)) arity ⌝ }
 {
     match code::check(code) {
-        Checked::No(r) => Bits::No(r),
-        Checked::Count(_) => Bits::Is(params_in(code, arity)),
+        Checked::No(r) => code::refused(r),
+        Checked::Count(_) => code::tell(params_in(code, arity), 0, 0, 0),
     }
 }
 
 // `passed`: refusals 1, 2, 6.
-pub fn passed(code: &[u16], at: usize, arity: usize) -> Bits
+pub fn passed(code: &[u16], at: usize, arity: usize) -> Answer
     ensures { λ r. ⌜ r ≡ passedAnswer (now (code .entry)) at arity ⌝ }
 {
     match code::inside(code::check(code), at) {
-        Checked::No(r) => Bits::No(r),
+        Checked::No(r) => code::refused(r),
         Checked::Count(_) => {
             let c = code::ins_at(code, at);
             if code::is_call(c.op) {
-                return Bits::Is(passed_at(code, at, arity));
+                return code::tell(passed_at(code, at, arity), 0, 0, 0);
             }
-            Bits::No(Refusal::Position(at))
+            code::refused(Refusal::Position(at))
         }
     }
 }

@@ -4,24 +4,26 @@ use mathlib.Core.Bool.{Bool, true, false}
 use mathlib.Core.List.{List}
 use Prim.Native.Nat.{ℕ, _+_, _/_, _<_}
 use lib.ListN.{length}
+use mir.Val.{boolByte}
 use Rattle.code.specs.Check.{checkOf, insideOf, roomOf, Valid}
+use Rattle.code.specs.Answers.{answerOf, refusedOf}
+use Rattle.code.specs.declared.Answer.{Answer}
 use Rattle.code.specs.declared.Refusal.{Refusal}
 use Rattle.code.specs.declared.Checked.{Checked}
 use Rattle.code.specs.declared.Checked.the-variants.{Count, No}
-use Rattle.code.specs.declared.Told.{Told}
-use Rattle.code.specs.declared.Told.the-variants as told
 use Rattle.code.proofs.Checks.{valid-of}
 use Rattle.walks.proofs.Rooms.{before-inside, within, before-room, roomy}
 use Rattle.paths.specs.Search.{Says, Settles}
 use Rattle.phis.specs.Phi.{Room}
 use Rattle.phis.specs.Answers.{Tells}
 
-module _ (v s : Checked) (e : v ≡ s) (P : Type 0) (m : ℕ) (seen todo : List ℕ) where
-  pub tells-no : (q : Refusal) → v ≡ No q → Tells s P m seen todo (told.No q) seen todo
-  tells-no q h = rw (sym e ∙ h) (refl, refl, refl)
+module _ (v s : Checked) (e : v ≡ s) (P : Type 0) (m : ℕ) (seen todo : List ℕ) (r : Answer) where
+  pub tells-no : (q : Refusal) → v ≡ No q → r ≡ refusedOf q → Tells s P m seen todo r seen todo
+  tells-no q h z = rw (sym e ∙ h) (z, refl, refl)
 
-  pub tells : (n : ℕ) (b : Bool) (seen′ todo′ : List ℕ) → v ≡ Count n → Settles P m seen todo b seen′ todo′ → Tells s P m seen todo (told.Is b) seen′ todo′
-  tells n b seen′ todo′ h d = rw (sym e ∙ h) (b, refl, d)
+  pub tells : (n : ℕ) (b : Bool) (seen′ todo′ : List ℕ) → v ≡ Count n → Settles P m seen todo b seen′ todo′ → r ≡ answerOf (boolByte b) 0 0 0
+      → Tells s P m seen todo r seen′ todo′
+  tells n b seen′ todo′ h d z = rw (sym e ∙ h) (b, z, d)
 
 -- where the tests end in a count, there is room for a search, and the position is in the code
 module _ (w seen todo : List ℕ) (n : ℕ) (t u v : Checked) (g : u ≡ roomOf t 1 (length seen) (length w / 6 + 1)) (h : v ≡ roomOf u 2 (length todo) (length w / 6 + 1)) (c : v ≡ Count n) where
@@ -59,7 +61,8 @@ says-once P false true x y = absurd (x y)
 says-once P false false x y = refl
 
 -- any two results that a contract of this form allows are equal, with every lent word
-pub one-answer : (v : Checked) (P : Type 0) (m : ℕ) (seen todo : List ℕ) (r r′ : Told) (a a′ b b′ : List ℕ) → Tells v P m seen todo r a b → Tells v P m seen todo r′ a′ b′ → (r ≡ r′) × (a ≡ a′) × (b ≡ b′)
+pub one-answer : (v : Checked) (P : Type 0) (m : ℕ) (seen todo : List ℕ) (r r′ : Answer) (a a′ b b′ : List ℕ) → Tells v P m seen todo r a b
+    → Tells v P m seen todo r′ a′ b′ → (r ≡ r′) × (a ≡ a′) × (b ≡ b′)
 one-answer (No q) P m seen todo r r′ a a′ b b′ x y = (x .0 ∙ sym (y .0), x .1 ∙ sym (y .1), x .2 ∙ sym (y .2))
 one-answer (Count n) P m seen todo r r′ a a′ b b′ (c, x, s) (d, y, t) =
-    (x ∙ ap (λ (z : Bool). told.Is z) (says-once P c d (s .says) (t .says)) ∙ sym y, s .marks ∙ sym (t .marks), s .waiting ∙ sym (t .waiting))
+    (x ∙ ap (λ (z : Bool). answerOf (boolByte z) 0 0 0) (says-once P c d (s .says) (t .says)) ∙ sym y, s .marks ∙ sym (t .marks), s .waiting ∙ sym (t .waiting))

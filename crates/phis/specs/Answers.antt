@@ -4,12 +4,13 @@ use mathlib.Core.Path.{_≡_}
 use mathlib.Core.Bool.{Bool}
 use mathlib.Core.List.{List}
 use lib.ListN.{length}
+use mir.Val.{boolByte}
 use Rattle.code.specs.Ins.{count}
 use Rattle.code.specs.Check.{checkOf, insideOf, roomOf}
+use Rattle.code.specs.Answers.{answerOf, refusedOf}
+use Rattle.code.specs.declared.Answer.{Answer}
 use Rattle.code.specs.declared.Checked.{Checked}
 use Rattle.code.specs.declared.Checked.the-variants.{Count, No}
-use Rattle.code.specs.declared.Told.{Told}
-use Rattle.code.specs.declared.Told.the-variants as told
 use Rattle.paths.specs.Search.{Settles}
 use Rattle.phis.specs.Phi.{Dead}
 
@@ -18,10 +19,10 @@ abbrev pub roomBoth : Checked → List ℕ → List ℕ → List ℕ → Checked
 roomBoth v w seen todo = roomOf (roomOf v 1 (length seen) (count w + 1)) 2 (length todo) (count w + 1)
 
 -- refused and nothing touched; or told whether P holds, the n + 1 words of both buffers 0, and the words past them untouched
-abbrev pub Tells : Checked → Type 0 → ℕ → List ℕ → List ℕ → Told → List ℕ → List ℕ → Type 0
-Tells (No q) P m seen todo v seen′ todo′ = (v ≡ told.No q) × (seen′ ≡ seen) × (todo′ ≡ todo)
-Tells (Count n) P m seen todo v seen′ todo′ = (b : Bool) × (v ≡ told.Is b) × Settles P m seen todo b seen′ todo′
+abbrev pub Tells : Checked → Type 0 → ℕ → List ℕ → List ℕ → Answer → List ℕ → List ℕ → Type 0
+Tells (No q) P m seen todo r seen′ todo′ = (r ≡ refusedOf q) × (seen′ ≡ seen) × (todo′ ≡ todo)
+Tells (Count n) P m seen todo r seen′ todo′ = (b : Bool) × (r ≡ answerOf (boolByte b) 0 0 0) × Settles P m seen todo b seen′ todo′
 
 -- 1, 2, 6, 5
-abbrev pub DeadPhi : List ℕ → ℕ → ℕ → List ℕ → List ℕ → Told → List ℕ → List ℕ → Type 0
+abbrev pub DeadPhi : List ℕ → ℕ → ℕ → List ℕ → List ℕ → Answer → List ℕ → List ℕ → Type 0
 DeadPhi w k r seen todo v seen′ todo′ = Tells (roomBoth (insideOf (checkOf w) k) w seen todo) (Dead w k r) (count w + 1) seen todo v seen′ todo′

@@ -7,13 +7,13 @@ ghost use Rattle.roles.specs.Roles.{roleTable};
 ghost use Rattle.paths.specs.Search.{pushed, Searched, Settles};
 ghost use Rattle.phis.specs.Phi.{reads, stops, Read, Dead, Room};
 ghost use Rattle.phis.specs.Answers.{DeadPhi};
+use code::Answer;
 use code::Checked;
 use code::Ins;
-use code::Told;
 use code::op::*;
 
 // `dead_phi`: refusals 1, 2, 6, 5.
-pub fn dead_phi(code: &[u16], at: usize, r: u16, seen: &mut [u8], todo: &mut [u32]) -> Told
+pub fn dead_phi(code: &[u16], at: usize, r: u16, seen: &mut [u8], todo: &mut [u32]) -> Answer
     ensures { λ v. ⌜ DeadPhi (now (code .entry)) at r (now (seen .entry)) (now (todo .entry)) v (now (seen .exit)) (now (todo .exit)) ⌝ }
 {
     let m = code.len() / 6 + 1;
@@ -23,8 +23,8 @@ pub fn dead_phi(code: &[u16], at: usize, r: u16, seen: &mut [u8], todo: &mut [u3
         todo.len(),
         m,
     ) {
-        Checked::No(q) => Told::No(q),
-        Checked::Count(_) => Told::Is(dead(code, at, r, seen, todo)),
+        Checked::No(q) => code::refused(q),
+        Checked::Count(_) => code::tell(dead(code, at, r, seen, todo) as u64, 0, 0, 0),
     }
 }
 

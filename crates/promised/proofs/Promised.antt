@@ -18,7 +18,6 @@ use Rattle.params.specs.Answers.{writtenAnswer, passedAnswer}
 use Rattle.callee.specs.Answers.{globalAnswer}
 use Rattle.pushes.specs.Answers.{pushAnswer}
 use Rattle.stack.specs.Answers.{stackAnswer}
-use Rattle.turniploom.specs.Answers.{truthTold, bitsTold, globalTold, pushTold, stackTold}
 use Rattle.fold.proofs.Landed.{same-folds, still-true}
 use Rattle.runs.proofs.Lock.{one-end}
 use Rattle.clear.proofs.Kept.{named-by, naming}
@@ -60,15 +59,15 @@ promised =
       one-writes = λ w at r. one (writesAnswer w at r);
       one-touched = λ w at. one (touchAnswer w at);
       one-version = one (answerOf 0 2 0 0);
-      one-pure = λ w. one (truthTold (pureAnswer w));
-      one-flat = λ w. one (truthTold (flatAnswer w));
-      one-guarded = λ w. one (truthTold (guardedAnswer w));
-      one-returns = λ w at. one (truthTold (returnsAnswer w at));
-      one-written = λ w arity. one (bitsTold (writtenAnswer w arity));
-      one-passed = λ w at arity. one (bitsTold (passedAnswer w at arity));
-      one-global = λ w at. one (globalTold (globalAnswer w at));
-      one-push = λ w at r. one (pushTold (pushAnswer w at r));
-      one-stack = λ w at count. one (stackTold (stackAnswer w at count));
+      one-pure = λ w. one (pureAnswer w);
+      one-flat = λ w. one (flatAnswer w);
+      one-guarded = λ w. one (guardedAnswer w);
+      one-returns = λ w at. one (returnsAnswer w at);
+      one-written = λ w arity. one (writtenAnswer w arity);
+      one-passed = λ w at arity. one (passedAnswer w at arity);
+      one-global = λ w at. one (globalAnswer w at);
+      one-push = λ w at r. one (pushAnswer w at r);
+      one-stack = λ w at count. one (stackAnswer w at count);
       targets = targets-settles;
       loops = loops-settles;
       dead = dead-settles;

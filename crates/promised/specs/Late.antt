@@ -5,8 +5,7 @@ use mathlib.Core.List.{List, [], _∷_, _++_}
 use Prim.Native.Nat.{ℕ}
 use lib.ListN.{replicate}
 use Rattle.code.specs.Op as op
-use Rattle.clear.specs.Clear.{buffers, outcome, clearCall}
-use Rattle.clear.specs.declared.ClearAnswer.the-variants.{Is}
+use Rattle.clear.specs.Clear.{Is, buffers, outcome, clearCall}
 use Rattle.promised.specs.Marked.{load, operator, jump, called, leaves}
 
 -- 2 + 3, from these constants, and a LoadConst of 3

@@ -6,11 +6,11 @@ use mathlib.Core.List.{List, [], _∷_, _++_}
 use lib.ListN.{length, replicate}
 use Rattle.code.specs.Op as op
 use Rattle.code.specs.Ins.{count}
+use Rattle.code.specs.Answers.{answerOf}
 use Rattle.code.specs.declared.Refusal.the-variants.{Try}
 use Rattle.kept.specs.Answers as call
 use Rattle.kept.specs.declared.KeptAnswer.the-variants as kept
 use Rattle.callee.specs.Answers.{globalAnswer}
-use Rattle.callee.specs.declared.GlobalAnswer.the-variants as callee
 use Rattle.lent.specs.Chunk as chunk
 use Rattle.optimizer.specs.Fold.{buffers, Outcome, outcome, foldCall}
 use Rattle.optimizer.specs.Fold.{FoldAnswer}
@@ -115,7 +115,7 @@ code13 = load 0 ++ load 1 ++ operator op.Add ++ jump 2
 
 pub record Marked : Type 0 where
   -- rows of K: 0, 0, 3, 1, 5, 8, 0; kept at 2: [0]; callee binding 9; one sweep
-  pub p1 : Keeps 4 K [] rowsK 2 (0 ∷ []) 1 0 × (globalAnswer K 2 ≡ callee.Is 9)
+  pub p1 : Keeps 4 K [] rowsK 2 (0 ∷ []) 1 0 × (globalAnswer K 2 ≡ answerOf 1 9 0 0)
   -- K with try (1, 5): [0, 3]
   pub p2 : Keeps 4 K (1 ∷ 5 ∷ []) rowsK 2 (0 ∷ 3 ∷ []) 1 0
   -- K with try (1, 4), whose handler reads the result register: [0, 2]

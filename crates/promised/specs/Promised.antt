@@ -58,7 +58,7 @@ use Rattle.refold.specs.Examples.{jumping, summed, crossed, crossedCounts, cros
 use Rattle.refold.specs.Origins.{OriginsLeft}
 use Rattle.runs.specs.Machine.{Ins, Stack, End, Run}
 use Rattle.runs.specs.Rule.{Rule}
-use Rattle.turniploom.specs.Answers.{truthTold, bitsTold, globalTold, pushTold, stackTold, MadeTold, EnterTold, LeaveTold, ReplayTold}
+use Rattle.turniploom.specs.Answers.{MadeTold, EnterTold, LeaveTold, ReplayTold}
 use Rattle.exported.specs.Settles.{One, Settles}
 use Rattle.exported.specs.Calls.{TargetsCall, LoopsCall, EntriesBeyond, Marks, DeadCall, GenCall, NeededCall, MarksBeyond, Lists, KeptCall, KeptSettles}
 use Rattle.exported.specs.Calls.{FoldCall, ClearCall, ClearBeyond}
@@ -126,23 +126,23 @@ pub record Promised : Type 0 where
   -- version has one answer, 0.2.0
   pub one-version : OneAnswer (answerOf 0 2 0 0)
   -- pure has one answer
-  pub one-pure : (w : List ℕ) → OneAnswer (truthTold (pureAnswer w))
+  pub one-pure : (w : List ℕ) → OneAnswer (pureAnswer w)
   -- flat has one answer
-  pub one-flat : (w : List ℕ) → OneAnswer (truthTold (flatAnswer w))
+  pub one-flat : (w : List ℕ) → OneAnswer (flatAnswer w)
   -- guarded has one answer
-  pub one-guarded : (w : List ℕ) → OneAnswer (truthTold (guardedAnswer w))
+  pub one-guarded : (w : List ℕ) → OneAnswer (guardedAnswer w)
   -- returns has one answer
-  pub one-returns : (w : List ℕ) (at : ℕ) → OneAnswer (truthTold (returnsAnswer w at))
+  pub one-returns : (w : List ℕ) (at : ℕ) → OneAnswer (returnsAnswer w at)
   -- params_written has one answer
-  pub one-written : (w : List ℕ) (arity : ℕ) → OneAnswer (bitsTold (writtenAnswer w arity))
+  pub one-written : (w : List ℕ) (arity : ℕ) → OneAnswer (writtenAnswer w arity)
   -- passed has one answer
-  pub one-passed : (w : List ℕ) (at arity : ℕ) → OneAnswer (bitsTold (passedAnswer w at arity))
+  pub one-passed : (w : List ℕ) (at arity : ℕ) → OneAnswer (passedAnswer w at arity)
   -- global_of has one answer
-  pub one-global : (w : List ℕ) (at : ℕ) → OneAnswer (globalTold (globalAnswer w at))
+  pub one-global : (w : List ℕ) (at : ℕ) → OneAnswer (globalAnswer w at)
   -- pushed_back has one answer
-  pub one-push : (w : List ℕ) (at r : ℕ) → OneAnswer (pushTold (pushAnswer w at r))
+  pub one-push : (w : List ℕ) (at r : ℕ) → OneAnswer (pushAnswer w at r)
   -- stack_callee has one answer
-  pub one-stack : (w : List ℕ) (at count : ℕ) → OneAnswer (stackTold (stackAnswer w at count))
+  pub one-stack : (w : List ℕ) (at count : ℕ) → OneAnswer (stackAnswer w at count)
   -- targets settles its n + 1 entries
   pub targets : (w tries : List ℕ) → Settles (TargetsCall w tries) (EntriesBeyond w)
   -- loops_around settles its n + 1 entries

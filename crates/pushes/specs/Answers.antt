@@ -2,18 +2,17 @@
 use Prim.Native.Nat.{ℕ}
 use mathlib.Core.List.{List}
 use Rattle.code.specs.Check.{checkOf, insideOf}
-use Rattle.code.specs.Answers.{asked}
+use Rattle.code.specs.Answers.{asked, answerOf, refusedOf}
+use Rattle.code.specs.declared.Answer.{Answer}
 use Rattle.pushes.specs.Pushes.{pushedBack}
 use Rattle.pushes.specs.declared.Place.{Place}
 use Rattle.pushes.specs.declared.Place.the-variants.{At, Nowhere}
-use Rattle.pushes.specs.declared.PushAnswer.{PushAnswer}
-use Rattle.pushes.specs.declared.PushAnswer.the-variants.{Is, Nothing, No}
 
--- a position or nothing
-abbrev pub pushTold : Place → PushAnswer
-pushTold (At p) = Is p
-pushTold Nowhere = Nothing
+-- 1, position; or 0
+abbrev pub pushTold : Place → Answer
+pushTold (At p) = answerOf 1 p 0 0
+pushTold Nowhere = answerOf 0 0 0 0
 
 -- 1, 2, 6
-unfoldable pub pushAnswer : List ℕ → ℕ → ℕ → PushAnswer
-pushAnswer w k r = asked (insideOf (checkOf w) k) No (pushTold (pushedBack w k r))
+unfoldable pub pushAnswer : List ℕ → ℕ → ℕ → Answer
+pushAnswer w k r = asked (insideOf (checkOf w) k) refusedOf (pushTold (pushedBack w k r))

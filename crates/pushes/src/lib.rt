@@ -7,22 +7,15 @@ ghost use Rattle.code.specs.Check.{Whole, Valid};
 ghost use Rattle.stack.specs.Stack.{Narrow};
 ghost use Rattle.pushes.specs.Pushes.{storesFrom, callBefore, takenAt, takesBack, pending, givesBack, pushedBack};
 ghost use Rattle.pushes.specs.Answers.{pushAnswer};
+use code::Answer;
 use code::Checked;
 use code::Ins;
-use code::Refusal;
 use code::op::*;
 
 // A position, if there is one.
 pub enum Place {
     At(usize),
     Nowhere,
-}
-
-// The position, nothing, or the refusal.
-pub enum PushAnswer {
-    Is(usize),
-    Nothing,
-    No(Refusal),
 }
 
 // Where the stores right before d begin.
@@ -121,14 +114,14 @@ pub fn pushed_back_of(code: &[u16], d: usize, r: u16) -> Place
 }
 
 // The push whose value the store at a position takes back into r: refusals 1, 2, 6.
-pub fn pushed_back(code: &[u16], at: usize, r: u16) -> PushAnswer
+pub fn pushed_back(code: &[u16], at: usize, r: u16) -> Answer
     ensures { λ v. ⌜ v ≡ pushAnswer (now (code .entry)) at r ⌝ }
 {
     match code::inside(code::check(code), at) {
-        Checked::No(q) => PushAnswer::No(q),
+        Checked::No(q) => code::refused(q),
         Checked::Count(_) => match pushed_back_of(code, at, r) {
-            Place::At(p) => PushAnswer::Is(p),
-            Place::Nowhere => PushAnswer::Nothing,
+            Place::At(p) => code::tell(1, p as u64, 0, 0),
+            Place::Nowhere => code::tell(0, 0, 0, 0),
         },
     }
 }

@@ -13,7 +13,6 @@ use Rattle.optimizer.specs.Fold.{Buffers, buffers}
 use Rattle.optimizer.specs.declared.Folded.{Folded}
 use Rattle.clear.specs.Clear as clearing
 use Rattle.clear.specs.Clear.{clearCall}
-use Rattle.clear.specs.declared.ClearAnswer.the-variants as clear
 use Rattle.refold.specs.Lending.{Lending, lending, readyFor, Folds}
 
 -- the buffers, with so many instructions of the code
@@ -58,7 +57,7 @@ countsCleared f c left = withConstants left (countsLeft f c)
 pub record Chained (f : Folded) (c : Counts) (a : Lending) (scratch : List ℕ) (strict : Bool) : Type 0 where
   pub left : ℕ
   pub cleared : clearing.Buffers
-  pub clears : clearCall (clearable f a scratch) (f .constants) ≡ clearing.outcome (clear.Is left) cleared
+  pub clears : clearCall (clearable f a scratch) (f .constants) ≡ clearing.outcome (clearing.Is left) cleared
   pub folded : Folded
   pub after : Lending
   pub folds : Folds strict (clearedBuffers a cleared) (countsCleared f c left) folded after

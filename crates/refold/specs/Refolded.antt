@@ -11,7 +11,6 @@ use Rattle.optimizer.specs.declared.Folded.{Folded}
 use Rattle.clear.specs.Unused.{loaded}
 use Rattle.clear.specs.Clear as clearing
 use Rattle.clear.specs.Clear.{clearCall}
-use Rattle.clear.specs.declared.ClearAnswer.the-variants as clear
 use Rattle.refold.specs.Lending.{Lending, Folds}
 use Rattle.refold.specs.Lendable.{clearedBuffers, withConstants}
 
@@ -51,7 +50,7 @@ pub record Refolds (strict : Bool) (b : Lending) (c : Counts) (f : Folded) (a : 
   pub left : ℕ
   pub cleared : clearing.Buffers
   pub clears : clearCall (clearing.buffers (b .buffers .code) (b .buffers .kinds) (b .buffers .words) scratch) (c .constants)
-      ≡ clearing.outcome (clear.Is left) cleared
+      ≡ clearing.outcome (clearing.Is left) cleared
   pub folded : Folded
   pub after : Lending
   pub folds : Folds strict (clearedBuffers b cleared) (withConstants left c) folded after

@@ -17,8 +17,7 @@ use Rattle.lent.specs.Check.{checkOf}
 use Rattle.fold.specs.Plan.{kindOf}
 use Rattle.clear.specs.Unused.{named, before, pooled, recoded}
 use Rattle.clear.specs.Clear as clearing
-use Rattle.clear.specs.Clear.{readyOf, clearCall}
-use Rattle.clear.specs.declared.ClearAnswer.the-variants.{Is, No}
+use Rattle.clear.specs.Clear.{Is, No, readyOf, clearCall}
 use Rattle.clear.proofs.Answers.{refused-call, answered}
 use Rattle.clear.proofs.Kept.{named-by, in-order, pooled-kept}
 use Rattle.clear.proofs.Loads.{recoded-count, recoded-op, recoded-mark, unmarked-stays, near-moves}

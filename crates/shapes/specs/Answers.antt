@@ -2,15 +2,15 @@
 use Prim.Native.Nat.{ℕ}
 use mathlib.Core.List.{List}
 use Rattle.code.specs.Check.{checkOf}
-use Rattle.code.specs.Answers.{asked}
-use Rattle.code.specs.declared.Told.{Told}
-use Rattle.code.specs.declared.Told.the-variants.{Is, No}
+use mir.Val.{boolByte}
+use Rattle.code.specs.Answers.{asked, answerOf, refusedOf}
+use Rattle.code.specs.declared.Answer.{Answer}
 use Rattle.shapes.specs.Shape.{flat, guarded}
 
 -- 1, 2
-unfoldable pub flatAnswer : List ℕ → Told
-flatAnswer w = asked (checkOf w) No (Is (flat w))
+unfoldable pub flatAnswer : List ℕ → Answer
+flatAnswer w = asked (checkOf w) refusedOf (answerOf (boolByte (flat w)) 0 0 0)
 
 -- 1, 2
-unfoldable pub guardedAnswer : List ℕ → Told
-guardedAnswer w = asked (checkOf w) No (Is (guarded w))
+unfoldable pub guardedAnswer : List ℕ → Answer
+guardedAnswer w = asked (checkOf w) refusedOf (answerOf (boolByte (guarded w)) 0 0 0)

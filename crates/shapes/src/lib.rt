@@ -5,28 +5,28 @@ ghost use lib.ListN.{length};
 ghost use Rattle.code.specs.Check.{Whole};
 ghost use Rattle.shapes.specs.Shape.{flatHere, flatAt, flat as flatAll, guards, guarded as guardedAny};
 ghost use Rattle.shapes.specs.Answers.{flatAnswer, guardedAnswer};
+use code::Answer;
 use code::Checked;
 use code::Ins;
-use code::Told;
 use code::op::*;
 
 // `flat`: refusals 1, 2.
-pub fn flat(code: &[u16]) -> Told
+pub fn flat(code: &[u16]) -> Answer
     ensures { λ r. ⌜ r ≡ flatAnswer (now (code .entry)) ⌝ }
 {
     match code::check(code) {
-        Checked::No(r) => Told::No(r),
-        Checked::Count(_) => Told::Is(all_flat(code)),
+        Checked::No(r) => code::refused(r),
+        Checked::Count(_) => code::tell(all_flat(code) as u64, 0, 0, 0),
     }
 }
 
 // `guarded`: refusals 1, 2.
-pub fn guarded(code: &[u16]) -> Told
+pub fn guarded(code: &[u16]) -> Answer
     ensures { λ r. ⌜ r ≡ guardedAnswer (now (code .entry)) ⌝ }
 {
     match code::check(code) {
-        Checked::No(r) => Told::No(r),
-        Checked::Count(_) => Told::Is(any_guards(code)),
+        Checked::No(r) => code::refused(r),
+        Checked::Count(_) => code::tell(any_guards(code) as u64, 0, 0, 0),
     }
 }
 

@@ -6,9 +6,9 @@ ghost use Rattle.code.specs.Check.{Valid};
 ghost use Rattle.roles.specs.Roles.{roleTable};
 ghost use Rattle.stack.specs.Stack.{Narrow, workOf, effectOf, sourceOf, turnOf, Grows, stackCallee};
 ghost use Rattle.stack.specs.Answers.{stackAnswer};
+use code::Answer;
 use code::Checked;
 use code::Ins;
-use code::Refusal;
 use code::op::*;
 
 // A push and one of its registers, if there is one.
@@ -43,13 +43,6 @@ pub enum Effect {
 pub enum Turn {
     Ends(Source),
     Needs(usize),
-}
-
-// The position and the register, nothing, or the refusal.
-pub enum StackAnswer {
-    Is(usize, u16),
-    Nothing,
-    No(Refusal),
 }
 
 fn work_of(o: u16) -> Work
@@ -165,14 +158,14 @@ pub fn stack_callee_of(code: &[u16], j: usize, n: u16) -> Source
 }
 
 // For the stack call of `count` positionals at a position, the push of its function: refusals 1, 2, 6.
-pub fn stack_callee(code: &[u16], at: usize, count: u16) -> StackAnswer
+pub fn stack_callee(code: &[u16], at: usize, count: u16) -> Answer
     ensures { λ v. ⌜ v ≡ stackAnswer (now (code .entry)) at count ⌝ }
 {
     match code::inside(code::check(code), at) {
-        Checked::No(q) => StackAnswer::No(q),
+        Checked::No(q) => code::refused(q),
         Checked::Count(_) => match stack_callee_of(code, at, count) {
-            Source::From(p, r) => StackAnswer::Is(p, r),
-            Source::Lost => StackAnswer::Nothing,
+            Source::From(p, r) => code::tell(1, p as u64, r as u64, 0),
+            Source::Lost => code::tell(0, 0, 0, 0),
         },
     }
 }

@@ -1,4 +1,4 @@
-// Where code lands, in a lent buffer (block.rs: `targets`); and what a call that fills one answers.
+// Where code lands, in a lent buffer (block.rs: `targets`).
 ghost use mathlib.Core.Path.{_≡_};
 ghost use Prim.Native.Nat.{_+_, _*_, _/_, _<_, _≤_};
 ghost use lib.ListN.{length};
@@ -6,17 +6,11 @@ ghost use Rattle.laws.specs.Table.{filledTo};
 ghost use Rattle.code.specs.Check.{Whole};
 ghost use Rattle.surveys.specs.Answers.{targetMark, Targets};
 ghost use Rattle.surveys.specs.Targets.{hits, handlerOf, jumped, handled, Lands};
+use code::Answer;
 use code::Checked;
-use code::Refusal;
-
-// What a call that only fills a buffer answers.
-pub enum Filled {
-    Done,
-    No(Refusal),
-}
 
 // `targets`: refusals 1, 2, 4, 5.
-pub fn targets(code: &[u16], tries: &[u32], out: &mut [u8]) -> Filled
+pub fn targets(code: &[u16], tries: &[u32], out: &mut [u8]) -> Answer
     ensures { λ r. ⌜ Targets (now (code .entry)) (now (tries .entry)) (now (out .entry)) r (now (out .exit)) ⌝ }
 {
     match code::room(
@@ -25,10 +19,10 @@ pub fn targets(code: &[u16], tries: &[u32], out: &mut [u8]) -> Filled
         out.len(),
         code.len() / 6 + 1,
     ) {
-        Checked::No(r) => Filled::No(r),
+        Checked::No(r) => code::refused(r),
         Checked::Count(_) => {
             fill_targets(code, tries, out);
-            Filled::Done
+            code::tell(0, 0, 0, 0)
         }
     }
 }

@@ -9,22 +9,25 @@ use Rattle.code.specs.Ins.{count}
 use Rattle.code.specs.Check.{checkOf, insideOf, registersOf, triedOf, roomOf}
 use Rattle.code.specs.declared.Answer.{Answer}
 use Rattle.flow.specs.Words.{Small}
-use Rattle.surveys.specs.Answers.{targetMark}
+use Rattle.surveys.specs.Answers.{targetMark, Targets}
+use Rattle.loops.specs.Answers.{LoopsAround}
 use Rattle.loops.specs.Loops.{depth}
 use Rattle.surveys.proofs.Filling.{one-filling}
 use Rattle.phis.specs.Phi.{Dead}
 use Rattle.generators.specs.Generator.{GenPure}
-use Rattle.phis.specs.Answers.{roomBoth}
+use Rattle.generators.specs.Answers.{GenTold}
+use Rattle.phis.specs.Answers.{roomBoth, DeadPhi}
 use Rattle.phis.proofs.Telling.{one-answer}
 use Rattle.steps.specs.Code.{flow}
 use Rattle.needed.specs.Path.{Needs}
-use Rattle.needed.specs.Answers.{uptoOf}
+use Rattle.needed.specs.Answers.{uptoOf, NeededTold}
 use Rattle.flow.specs.Flow.{Flow}
 use Rattle.kept.proofs.Alone.{outcome-one}
 use Rattle.lent.specs.declared.Counts.{Counts}
 use Rattle.optimizer.specs.Fold.{Buffers, Called}
 use Rattle.clear.specs.Clear as clearing
-use Rattle.turniploom.specs.Answers.{By, filledTold, truthTold, keptTold, foldTold, TargetsTold, LoopsTold, DeadTold, GenTold, NeededTold, ListsTold, FoldTold, clearTold, ClearTold, MadeTold, EnterTold, LeaveTold, ReplayTold, countTold, ExposedTold}
+use Rattle.clear.specs.Clear.{clearTold, ClearTold}
+use Rattle.turniploom.specs.Answers.{By, keptTold, foldTold, ListsTold, FoldTold, MadeTold, EnterTold, LeaveTold, ReplayTold, countTold, ExposedTold}
 use Rattle.saver.specs.Saver.{Saver, Back, Ends}
 use Rattle.saver.specs.Answers.{saverTold}
 use Rattle.day.specs.Answers.{dayTold}
@@ -34,33 +37,25 @@ use Rattle.day.proofs.Alone.{one-day}
 by-one : {A : Type 0} (f : A → Answer) {P Q : A → Type 0} {r r′ : Answer} (x : By f P r) (y : By f Q r′) → x .told ≡ y .told → r ≡ r′
 by-one f x y e = x .is ∙ ap f e ∙ sym (y .is)
 
-pub one-targets : (w t out : List ℕ) (r r′ : Answer) (a a′ : List ℕ) → TargetsTold w t out r a → TargetsTold w t out r′ a′ → (r ≡ r′) × (a ≡ a′)
+pub one-targets : (w t out : List ℕ) (r r′ : Answer) (a a′ : List ℕ) → Targets w t out r a → Targets w t out r′ a′ → (r ≡ r′) × (a ≡ a′)
 one-targets w t out r r′ a a′ x y =
-    let (e, z) = one-filling (roomOf (triedOf (checkOf w) t) 1 (length out) (count w + 1)) (count w + 1) (targetMark w t) out (x .told) (y .told) a a′ (x .allowed) (y .allowed) in
-    (by-one filledTold x y e, z)
+    one-filling (roomOf (triedOf (checkOf w) t) 1 (length out) (count w + 1)) (count w + 1) (targetMark w t) out r r′ a a′ x y
 
-pub one-loops : (w out : List ℕ) (r r′ : Answer) (a a′ : List ℕ) → LoopsTold w out r a → LoopsTold w out r′ a′ → (r ≡ r′) × (a ≡ a′)
-one-loops w out r r′ a a′ x y =
-    let (e, z) = one-filling (roomOf (checkOf w) 1 (length out) (count w + 1)) (count w + 1) (depth w) out (x .told) (y .told) a a′ (x .allowed) (y .allowed) in
-    (by-one filledTold x y e, z)
+pub one-loops : (w out : List ℕ) (r r′ : Answer) (a a′ : List ℕ) → LoopsAround w out r a → LoopsAround w out r′ a′ → (r ≡ r′) × (a ≡ a′)
+one-loops w out r r′ a a′ x y = one-filling (roomOf (checkOf w) 1 (length out) (count w + 1)) (count w + 1) (depth w) out r r′ a a′ x y
 
-pub one-dead : (w : List ℕ) (k q : ℕ) (seen todo : List ℕ) (r r′ : Answer) (a a′ b b′ : List ℕ) → DeadTold w k q seen todo r a b → DeadTold w k q seen todo r′ a′ b′
+pub one-dead : (w : List ℕ) (k q : ℕ) (seen todo : List ℕ) (r r′ : Answer) (a a′ b b′ : List ℕ) → DeadPhi w k q seen todo r a b → DeadPhi w k q seen todo r′ a′ b′
     → (r ≡ r′) × (a ≡ a′) × (b ≡ b′)
 one-dead w k q seen todo r r′ a a′ b b′ x y =
-    let (e, z, t) = one-answer (roomBoth (insideOf (checkOf w) k) w seen todo) (Dead w k q) (count w + 1) seen todo (x .told) (y .told) a a′ b b′ (x .allowed) (y .allowed) in
-    (by-one truthTold x y e, z, t)
+    one-answer (roomBoth (insideOf (checkOf w) k) w seen todo) (Dead w k q) (count w + 1) seen todo r r′ a a′ b b′ x y
 
 pub one-gen : (w seen todo : List ℕ) (r r′ : Answer) (a a′ b b′ : List ℕ) → GenTold w seen todo r a b → GenTold w seen todo r′ a′ b′ → (r ≡ r′) × (a ≡ a′) × (b ≡ b′)
-one-gen w seen todo r r′ a a′ b b′ x y =
-    let (e, z, t) = one-answer (roomBoth (checkOf w) w seen todo) (GenPure w) (count w + 1) seen todo (x .told) (y .told) a a′ b b′ (x .allowed) (y .allowed) in
-    (by-one truthTold x y e, z, t)
+one-gen w seen todo r r′ a a′ b b′ x y = one-answer (roomBoth (checkOf w) w seen todo) (GenPure w) (count w + 1) seen todo r r′ a a′ b b′ x y
 
 pub one-needed : (w : List ℕ) (regs k q : ℕ) (seen todo : List ℕ) (r r′ : Answer) (a a′ b b′ : List ℕ) → NeededTold w regs k q seen todo r a b → NeededTold w regs k q seen todo r′ a′ b′
     → (r ≡ r′) × (a ≡ a′) × (b ≡ b′)
 one-needed w regs k q seen todo r r′ a a′ b b′ x y =
-    let (e, z, t) = one-answer (roomBoth (uptoOf (registersOf (checkOf w) regs) k) w seen todo) (Needs (flow regs w) q k) (count w + 1) seen todo
-    (x .told) (y .told) a a′ b b′ (x .allowed) (y .allowed) in
-    (by-one truthTold x y e, z, t)
+    one-answer (roomBoth (uptoOf (registersOf (checkOf w) regs) k) w seen todo) (Needs (flow regs w) q k) (count w + 1) seen todo r r′ a a′ b b′ x y
 
 -- the scratch is words of so many bits, as every lent u64 or u32 is
 pub one-kept : (f : Flow) (start bits : ℕ) → 0 < bits → (w : List ℕ) (regs : ℕ) (tries rows offsets list : List ℕ) (r r′ : Answer) (a a′ b b′ c c′ : List ℕ)
@@ -79,7 +74,7 @@ one-fold strict b tries landings c r r′ a a′ t t′ l l′ x y =
 pub one-clear : (b : clearing.Buffers) (m : ℕ) (r r′ : Answer) (a a′ : clearing.Buffers) → ClearTold b m r a → ClearTold b m r′ a′ → (r ≡ r′) × (a ≡ a′)
 one-clear b m r r′ a a′ x y =
     let e = x .allowed ∙ sym (y .allowed) in
-    (by-one clearTold x y (ap (λ (o : clearing.Outcome). o .answer) e), ap (λ (o : clearing.Outcome). o .after) e)
+    (x .is ∙ ap (λ (o : clearing.Outcome). clearTold (o .answer)) e ∙ sym (y .is), ap (λ (o : clearing.Outcome). o .after) e)
 
 pub one-make : (regs : ℕ) (head : List ℕ) (r r′ : Answer) (a a′ : List ℕ) → MadeTold regs head a r → MadeTold regs head a′ r′ → (r ≡ r′) × (a ≡ a′)
 one-make regs head r r′ a a′ x y = (by-one saverTold x y (x .allowed .answer ∙ sym (y .allowed .answer)), x .allowed .words ∙ sym (y .allowed .words))

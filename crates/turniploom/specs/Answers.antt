@@ -3,33 +3,11 @@ use Prim.Native.Nat.{ℕ}
 use mathlib.Core.Path.{_≡_}
 use mathlib.Core.Bool.{Bool}
 use mathlib.Core.List.{List}
-use mir.Val.{boolByte}
 use Rattle.code.specs.Answers.{answerOf, refusedOf}
 use Rattle.code.specs.declared.Answer.{Answer}
-use Rattle.code.specs.declared.Told.{Told}
-use Rattle.code.specs.declared.Told.the-variants as told
-use Rattle.params.specs.declared.Bits.{Bits}
-use Rattle.params.specs.declared.Bits.the-variants as bits
-use Rattle.surveys.specs.declared.Filled.{Filled}
-use Rattle.surveys.specs.declared.Filled.the-variants as filled
-use Rattle.surveys.specs.Answers.{Targets}
-use Rattle.loops.specs.Answers.{LoopsAround}
-use Rattle.phis.specs.Answers as phis
-use Rattle.generators.specs.Answers as generators
-use Rattle.needed.specs.Answers as needed
-use Rattle.callee.specs.declared.GlobalAnswer.{GlobalAnswer}
-use Rattle.callee.specs.declared.GlobalAnswer.the-variants as global
-use Rattle.pushes.specs.declared.PushAnswer.{PushAnswer}
-use Rattle.pushes.specs.declared.PushAnswer.the-variants as push
-use Rattle.stack.specs.declared.StackAnswer.{StackAnswer}
-use Rattle.stack.specs.declared.StackAnswer.the-variants as stack
 use Rattle.lent.specs.declared.Counts.{Counts}
 use Rattle.optimizer.specs.Fold.{FoldAnswer, Buffers}
 use Rattle.folding.specs.Answers as folding
-use Rattle.clear.specs.Clear as clearing
-use Rattle.clear.specs.Clear.{clearCall}
-use Rattle.clear.specs.declared.ClearAnswer.{ClearAnswer}
-use Rattle.clear.specs.declared.ClearAnswer.the-variants as clear
 use Rattle.flow.specs.Flow.{Flow}
 use Rattle.kept.specs.Answers.{ListsLeft, Outcome}
 use Rattle.kept.specs.declared.KeptAnswer.{KeptAnswer}
@@ -43,59 +21,11 @@ use Rattle.code.specs.declared.Checked.the-variants as stage
 use Rattle.nested.specs.Raising.{raising, mays, beginsAt}
 use Rattle.raises.specs.Answers.{ExposedLeft}
 
--- truth is 1, falsehood 0
-abbrev pub truthTold : Told → Answer
-truthTold (told.Is b) = answerOf (boolByte b) 0 0 0
-truthTold (told.No r) = refusedOf r
-
--- the bits
-abbrev pub bitsTold : Bits → Answer
-bitsTold (bits.Is m) = answerOf m 0 0 0
-bitsTold (bits.No r) = refusedOf r
-
--- no value: the buffer is the answer
-abbrev pub filledTold : Filled → Answer
-filledTold filled.Done = answerOf 0 0 0 0
-filledTold (filled.No r) = refusedOf r
-
 -- an answer that is what f gives for a case which P allows
 pub record By {A : Type 0} (f : A → Answer) (P : A → Type 0) (r : Answer) : Type 0 where
   pub told : A
   pub allowed : P told
   pub is : r ≡ f told
-
-abbrev pub TargetsTold : List ℕ → List ℕ → List ℕ → Answer → List ℕ → Type 0
-TargetsTold w t out r out′ = By filledTold (λ v. Targets w t out v out′) r
-
-abbrev pub LoopsTold : List ℕ → List ℕ → Answer → List ℕ → Type 0
-LoopsTold w out r out′ = By filledTold (λ v. LoopsAround w out v out′) r
-
-abbrev pub DeadTold : List ℕ → ℕ → ℕ → List ℕ → List ℕ → Answer → List ℕ → List ℕ → Type 0
-DeadTold w k q seen todo r seen′ todo′ = By truthTold (λ v. phis.DeadPhi w k q seen todo v seen′ todo′) r
-
-abbrev pub GenTold : List ℕ → List ℕ → List ℕ → Answer → List ℕ → List ℕ → Type 0
-GenTold w seen todo r seen′ todo′ = By truthTold (λ v. generators.GenTold w seen todo v seen′ todo′) r
-
-abbrev pub NeededTold : List ℕ → ℕ → ℕ → ℕ → List ℕ → List ℕ → Answer → List ℕ → List ℕ → Type 0
-NeededTold w regs k q seen todo r seen′ todo′ = By truthTold (λ v. needed.NeededTold w regs k q seen todo v seen′ todo′) r
-
--- 1, binding; or 0
-abbrev pub globalTold : GlobalAnswer → Answer
-globalTold (global.Is b) = answerOf 1 b 0 0
-globalTold global.Nothing = answerOf 0 0 0 0
-globalTold (global.No r) = refusedOf r
-
--- 1, position; or 0
-abbrev pub pushTold : PushAnswer → Answer
-pushTold (push.Is p) = answerOf 1 p 0 0
-pushTold push.Nothing = answerOf 0 0 0 0
-pushTold (push.No r) = refusedOf r
-
--- 1, position, register; or 0
-abbrev pub stackTold : StackAnswer → Answer
-stackTold (stack.Is p r) = answerOf 1 p r 0
-stackTold stack.Nothing = answerOf 0 0 0 0
-stackTold (stack.No r) = refusedOf r
 
 -- list length, full sweeps, abandoned sweeps
 abbrev pub keptTold : KeptAnswer → Answer
@@ -116,14 +46,6 @@ foldTold v = folding.foldTold v
 
 abbrev pub FoldTold : Bool → Buffers → List ℕ → List ℕ → Counts → Answer → Buffers → List ℕ → List ℕ → Type 0
 FoldTold strict b tries landings c r b′ tries′ landings′ = folding.FoldTold strict b tries landings c r b′ tries′ landings′
-
--- the new count of constants
-abbrev pub clearTold : ClearAnswer → Answer
-clearTold (clear.Is m) = answerOf m 0 0 0
-clearTold (clear.No r) = refusedOf r
-
-abbrev pub ClearTold : clearing.Buffers → ℕ → Answer → clearing.Buffers → Type 0
-ClearTold b m r b′ = By clearTold (λ v. clearing.outcome v b′ ≡ clearCall b m) r
 
 -- the saver's calls: the words in use, and every word of head, area and file
 abbrev pub MadeTold : ℕ → List ℕ → List ℕ → Answer → Type 0

@@ -8,9 +8,14 @@ ghost use Rattle.params.specs.Answers.{writtenAnswer, passedAnswer};
 ghost use Rattle.callee.specs.Answers.{globalAnswer};
 ghost use Rattle.pushes.specs.Answers.{pushAnswer};
 ghost use Rattle.stack.specs.Answers.{stackAnswer};
-ghost use Rattle.turniploom.specs.Answers.{truthTold, bitsTold, filledTold, TargetsTold, LoopsTold, DeadTold, GenTold, NeededTold, globalTold, pushTold, stackTold, keptTold as keptAnswered, KeptTold, FoldTold, clearTold, ClearTold};
+ghost use Rattle.surveys.specs.Answers.{Targets};
+ghost use Rattle.loops.specs.Answers.{LoopsAround};
+ghost use Rattle.phis.specs.Answers.{DeadPhi};
+ghost use Rattle.generators.specs.Answers.{GenTold};
+ghost use Rattle.needed.specs.Answers.{NeededTold};
+ghost use Rattle.turniploom.specs.Answers.{keptTold as keptAnswered, KeptTold, FoldTold};
 ghost use Rattle.optimizer.specs.Fold.{buffers};
-ghost use Rattle.clear.specs.Clear.{buffers as clearable};
+ghost use Rattle.clear.specs.Clear.{buffers as clearable, ClearTold};
 ghost use Rattle.levels.specs.Answers.{levelAnswer};
 ghost use lib.ListN.{length};
 ghost use Rattle.figures.specs.Answers.{reports, addCall, joinCall};
@@ -18,46 +23,9 @@ ghost use Rattle.saver.specs.Saver.{saver as words, returned, thrown};
 ghost use Rattle.turniploom.specs.Answers.{MadeTold, EnterTold, LeaveTold, ReplayTold};
 ghost use Rattle.turniploom.specs.Answers.{countTold, RaisingTold, ExposedTold};
 ghost use Rattle.code.specs.Answers.{answerOf};
-use callee::GlobalAnswer;
-use clear::ClearAnswer;
 use code::Answer;
 use code::Checked;
-use code::Told;
 use kept::KeptAnswer;
-use params::Bits;
-use pushes::PushAnswer;
-use stack::StackAnswer;
-use surveys::Filled;
-
-// A truth is 1, a falsehood 0.
-fn truth(t: Told) -> Answer
-    ensures { λ r. ⌜ r ≡ truthTold t ⌝ }
-{
-    match t {
-        Told::Is(b) => code::tell(b as u64, 0, 0, 0),
-        Told::No(r) => code::refused(r),
-    }
-}
-
-// Bits, as they are.
-fn bits(b: Bits) -> Answer
-    ensures { λ r. ⌜ r ≡ bitsTold b ⌝ }
-{
-    match b {
-        Bits::Is(m) => code::tell(m, 0, 0, 0),
-        Bits::No(r) => code::refused(r),
-    }
-}
-
-// A filled buffer has no value beside it.
-fn filled(f: Filled) -> Answer
-    ensures { λ r. ⌜ r ≡ filledTold f ⌝ }
-{
-    match f {
-        Filled::Done => code::tell(0, 0, 0, 0),
-        Filled::No(r) => code::refused(r),
-    }
-}
 
 // The list's length and the two sweep counts.
 fn kept_told(k: KeptAnswer) -> Answer
@@ -71,16 +39,6 @@ fn kept_told(k: KeptAnswer) -> Answer
             0,
         ),
         KeptAnswer::No(r) => code::refused(r),
-    }
-}
-
-// The count of constants that are left.
-fn cleared(a: ClearAnswer) -> Answer
-    ensures { λ r. ⌜ r ≡ clearTold a ⌝ }
-{
-    match a {
-        ClearAnswer::Is(left) => code::tell(left as u64, 0, 0, 0),
-        ClearAnswer::No(r) => code::refused(r),
     }
 }
 
@@ -121,51 +79,51 @@ pub extern "C" fn turniploom_touched(code: &[u16], at: usize) -> Answer
 
 #[no_mangle]
 pub extern "C" fn turniploom_pure(code: &[u16]) -> Answer
-    ensures { λ r. ⌜ r ≡ truthTold (pureAnswer (now (code .entry))) ⌝ }
+    ensures { λ r. ⌜ r ≡ pureAnswer (now (code .entry)) ⌝ }
 {
-    truth(laid::pure(code))
+    laid::pure(code)
 }
 
 #[no_mangle]
 pub extern "C" fn turniploom_flat(code: &[u16]) -> Answer
-    ensures { λ r. ⌜ r ≡ truthTold (flatAnswer (now (code .entry))) ⌝ }
+    ensures { λ r. ⌜ r ≡ flatAnswer (now (code .entry)) ⌝ }
 {
-    truth(shapes::flat(code))
+    shapes::flat(code)
 }
 
 #[no_mangle]
 pub extern "C" fn turniploom_guarded(code: &[u16]) -> Answer
-    ensures { λ r. ⌜ r ≡ truthTold (guardedAnswer (now (code .entry))) ⌝ }
+    ensures { λ r. ⌜ r ≡ guardedAnswer (now (code .entry)) ⌝ }
 {
-    truth(shapes::guarded(code))
+    shapes::guarded(code)
 }
 
 #[no_mangle]
 pub extern "C" fn turniploom_returns(code: &[u16], at: usize) -> Answer
-    ensures { λ r. ⌜ r ≡ truthTold (returnsAnswer (now (code .entry)) at) ⌝ }
+    ensures { λ r. ⌜ r ≡ returnsAnswer (now (code .entry)) at ⌝ }
 {
-    truth(walks::returns(code, at))
+    walks::returns(code, at)
 }
 
 #[no_mangle]
 pub extern "C" fn turniploom_params_written(code: &[u16], arity: usize) -> Answer
-    ensures { λ r. ⌜ r ≡ bitsTold (writtenAnswer (now (code .entry)) arity) ⌝ }
+    ensures { λ r. ⌜ r ≡ writtenAnswer (now (code .entry)) arity ⌝ }
 {
-    bits(params::params_written(code, arity))
+    params::params_written(code, arity)
 }
 
 #[no_mangle]
 pub extern "C" fn turniploom_passed(code: &[u16], at: usize, arity: usize) -> Answer
-    ensures { λ r. ⌜ r ≡ bitsTold (passedAnswer (now (code .entry)) at arity) ⌝ }
+    ensures { λ r. ⌜ r ≡ passedAnswer (now (code .entry)) at arity ⌝ }
 {
-    bits(params::passed(code, at, arity))
+    params::passed(code, at, arity)
 }
 
 #[no_mangle]
 pub extern "C" fn turniploom_gen_pure(code: &[u16], seen: &mut [u8], todo: &mut [u32]) -> Answer
     ensures { λ r. ⌜ GenTold (now (code .entry)) (now (seen .entry)) (now (todo .entry)) r (now (seen .exit)) (now (todo .exit)) ⌝ }
 {
-    truth(generators::gen_pure(code, seen, todo))
+    generators::gen_pure(code, seen, todo)
 }
 
 #[no_mangle]
@@ -176,56 +134,44 @@ pub extern "C" fn turniploom_dead_phi(
     seen: &mut [u8],
     todo: &mut [u32],
 ) -> Answer
-    ensures { λ a. ⌜ DeadTold (now (code .entry)) at r (now (seen .entry)) (now (todo .entry)) a (now (seen .exit)) (now (todo .exit)) ⌝ }
+    ensures { λ a. ⌜ DeadPhi (now (code .entry)) at r (now (seen .entry)) (now (todo .entry)) a (now (seen .exit)) (now (todo .exit)) ⌝ }
 {
-    truth(phis::dead_phi(code, at, r, seen, todo))
+    phis::dead_phi(code, at, r, seen, todo)
 }
 
 #[no_mangle]
 pub extern "C" fn turniploom_loops_around(code: &[u16], out: &mut [u32]) -> Answer
-    ensures { λ r. ⌜ LoopsTold (now (code .entry)) (now (out .entry)) r (now (out .exit)) ⌝ }
+    ensures { λ r. ⌜ LoopsAround (now (code .entry)) (now (out .entry)) r (now (out .exit)) ⌝ }
 {
-    filled(loops::loops_around(code, out))
+    loops::loops_around(code, out)
 }
 
 #[no_mangle]
 pub extern "C" fn turniploom_targets(code: &[u16], tries: &[u32], out: &mut [u8]) -> Answer
-    ensures { λ r. ⌜ TargetsTold (now (code .entry)) (now (tries .entry)) (now (out .entry)) r (now (out .exit)) ⌝ }
+    ensures { λ r. ⌜ Targets (now (code .entry)) (now (tries .entry)) (now (out .entry)) r (now (out .exit)) ⌝ }
 {
-    filled(surveys::targets(code, tries, out))
+    surveys::targets(code, tries, out)
 }
 
 #[no_mangle]
 pub extern "C" fn turniploom_global_of(code: &[u16], at: usize) -> Answer
-    ensures { λ r. ⌜ r ≡ globalTold (globalAnswer (now (code .entry)) at) ⌝ }
+    ensures { λ r. ⌜ r ≡ globalAnswer (now (code .entry)) at ⌝ }
 {
-    match callee::global_of(code, at) {
-        GlobalAnswer::Is(b) => code::tell(1, b as u64, 0, 0),
-        GlobalAnswer::Nothing => code::tell(0, 0, 0, 0),
-        GlobalAnswer::No(r) => code::refused(r),
-    }
+    callee::global_of(code, at)
 }
 
 #[no_mangle]
 pub extern "C" fn turniploom_pushed_back(code: &[u16], at: usize, r: u16) -> Answer
-    ensures { λ a. ⌜ a ≡ pushTold (pushAnswer (now (code .entry)) at r) ⌝ }
+    ensures { λ a. ⌜ a ≡ pushAnswer (now (code .entry)) at r ⌝ }
 {
-    match pushes::pushed_back(code, at, r) {
-        PushAnswer::Is(p) => code::tell(1, p as u64, 0, 0),
-        PushAnswer::Nothing => code::tell(0, 0, 0, 0),
-        PushAnswer::No(q) => code::refused(q),
-    }
+    pushes::pushed_back(code, at, r)
 }
 
 #[no_mangle]
 pub extern "C" fn turniploom_stack_callee(code: &[u16], at: usize, count: u16) -> Answer
-    ensures { λ r. ⌜ r ≡ stackTold (stackAnswer (now (code .entry)) at count) ⌝ }
+    ensures { λ r. ⌜ r ≡ stackAnswer (now (code .entry)) at count ⌝ }
 {
-    match stack::stack_callee(code, at, count) {
-        StackAnswer::Is(p, q) => code::tell(1, p as u64, q as u64, 0),
-        StackAnswer::Nothing => code::tell(0, 0, 0, 0),
-        StackAnswer::No(r) => code::refused(r),
-    }
+    stack::stack_callee(code, at, count)
 }
 
 #[no_mangle]
@@ -239,7 +185,7 @@ pub extern "C" fn turniploom_needed(
 ) -> Answer
     ensures { λ a. ⌜ NeededTold (now (code .entry)) regs at r (now (seen .entry)) (now (todo .entry)) a (now (seen .exit)) (now (todo .exit)) ⌝ }
 {
-    truth(needed::needed(code, regs, at, r, seen, todo))
+    needed::needed(code, regs, at, r, seen, todo)
 }
 
 #[no_mangle]
@@ -325,8 +271,7 @@ pub extern "C" fn turniploom_clear(
 ) -> Answer
     ensures { λ r. ⌜ ClearTold (clearable (now (code .entry)) (now (kinds .entry)) (now (words .entry)) (now (scratch .entry))) constants r (clearable (now (code .exit)) (now (kinds .exit)) (now (words .exit)) (now (scratch .exit))) ⌝ }
 {
-    let a = clear::clear(code, kinds, words, constants, scratch);
-    cleared(a)
+    clear::clear(code, kinds, words, constants, scratch)
 }
 
 #[no_mangle]

@@ -2,11 +2,11 @@
 use Prim.Native.Nat.{ℕ}
 use mathlib.Core.List.{List}
 use Rattle.code.specs.Check.{checkOf, insideOf}
-use Rattle.code.specs.Answers.{asked}
-use Rattle.code.specs.declared.Told.{Told}
-use Rattle.code.specs.declared.Told.the-variants.{Is, No}
+use mir.Val.{boolByte}
+use Rattle.code.specs.Answers.{asked, answerOf, refusedOf}
+use Rattle.code.specs.declared.Answer.{Answer}
 use Rattle.walks.specs.Returns.{returnsAt}
 
 -- 1, 2, 6
-unfoldable pub returnsAnswer : List ℕ → ℕ → Told
-returnsAnswer w k = asked (insideOf (checkOf w) k) No (Is (returnsAt w k))
+unfoldable pub returnsAnswer : List ℕ → ℕ → Answer
+returnsAnswer w k = asked (insideOf (checkOf w) k) refusedOf (answerOf (boolByte (returnsAt w k)) 0 0 0)

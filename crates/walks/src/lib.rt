@@ -6,18 +6,18 @@ ghost use Rattle.laws.specs.Table.{clearedTo};
 ghost use Rattle.code.specs.Check.{Whole};
 ghost use Rattle.walks.specs.Returns.{returnsHere, returnsAt};
 ghost use Rattle.walks.specs.Answers.{returnsAnswer};
+use code::Answer;
 use code::Checked;
 use code::Ins;
-use code::Told;
 use code::op::*;
 
 // `returns`: refusals 1, 2, 6.
-pub fn returns(code: &[u16], at: usize) -> Told
+pub fn returns(code: &[u16], at: usize) -> Answer
     ensures { λ r. ⌜ r ≡ returnsAnswer (now (code .entry)) at ⌝ }
 {
     match code::inside(code::check(code), at) {
-        Checked::No(r) => Told::No(r),
-        Checked::Count(_) => Told::Is(returns_at(code, at)),
+        Checked::No(r) => code::refused(r),
+        Checked::Count(_) => code::tell(returns_at(code, at) as u64, 0, 0, 0),
     }
 }
 

@@ -7,19 +7,20 @@ use Rattle.code.proofs.Answers.{refused, told}
 use Rattle.code.proofs.Stages.{passing, onward}
 use Rattle.callee.specs.declared.Callee.{Callee}
 use Rattle.callee.specs.declared.Callee.the-variants.{Bound, Unknown}
-use Rattle.callee.specs.declared.GlobalAnswer.the-variants.{Is, Nothing}
+use Rattle.code.specs.Answers.{answerOf}
+use Rattle.code.specs.declared.Answer.{Answer}
 use Rattle.callee.specs.Trace.{globalOf}
 use Rattle.callee.specs.Answers.{globalTold, globalAnswer}
 use Rattle.stack.proofs.Accepted.{at-in}
 use Rattle.callee.proofs.global_of.Statement.{statement}
 use Rattle.callee.proofs.global_of.Tie as tie
 
-module _ (w : List ℕ) (k : ℕ) (v : Callee) (h : v ≡ globalOf w k) where
-  is : (b : ℕ) → v ≡ Bound b → Is b ≡ globalTold (globalOf w k)
-  is b t = rw (← h, t)
+module _ (w : List ℕ) (k : ℕ) (v : Callee) (h : v ≡ globalOf w k) (a : Answer) where
+  is : (b : ℕ) → v ≡ Bound b → a ≡ answerOf 1 b 0 0 → a ≡ globalTold (globalOf w k)
+  is b t z = rw (← h, t) z
 
-  nothing : v ≡ Unknown → Nothing ≡ globalTold (globalOf w k)
-  nothing t = rw (← h, t)
+  nothing : v ≡ Unknown → a ≡ answerOf 0 0 0 0 → a ≡ globalTold (globalOf w k)
+  nothing t z = rw (← h, t) z
 
 check-requires : tie.Need-check-requires
 check-requires c κs = search needs
@@ -30,6 +31,9 @@ inside-requires c κs = search needs
 enum-known-r : tie.Need-enum-known-r
 enum-known-r c = search needs
 
+refused-requires : tie.Need-refused-requires
+refused-requires c κs = search needs
+
 enum-told : tie.Need-enum-told
 enum-told c = search needs
 
@@ -39,8 +43,17 @@ global-at-requires c κs = search (passing, at-in)
 enum-known-b : tie.Need-enum-known-b
 enum-known-b c = search needs
 
+cast-tell : tie.Need-cast-tell
+cast-tell c = search needs
+
+tell-requires : tie.Need-tell-requires
+tell-requires c κs = search needs
+
 enum-told-2 : tie.Need-enum-told-2
 enum-told-2 c = search needs
+
+tell-requires-2 : tie.Need-tell-requires-2
+tell-requires-2 c κs = search needs
 
 returns : tie.Need-returns
 unfolding globalAnswer
@@ -61,10 +74,14 @@ global-of-spec =
     check-requires
     inside-requires
     enum-known-r
+    refused-requires
     enum-told
     global-at-requires
     enum-known-b
+    cast-tell
+    tell-requires
     enum-told-2
+    tell-requires-2
     returns
     returns-2
     returns-3)

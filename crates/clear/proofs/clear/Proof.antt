@@ -10,11 +10,17 @@ ready-requires c κs = search needs
 enum-known-r : tie.Need-enum-known-r
 enum-known-r c = search needs
 
+refused-requires : tie.Need-refused-requires
+refused-requires c κs = search needs
+
 enum-told : tie.Need-enum-told
 enum-told c = search needs
 
 clear-unused-requires : tie.Need-clear-unused-requires
 clear-unused-requires c κs = held-of _ _ _ (c .before .before .before .before .before .before .ready .ensures) _ (c .before .before .before .before .enum-told .given .1)
+
+tell-requires : tie.Need-tell-requires
+tell-requires c κs = search needs
 
 same-length : tie.Need-same-length
 same-length c = search needs
@@ -29,7 +35,7 @@ same-length-4 : tie.Need-same-length-4
 same-length-4 c = search needs
 
 returns : tie.Need-returns
-returns c = refused-by _ _ _ (c .before .before .before .ready .ensures) _ (c .before .r .given .1)
+returns c = refused-by _ _ _ (c .before .before .before .before .ready .ensures) _ _ (c .before .before .r .given .1) (c .refused .ensures)
 
 same-length-5 : tie.Need-same-length-5
 same-length-5 c = search needs
@@ -44,7 +50,9 @@ same-length-8 : tie.Need-same-length-8
 same-length-8 c = search needs
 
 returns-2 : tie.Need-returns-2
-returns-2 c = told-by _ _ _ (c .before .before .before .before .before .before .before .before .before .before .before .before .before .before .before .ready .ensures) _ _ (c .before .before .before .before .before .before .before .before .before .before .before .before .before .enum-told .given .1) (c .before .before .before .before .before .before .before .before .clear-unused .ensures)
+returns-2 c = told-by _ _ _ (c .before .before .before .before .before .before .before .before .before .before .before .before .before .before .before .before .ready .ensures) _ _ _ _
+    (c .before .before .before .before .before .before .before .before .before .before .before .before .before .before .enum-told .given .1)
+    (c .before .before .before .before .before .before .before .before .before .clear-unused .ensures) (c .tell .ensures)
 
 pub clear-spec : {M : Type 1} → statement M
 clear-spec =
@@ -52,8 +60,10 @@ clear-spec =
     (tie.spec
     ready-requires
     enum-known-r
+    refused-requires
     enum-told
     clear-unused-requires
+    tell-requires
     same-length
     same-length-2
     same-length-3

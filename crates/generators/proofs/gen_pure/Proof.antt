@@ -20,11 +20,20 @@ room-requires-2 c κs = search needs
 enum-known-q : tie.Need-enum-known-q
 enum-known-q c = search needs
 
+refused-requires : tie.Need-refused-requires
+refused-requires c κs = search needs
+
 enum-told : tie.Need-enum-told
 enum-told c = search needs
 
 generates-requires : tie.Need-generates-requires
 generates-requires c κs = search code-room
+
+cast-tell : tie.Need-cast-tell
+cast-tell c = search needs
+
+tell-requires : tie.Need-tell-requires
+tell-requires c κs = search needs
 
 returns : tie.Need-returns
 returns c = search (telling, onward)
@@ -47,8 +56,11 @@ gen-pure-spec =
     room-requires
     room-requires-2
     enum-known-q
+    refused-requires
     enum-told
     generates-requires
+    cast-tell
+    tell-requires
     returns
     same-length
     same-length-2

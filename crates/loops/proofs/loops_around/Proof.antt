@@ -26,11 +26,17 @@ room-requires c κs = search needs
 enum-known-r : tie.Need-enum-known-r
 enum-known-r c = search needs
 
+refused-requires : tie.Need-refused-requires
+refused-requires c κs = search needs
+
 enum-told : tie.Need-enum-told
 enum-told c = search needs
 
 fill-loops-requires : tie.Need-fill-loops-requires
 fill-loops-requires c κs = search (passing, rooms, space)
+
+tell-requires : tie.Need-tell-requires
+tell-requires c κs = search needs
 
 returns : tie.Need-returns
 returns c = search (filling, onward)
@@ -49,8 +55,10 @@ loops-around-spec =
     add-room
     room-requires
     enum-known-r
+    refused-requires
     enum-told
     fill-loops-requires
+    tell-requires
     returns
     same-length
     returns-2)

@@ -26,11 +26,20 @@ room-requires-2 c κs = search needs
 enum-known-q : tie.Need-enum-known-q
 enum-known-q c = search needs
 
+refused-requires : tie.Need-refused-requires
+refused-requires c κs = search needs
+
 enum-told : tie.Need-enum-told
 enum-told c = search needs
 
 asks-requires : tie.Need-asks-requires
 asks-requires c κs = (search place-room, search place-in)
+
+cast-tell : tie.Need-cast-tell
+cast-tell c = search needs
+
+tell-requires : tie.Need-tell-requires
+tell-requires c κs = search needs
 
 returns : tie.Need-returns
 returns c = search (telling, chain)
@@ -55,8 +64,11 @@ needed-spec =
     room-requires
     room-requires-2
     enum-known-q
+    refused-requires
     enum-told
     asks-requires
+    cast-tell
+    tell-requires
     returns
     same-length
     same-length-2

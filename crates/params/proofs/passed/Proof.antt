@@ -5,9 +5,10 @@ use mathlib.Core.Bool.{Bool, true, false, cond}
 use mathlib.Core.List.{List}
 use Prim.Native.Nat.{ℕ}
 use Rattle.code.specs.Ins.{insAt, isCall}
+use Rattle.code.specs.Answers.{answerOf, refusedOf}
+use Rattle.code.specs.declared.Answer.{Answer}
 use Rattle.code.specs.declared.Ins.{Ins}
 use Rattle.code.specs.declared.Refusal.the-variants.{Position}
-use Rattle.params.specs.declared.Bits.the-variants.{Is, No}
 use Rattle.params.specs.Masks.{passedAt}
 use Rattle.params.specs.Answers.{passedAnswer}
 use Rattle.code.proofs.Answers.{refused, told}
@@ -16,16 +17,19 @@ use Rattle.walks.proofs.Rooms.{near}
 use Rattle.params.proofs.passed.Statement.{statement}
 use Rattle.params.proofs.passed.Tie as tie
 
-module _ (w : List ℕ) (j arity : ℕ) (c : Ins) (e : c ≡ insAt w j) (b : Bool) (f : b ≡ isCall (c .op)) where
-  call : (m : ℕ) → b ≡ true → m ≡ passedAt w j arity → Is m ≡ cond (isCall (insAt w j .op)) (Is (passedAt w j arity)) (No (Position j))
-  call m t g =
-      let q : isCall (insAt w j .op) ≡ true = sym (ap (λ (i : Ins). isCall (i .op)) e) ∙ sym f ∙ t in
-      rw (q, g)
+abbrev saidAt : List ℕ → ℕ → ℕ → Answer
+saidAt w j arity = cond (isCall (insAt w j .op)) (answerOf (passedAt w j arity) 0 0 0) (refusedOf (Position j))
 
-  no-call : b ≡ false → No (Position j) ≡ cond (isCall (insAt w j .op)) (Is (passedAt w j arity)) (No (Position j))
-  no-call t =
+module _ (w : List ℕ) (j arity : ℕ) (c : Ins) (e : c ≡ insAt w j) (b : Bool) (f : b ≡ isCall (c .op)) (a : Answer) where
+  call : (m : ℕ) → b ≡ true → m ≡ passedAt w j arity → a ≡ answerOf m 0 0 0 → a ≡ saidAt w j arity
+  call m t g h =
+      let q : isCall (insAt w j .op) ≡ true = sym (ap (λ (i : Ins). isCall (i .op)) e) ∙ sym f ∙ t in
+      rw (q, ← g) h
+
+  no-call : b ≡ false → a ≡ refusedOf (Position j) → a ≡ saidAt w j arity
+  no-call t h =
       let q : isCall (insAt w j .op) ≡ false = sym (ap (λ (i : Ins). isCall (i .op)) e) ∙ sym f ∙ t in
-      rw q
+      rw q h
 
 check-requires : tie.Need-check-requires
 check-requires c κs = search needs
@@ -35,6 +39,9 @@ inside-requires c κs = search needs
 
 enum-known-r : tie.Need-enum-known-r
 enum-known-r c = search needs
+
+refused-requires : tie.Need-refused-requires
+refused-requires c κs = search needs
 
 enum-told : tie.Need-enum-told
 enum-told c = search needs
@@ -47,6 +54,12 @@ is-call-requires c κs = search needs
 
 passed-at-requires : tie.Need-passed-at-requires
 passed-at-requires c κs = search (passing, near)
+
+tell-requires : tie.Need-tell-requires
+tell-requires c κs = search needs
+
+refused-requires-2 : tie.Need-refused-requires-2
+refused-requires-2 c κs = search needs
 
 returns : tie.Need-returns
 unfolding passedAnswer
@@ -67,10 +80,13 @@ passed-spec =
     check-requires
     inside-requires
     enum-known-r
+    refused-requires
     enum-told
     ins-at-requires
     is-call-requires
     passed-at-requires
+    tell-requires
     returns
+    refused-requires-2
     returns-2
     returns-3)

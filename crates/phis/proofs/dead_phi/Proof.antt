@@ -23,11 +23,20 @@ room-requires-2 c κs = search needs
 enum-known-q : tie.Need-enum-known-q
 enum-known-q c = search needs
 
+refused-requires : tie.Need-refused-requires
+refused-requires c κs = search needs
+
 enum-told : tie.Need-enum-told
 enum-told c = search needs
 
 dead-requires : tie.Need-dead-requires
 dead-requires c κs = (search place-room, search place-in)
+
+cast-tell : tie.Need-cast-tell
+cast-tell c = search needs
+
+tell-requires : tie.Need-tell-requires
+tell-requires c κs = search needs
 
 returns : tie.Need-returns
 returns c = search (telling, onward)
@@ -51,8 +60,11 @@ dead-phi-spec =
     room-requires
     room-requires-2
     enum-known-q
+    refused-requires
     enum-told
     dead-requires
+    cast-tell
+    tell-requires
     returns
     same-length
     same-length-2

@@ -7,19 +7,20 @@ use Rattle.code.proofs.Answers.{refused, told}
 use Rattle.code.proofs.Stages.{passing, onward}
 use Rattle.pushes.specs.declared.Place.{Place}
 use Rattle.pushes.specs.declared.Place.the-variants.{At, Nowhere}
-use Rattle.pushes.specs.declared.PushAnswer.the-variants.{Is, Nothing}
+use Rattle.code.specs.Answers.{answerOf}
+use Rattle.code.specs.declared.Answer.{Answer}
 use Rattle.pushes.specs.Pushes.{pushedBack}
 use Rattle.pushes.specs.Answers.{pushTold, pushAnswer}
 use Rattle.stack.proofs.Accepted.{at-in}
 use Rattle.pushes.proofs.pushed_back.Statement.{statement}
 use Rattle.pushes.proofs.pushed_back.Tie as tie
 
-module _ (w : List ℕ) (k : ℕ) (r : ℕ) (v : Place) (h : v ≡ pushedBack w k r) where
-  is : (p : ℕ) → v ≡ At p → Is p ≡ pushTold (pushedBack w k r)
-  is p t = rw (← h, t)
+module _ (w : List ℕ) (k : ℕ) (r : ℕ) (v : Place) (h : v ≡ pushedBack w k r) (a : Answer) where
+  is : (p : ℕ) → v ≡ At p → a ≡ answerOf 1 p 0 0 → a ≡ pushTold (pushedBack w k r)
+  is p t z = rw (← h, t) z
 
-  nothing : v ≡ Nowhere → Nothing ≡ pushTold (pushedBack w k r)
-  nothing t = rw (← h, t)
+  nothing : v ≡ Nowhere → a ≡ answerOf 0 0 0 0 → a ≡ pushTold (pushedBack w k r)
+  nothing t z = rw (← h, t) z
 
 check-requires : tie.Need-check-requires
 check-requires c κs = search needs
@@ -30,6 +31,9 @@ inside-requires c κs = search needs
 enum-known-q : tie.Need-enum-known-q
 enum-known-q c = search needs
 
+refused-requires : tie.Need-refused-requires
+refused-requires c κs = search needs
+
 enum-told : tie.Need-enum-told
 enum-told c = search needs
 
@@ -39,8 +43,14 @@ pushed-back-of-requires c κs = search (passing, at-in)
 enum-known-p : tie.Need-enum-known-p
 enum-known-p c = search needs
 
+tell-requires : tie.Need-tell-requires
+tell-requires c κs = search needs
+
 enum-told-2 : tie.Need-enum-told-2
 enum-told-2 c = search needs
+
+tell-requires-2 : tie.Need-tell-requires-2
+tell-requires-2 c κs = search needs
 
 returns : tie.Need-returns
 unfolding pushAnswer
@@ -61,10 +71,13 @@ pushed-back-spec =
     check-requires
     inside-requires
     enum-known-q
+    refused-requires
     enum-told
     pushed-back-of-requires
     enum-known-p
+    tell-requires
     enum-told-2
+    tell-requires-2
     returns
     returns-2
     returns-3)

@@ -21,11 +21,17 @@ room-requires c κs = search needs
 enum-known-r : tie.Need-enum-known-r
 enum-known-r c = search needs
 
+refused-requires : tie.Need-refused-requires
+refused-requires c κs = search needs
+
 enum-told : tie.Need-enum-told
 enum-told c = search needs
 
 fill-targets-requires : tie.Need-fill-targets-requires
 fill-targets-requires c κs = search (passing, rooms)
+
+tell-requires : tie.Need-tell-requires
+tell-requires c κs = search needs
 
 returns : tie.Need-returns
 returns c = search (filling, onward)
@@ -45,8 +51,10 @@ targets-spec =
     add-room
     room-requires
     enum-known-r
+    refused-requires
     enum-told
     fill-targets-requires
+    tell-requires
     returns
     same-length
     returns-2)

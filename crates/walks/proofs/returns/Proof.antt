@@ -16,11 +16,20 @@ inside-requires c κs = search needs
 enum-known-r : tie.Need-enum-known-r
 enum-known-r c = search needs
 
+refused-requires : tie.Need-refused-requires
+refused-requires c κs = search needs
+
 enum-told : tie.Need-enum-told
 enum-told c = search needs
 
 returns-at-requires : tie.Need-returns-at-requires
 returns-at-requires c κs = search (passing, near)
+
+cast-tell : tie.Need-cast-tell
+cast-tell c = search needs
+
+tell-requires : tie.Need-tell-requires
+tell-requires c κs = search needs
 
 returns : tie.Need-returns
 unfolding returnsAnswer
@@ -37,7 +46,9 @@ returns-spec =
     check-requires
     inside-requires
     enum-known-r
-    enum-told
+    refused-requires enum-told
     returns-at-requires
+    cast-tell
+    tell-requires
     returns
     returns-2)

@@ -21,11 +21,11 @@ turn-requires c κs = search needs
 returns : tie.Need-returns
 returns c = search (needs, by-turn)
 
-step-in-requires : tie.Need-step-in-requires
-step-in-requires c κs = search needs
+step-of-requires : tie.Need-step-of-requires
+step-of-requires c κs = search needs
 
 returns-2 : tie.Need-returns-2
 returns-2 c = search needs
 
 pub step-by-spec : {M : Type 1} → statement M
-step-by-spec = tie.close (tie.spec turn-requires returns step-in-requires returns-2)
+step-by-spec = tie.close (tie.spec turn-requires returns step-of-requires returns-2)

@@ -222,7 +222,7 @@ pub fn live_word(code: &[u16], regs: usize, rows: &mut [u64]) -> Counts
                 k -= 1;
                 continue;
             }
-            let step = steps::step_by(code, n, k - 1, i, m);
+            let step = steps::step_with(code, n, k - 1, i, m);
             if steps::goes_before(step, start) {
                 clear(rows);
                 start = 0;

@@ -280,14 +280,6 @@ pub fn step_of(code: &[u16], n: usize, k: usize) -> Step
     }
 }
 
-// The same for one who has the table of roles at hand.
-pub fn step_in(roles: &[u8; 1280], code: &[u16], n: usize, k: usize) -> Step
-    requires { ⌜ (now roles ≡ roleTable) × Whole (now code) × (n ≡ count (now code)) × (k < n) ⌝ }
-    ensures { λ s. ⌜ StepAt (now (code .entry)) k s ⌝ }
-{
-    step_of(code, n, k)
-}
-
 // The step of an instruction that only reads and writes the registers that m tells.
 pub fn calm(i: Ins, m: u8) -> Step
     ensures { λ s. ⌜ s ≡ calmStep i m ⌝ }
@@ -323,7 +315,7 @@ fn turn(i: Ins, m: u8, n: usize) -> Step
 }
 
 // The step at k, where i stands, of which m tells what its opcode does.
-pub fn step_by(code: &[u16], n: usize, k: usize, i: Ins, m: u8) -> Step
+pub fn step_with(code: &[u16], n: usize, k: usize, i: Ins, m: u8) -> Step
     requires { ⌜ Whole (now code) × (n ≡ count (now code)) × (k < n) × (i ≡ insAt (now code) k) × (m ≡ calmOf (i .op)) ⌝ }
     ensures { λ s. ⌜ StepAt (now (code .entry)) k s ⌝ }
 {
@@ -338,4 +330,19 @@ pub fn goes_before(s: Step, p: usize) -> bool
     ensures { λ r. ⌜ r ≡ goesBefore s p ⌝ }
 {
     s.to & (s.target < p)
+}
+
+// The two for one who has the table of roles at hand.
+pub fn step_in(roles: &[u8; 1280], code: &[u16], n: usize, k: usize) -> Step
+    requires { ⌜ (now roles ≡ roleTable) × Whole (now code) × (n ≡ count (now code)) × (k < n) ⌝ }
+    ensures { λ s. ⌜ StepAt (now (code .entry)) k s ⌝ }
+{
+    step_of(code, n, k)
+}
+
+pub fn step_by(roles: &[u8; 1280], code: &[u16], n: usize, k: usize, i: Ins, m: u8) -> Step
+    requires { ⌜ (now roles ≡ roleTable) × Whole (now code) × (n ≡ count (now code)) × (k < n) × (i ≡ insAt (now code) k) × (m ≡ calmOf (i .op)) ⌝ }
+    ensures { λ s. ⌜ StepAt (now (code .entry)) k s ⌝ }
+{
+    step_with(code, n, k, i, m)
 }

@@ -6,7 +6,6 @@ ghost use lib.ListN.{length, replicate, take, drop};
 ghost use lib.Bits.{bitOr};
 ghost use Rattle.code.specs.Ins.{count};
 ghost use Rattle.code.specs.Check.{Valid};
-ghost use Rattle.roles.specs.Roles.{roleTable};
 ghost use Rattle.roles.specs.Sets.{only, from};
 ghost use Rattle.flow.specs.Set.{minus};
 ghost use Rattle.flow.specs.Flow.{joined, rowAt};
@@ -202,8 +201,8 @@ fn calm_of(o: u16) -> u8
 }
 
 // `live_rows`: the rows from the first level on, for 64 registers at most.
-pub fn live_word(roles: &[u8; 1280], code: &[u16], regs: usize, rows: &mut [u64]) -> Counts
-    requires { ⌜ (now roles ≡ roleTable) × Valid (now code) × (regs ≤ 64) × (length (now rows) ≡ suc (count (now code))) ⌝ }
+pub fn live_word(code: &[u16], regs: usize, rows: &mut [u64]) -> Counts
+    requires { ⌜ Valid (now code) × (regs ≤ 64) × (length (now rows) ≡ suc (count (now code))) ⌝ }
     ensures { λ r. ⌜ Found (flow regs (now (code .entry))) (firstLevel (now (code .entry))) (now (rows .exit)) (r .full) (r .abandoned) ⌝ }
 {
     let n = code.len() / 6;
@@ -223,7 +222,7 @@ pub fn live_word(roles: &[u8; 1280], code: &[u16], regs: usize, rows: &mut [u64]
                 k -= 1;
                 continue;
             }
-            let step = steps::step_by(roles, code, n, k - 1, i, m);
+            let step = steps::step_with(code, n, k - 1, i, m);
             if steps::goes_before(step, start) {
                 clear(rows);
                 start = 0;
@@ -376,14 +375,8 @@ fn put_wide(s: Step, regs: usize, rows: &mut [u64], n: usize, words: usize, k: u
 }
 
 // `live_across`: the rows from 0 on, in as many words each as the registers need.
-pub fn live_wide(
-    roles: &[u8; 1280],
-    code: &[u16],
-    regs: usize,
-    rows: &mut [u64],
-    words: usize,
-) -> Counts
-    requires { ⌜ (now roles ≡ roleTable) × Valid (now code) × (regs ≤ words * 64) × (words ≤ 16) × (length (now rows) ≡ suc (count (now code)) * words) ⌝ }
+pub fn live_wide(code: &[u16], regs: usize, rows: &mut [u64], words: usize) -> Counts
+    requires { ⌜ Valid (now code) × (regs ≤ words * 64) × (words ≤ 16) × (length (now rows) ≡ suc (count (now code)) * words) ⌝ }
     ensures { λ r. ⌜ Found (flow regs (now (code .entry))) 0 (rowsOf 64 words (suc (count (now (code .entry)))) (now (rows .exit))) (r .full) (r .abandoned) ⌝ }
 {
     let n = code.len() / 6;
@@ -394,7 +387,7 @@ pub fn live_wide(
         let mut back = false;
         let mut k = n;
         while 0 < k {
-            let s = steps::step_in(roles, code, n, k - 1);
+            let s = steps::step_of(code, n, k - 1);
             changed = put_wide(s, regs, rows, n, words, k - 1) | changed;
             back = steps::goes_before(s, k) | back;
             k -= 1;
@@ -420,9 +413,8 @@ pub fn find_rows(code: &[u16], regs: usize, wide: bool, rows: &mut [u64]) -> Cou
     requires { ⌜ Valid (now code) × (regs ≤ 1024) × (length (now rows) ≡ suc (count (now code)) * wordsFor 64 regs) ⌝ }
     ensures { λ r. ⌜ Rows 64 wide regs (now (code .entry)) (now (rows .exit)) (r .full) (r .abandoned) ⌝ }
 {
-    let roles = roles::table();
     if wide | (64 < regs) {
-        return live_wide(&roles, code, regs, rows, words_for(regs));
+        return live_wide(code, regs, rows, words_for(regs));
     }
-    live_word(&roles, code, regs, rows)
+    live_word(code, regs, rows)
 }

@@ -1,4 +1,5 @@
 pub mod Touched
 pub mod Follows
 pub mod Told
+pub mod Worded
 pub mod Resume

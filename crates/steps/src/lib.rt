@@ -1,6 +1,6 @@
 // What a sweep sees of lent code: levels, the registers that a position uses and gives up, and what comes after it (block.rs: `level_at`, `live_rows`).
 ghost use mathlib.Core.Path.{_≡_};
-ghost use Prim.Native.Nat.{_+_, _-_, _*_, _/_, _%_, _<_, _≤_};
+ghost use Prim.Native.Nat.{_+_, _-_, _*_, _/_, _%_, _<_, _≤_, min};
 ghost use lib.ListN.{length};
 ghost use Rattle.code.specs.Ins.{insAt, count};
 ghost use Rattle.code.specs.Check.{Whole, Valid};
@@ -11,6 +11,7 @@ ghost use Rattle.steps.specs.Code.{storeOf, overPending, pastStore, idle
 ghost use Rattle.steps.specs.Resume.{Goes};
 ghost use Rattle.steps.specs.Step.{TouchesAt, goesBefore, StepAt};
 ghost use Rattle.steps.specs.Calm.{calmOf, calmStep, turnStep};
+ghost use Rattle.steps.specs.Word.{wordOf};
 use code::Ins;
 use code::op::*;
 use touch::Touch;
@@ -178,13 +179,92 @@ fn touch_at(code: &[u16], k: usize, i: Ins, kind: u8) -> Touch
     touch::touch_of(i, kind)
 }
 
-// The step at k, in code of n instructions, by the table of roles.
-pub fn step_in(roles: &[u8; 1280], code: &[u16], n: usize, k: usize) -> Step
-    requires { ⌜ (now roles ≡ roleTable) × Whole (now code) × (n ≡ count (now code)) × (k < n) ⌝ }
+// The row of an opcode in the table of roles as one word, a byte for each column: a `match` that the compiler lays down as it is, where a table is made anew.
+fn word_of(o: u16) -> u64
+    ensures { λ r. ⌜ r ≡ wordOf o ⌝ }
+{
+    match o {
+        Jump | ForIter | JumpIfFalse | JumpIfFalseOrPop | JumpIfTrueOrPop => 0x1010101010,
+        JumpIfFalseR => 0x1414141414,
+        JumpUnlessLt
+        | JumpUnlessLtEq
+        | JumpUnlessGt
+        | JumpUnlessGtEq
+        | JumpUnlessEq
+        | JumpUnlessNotEq => 0x1c1c1c1c1c,
+        ReturnR | StoreGlobalR | StoreGlobalAtR => 0x0404040404,
+        PopTop | CallValueR => 0,
+        PushRegs => 0x0e0e060200,
+        StoreTopR => 0x2020202001,
+        LoadGlobalR | LoadGlobalAtR | UnbindR | UnpackR => 0x0101010101,
+        WrapCellR => 0x0303030303,
+        Move | MinusR | NotR | LenR | GetAttrR | LoadCellR => 0x0505050505,
+        AddR
+        | InPlaceAddR
+        | SubR
+        | InPlaceSubR
+        | MulR
+        | DivR
+        | ModR
+        | FloorDivR
+        | BitAndR
+        | BitOrR
+        | BitXorR
+        | ShlR
+        | ShrR
+        | LtR
+        | LtEqR
+        | GtR
+        | GtEqR
+        | EqR
+        | NotEqR
+        | IsR
+        | IsNotR
+        | PowR
+        | InR
+        | NotInR
+        | GetItemR
+        | SuperR => 0x0d0d0d0d0d,
+        StoreCellR | SetAttrR | CallSpreadR | ListPushR => 0x0606060606,
+        StoreItemR | ArgsR => 0x0e0e0e0e0e,
+        CallGlobalR => 0x0c0c0c0400,
+        CallR => 0x0e0e0e0602,
+        CallMethodR => 0x0c0c0c0c04,
+        Raise => 0x2020202000,
+        AppendR => 0x0707070707,
+        OwnResetR => 0x0202020202,
+        ListAppendR | SetAddR | MapAddR => 0x0c0c0c0c0c,
+        ForIterR => 0x2020202014,
+        Del => 0x0000000001,
+        _ => 0x2020202020,
+    }
+}
+
+// The bits before the byte of an x: 4 and more have one byte.
+fn bits_before(x: u16) -> u64
+    ensures { λ r. ⌜ r ≡ 8 * min x 4 ⌝ }
+{
+    if x < 4 { 8 * (x as u64) } else { 32 }
+}
+
+// `kinds` of an instruction, by the word of its opcode; beside it Raise, which has no role where its a is not 0.
+fn kinds_by(i: Ins) -> u8
+    ensures { λ r. ⌜ r ≡ kindsOf i ⌝ }
+{
+    let k = (word_of(i.op) >> bits_before(i.x)) % 256;
+    if (i.op == Raise) & (i.a != 0) {
+        return roles::NONE;
+    }
+    k as u8
+}
+
+// The step at k, in code of n instructions.
+pub fn step_of(code: &[u16], n: usize, k: usize) -> Step
+    requires { ⌜ Whole (now code) × (n ≡ count (now code)) × (k < n) ⌝ }
     ensures { λ s. ⌜ StepAt (now (code .entry)) k s ⌝ }
 {
     let i = code::ins_in(code, k);
-    let kind = roles::kinds_in(roles, i);
+    let kind = kinds_by(i);
     let t = touch_at(code, k, i, kind);
     let o = i.op;
     Step {
@@ -235,14 +315,14 @@ fn turn(i: Ins, m: u8, n: usize) -> Step
 }
 
 // The step at k, where i stands, of which m tells what its opcode does.
-pub fn step_by(roles: &[u8; 1280], code: &[u16], n: usize, k: usize, i: Ins, m: u8) -> Step
-    requires { ⌜ (now roles ≡ roleTable) × Whole (now code) × (n ≡ count (now code)) × (k < n) × (i ≡ insAt (now code) k) × (m ≡ calmOf (i .op)) ⌝ }
+pub fn step_with(code: &[u16], n: usize, k: usize, i: Ins, m: u8) -> Step
+    requires { ⌜ Whole (now code) × (n ≡ count (now code)) × (k < n) × (i ≡ insAt (now code) k) × (m ≡ calmOf (i .op)) ⌝ }
     ensures { λ s. ⌜ StepAt (now (code .entry)) k s ⌝ }
 {
     if m < 64 {
         return turn(i, m, n);
     }
-    step_in(roles, code, n, k)
+    step_of(code, n, k)
 }
 
 // Whether a step jumps to before p.
@@ -250,4 +330,19 @@ pub fn goes_before(s: Step, p: usize) -> bool
     ensures { λ r. ⌜ r ≡ goesBefore s p ⌝ }
 {
     s.to & (s.target < p)
+}
+
+// The two for one who has the table of roles at hand.
+pub fn step_in(roles: &[u8; 1280], code: &[u16], n: usize, k: usize) -> Step
+    requires { ⌜ (now roles ≡ roleTable) × Whole (now code) × (n ≡ count (now code)) × (k < n) ⌝ }
+    ensures { λ s. ⌜ StepAt (now (code .entry)) k s ⌝ }
+{
+    step_of(code, n, k)
+}
+
+pub fn step_by(roles: &[u8; 1280], code: &[u16], n: usize, k: usize, i: Ins, m: u8) -> Step
+    requires { ⌜ (now roles ≡ roleTable) × Whole (now code) × (n ≡ count (now code)) × (k < n) × (i ≡ insAt (now code) k) × (m ≡ calmOf (i .op)) ⌝ }
+    ensures { λ s. ⌜ StepAt (now (code .entry)) k s ⌝ }
+{
+    step_with(code, n, k, i, m)
 }

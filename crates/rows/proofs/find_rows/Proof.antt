@@ -4,9 +4,6 @@ use Rattle.rows.proofs.Routes.{words-enough, words-few, words-long, wor
 use Rattle.rows.proofs.find_rows.Statement.{statement}
 use Rattle.rows.proofs.find_rows.Tie as tie
 
-table-requires : tie.Need-table-requires
-table-requires c κs = search needs
-
 words-for-requires : tie.Need-words-for-requires
 words-for-requires c κs = search needs
 
@@ -32,7 +29,6 @@ pub find-rows-spec : {M : Type 1} → statement M
 find-rows-spec =
     tie.close
     (tie.spec
-    table-requires
     words-for-requires
     live-wide-requires
     same-length

@@ -7,17 +7,17 @@ use Rattle.rows.proofs.live_word.Statement.{statement}
 use Rattle.rows.proofs.live_word.Tie as tie
 
 abbrev Inv-loop : tie.InvT-loop
-Inv-loop roles code regs rows₀ n start₀ full abandoned₀ changed₀ back₀ k₀ rows start abandoned changed back k =
+Inv-loop code regs rows₀ n start₀ full abandoned₀ changed₀ back₀ k₀ rows start abandoned changed back k =
     Turn code regs (firstLevel code) start full abandoned abandoned₀ rows₀ rows changed back k
 
 abbrev μ-loop : tie.MeasureT-loop
-μ-loop roles code regs rows₀ n start₀ full abandoned₀ changed₀ back₀ k₀ rows start abandoned changed back k = k - start
+μ-loop code regs rows₀ n start₀ full abandoned₀ changed₀ back₀ k₀ rows start abandoned changed back k = k - start
 
 abbrev Inv-again : tie.InvT-again
-Inv-again roles code regs rows₀ n start₀ full₀ abandoned₀ rows start full abandoned = Between code regs (firstLevel code) start full abandoned rows
+Inv-again code regs rows₀ n start₀ full₀ abandoned₀ rows start full abandoned = Between code regs (firstLevel code) start full abandoned rows
 
 abbrev μ-again : tie.MeasureT-again
-μ-again roles code regs rows₀ n start₀ full₀ abandoned₀ rows start full abandoned = toGo code regs (firstLevel code) full abandoned
+μ-again code regs rows₀ n start₀ full₀ abandoned₀ rows start full abandoned = toGo code regs (firstLevel code) full abandoned
 
 first-level-requires : tie.Need-first-level-requires Inv-loop μ-loop Inv-again μ-again
 first-level-requires c κs = search needs
@@ -55,11 +55,11 @@ loop-less c = search needs
 loop-again : tie.Need-loop-again Inv-loop μ-loop Inv-again μ-again
 loop-again c = search calm-turn
 
-sub-step-by : tie.Need-sub-step-by Inv-loop μ-loop Inv-again μ-again
-sub-step-by c = search needs
+sub-step-with : tie.Need-sub-step-with Inv-loop μ-loop Inv-again μ-again
+sub-step-with c = search needs
 
-step-by-requires : tie.Need-step-by-requires Inv-loop μ-loop Inv-again μ-again
-step-by-requires c κs = search needs
+step-with-requires : tie.Need-step-with-requires Inv-loop μ-loop Inv-again μ-again
+step-with-requires c κs = search needs
 
 goes-before-requires : tie.Need-goes-before-requires Inv-loop μ-loop Inv-again μ-again
 goes-before-requires c κs = search needs
@@ -93,7 +93,7 @@ loop-less-2 c = search needs
 
 loop-again-2 : tie.Need-loop-again-2 Inv-loop μ-loop Inv-again μ-again
 loop-again-2 c =
-    word-step (c .before .before .before .before .before .before .before .before .before .before .before .before .loop .inv) (c .before .before .before .before .before .before .before .step-by .ensures) (c .before .before .before .before .before .before .before .before .before .before .before .loop-test .taken) (c .before .before .before .before .before .before .goes-before .ensures) (c .before .before .before .before .before .if2 .left) (c .before .before .before .put-word .ensures) (c .goes-before2 .ensures)
+    word-step (c .before .before .before .before .before .before .before .before .before .before .before .before .loop .inv) (c .before .before .before .before .before .before .before .step-with .ensures) (c .before .before .before .before .before .before .before .before .before .before .before .loop-test .taken) (c .before .before .before .before .before .before .goes-before .ensures) (c .before .before .before .before .before .if2 .left) (c .before .before .before .put-word .ensures) (c .goes-before2 .ensures)
 
 add-full : tie.Need-add-full Inv-loop μ-loop Inv-again μ-again
 add-full c = record { fits = whole-few (c .before .loop .inv) (c .loop-test .left) }
@@ -130,8 +130,8 @@ live-word-spec =
     sub-k
     loop-less
     loop-again
-    sub-step-by
-    step-by-requires
+    sub-step-with
+    step-with-requires
     goes-before-requires
     clear-requires-2
     add-abandoned

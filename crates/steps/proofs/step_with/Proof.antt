@@ -1,4 +1,4 @@
--- `steps::step_by` meets its contract: m tells all, or the step is found in full. Assumes nothing.
+-- `steps::step_with` meets its contract: m tells all, or the step is found in full. Assumes nothing.
 use borrow.Author.Needs.{needs}
 use mathlib.Core.Path.{_≡_}
 use mathlib.Core.List.{List}
@@ -9,8 +9,8 @@ use Rattle.steps.specs.Step.{StepAt}
 use Rattle.steps.specs.Calm.{calmOf, turnStep}
 use Rattle.steps.specs.declared.Step.{Step}
 use Rattle.steps.proofs.Told.{turn-is}
-use Rattle.steps.proofs.step_by.Statement.{statement}
-use Rattle.steps.proofs.step_by.Tie as tie
+use Rattle.steps.proofs.step_with.Statement.{statement}
+use Rattle.steps.proofs.step_with.Tie as tie
 
 by-turn : (w : List ℕ) (k m n : ℕ) (i : Ins) (s : Step) → s ≡ turnStep i m n → i ≡ insAt w k → m ≡ calmOf (i .op) → n ≡ count w → m < 64 → StepAt w k s
 by-turn w k m n i s q place e en l = rw q (turn-is w k m i place e n en l)
@@ -21,11 +21,11 @@ turn-requires c κs = search needs
 returns : tie.Need-returns
 returns c = search (needs, by-turn)
 
-step-in-requires : tie.Need-step-in-requires
-step-in-requires c κs = search needs
+step-of-requires : tie.Need-step-of-requires
+step-of-requires c κs = search needs
 
 returns-2 : tie.Need-returns-2
 returns-2 c = search needs
 
-pub step-by-spec : {M : Type 1} → statement M
-step-by-spec = tie.close (tie.spec turn-requires returns step-in-requires returns-2)
+pub step-with-spec : {M : Type 1} → statement M
+step-with-spec = tie.close (tie.spec turn-requires returns step-of-requires returns-2)

@@ -1,6 +1,6 @@
 //! What the listing of a body shows, found by the archive's calls.
 
-use crate::{and, callee::Callees, count, found::{self, Found}, handlers::{self, Lost}, notation::{Body, ins_text}, own::Own};
+use crate::{and, callee::Callees, count, exposed::{self, Exposed}, found::{self, Found}, notation::{Body, ins_text}, own::Own};
 use model::rows;
 use turniploom::{DUNDER, Ins, Op, Refusal, op};
 
@@ -15,8 +15,10 @@ pub struct View {
     /// From here on rows were looked for.
     pub start: usize,
     pub remarks: Vec<String>,
-    /// What handlers need and levels do not keep.
-    pub lost: Vec<Lost>,
+    /// What is exposed, with the ways by which it goes wrong.
+    pub exposed: Vec<Exposed>,
+    /// Whether that was not asked for, since too much is inside tries.
+    pub unasked: bool,
     /// The registers that no step of a replayed trace read; none if there is no trace.
     pub unread: Vec<u16>,
 }
@@ -46,6 +48,8 @@ pub struct Level {
     pub unstored: bool,
     /// What is kept for the resume point, and what each handler adds.
     pub kept: Vec<Part>,
+    /// What is not kept, though a later exception may need it.
+    pub exposed: Vec<u16>,
 }
 
 pub struct Part {
@@ -62,28 +66,26 @@ impl View {
         let (code, n) = (&body.code, body.code.len());
         let tries = found::tries(body)?;
         let own: Vec<Own> = code.iter().map(Own::of).collect();
-        let (mut callees, around) = (Callees::of(code), handlers::around(n, &tries));
+        let (mut callees, mut exposed) = (Callees::of(code), found.exposed.iter().flatten().peekable());
         let mut lines: Vec<Line> = (0..n).map(|k| {
             let (used, given_up) = sets(code, k, &own[k], body.registers);
             let level = found.levels[k].map(|(resume, result)| Level {
-                resume, result, callee: callees.at(k), unstored: unstored(code, k, resume), kept: parts(&found, k, resume, result, &open(&tries, &around, k)),
+                resume, result, callee: callees.at(k), unstored: unstored(code, k, resume), kept: parts(&found, k, resume, result, &open(&tries, k)),
+                exposed: exposed.next_if(|e| e.0 == k).map_or(vec![], |e| e.1.clone()),
             });
             let comment = body.comments.get(k).cloned().unwrap_or_default();
             Line { text: ins_text(code, k), used, given_up, after: after(code, k, &own[k]), row: found.row(k).to_vec(), level, notes: vec![], comment }
         }).collect();
         lines.push(Line { text: "end".into(), row: found.row(n).to_vec(), ..Line::default() });
         note(code, &own, &tries, &mut lines);
-        let lost = handlers::lost(&lines, &tries, around, body.registers);
-        for l in lost.iter().flatten() { for &k in &l.levels { lines[k].notes.push(format!("WARNING: r{} is not kept for the handler at {}", l.register,
-            l.handler)) } }
+        let exposed = exposed::of(&lines, code, &tries);
         let columns = columns(&lines, body.registers);
         let width = if body.rows32 { ", rows of 32 bits" } else { "" };
         let heading = format!("{}, {}, {}{width}", count(n, "instruction"), count(body.registers, "register"), count(tries.len(), "try"));
         let start = found.start(body);
         let mut remarks = remarks(body, &lines, &found, &own);
         if callees.unasked > 0 { remarks.push(format!("{} not asked for: the way back to what they call is too long.", count(callees.unasked, "callee"))) }
-        if lost.is_none() { remarks.push("Too much is inside tries to tell here what handlers lose.".into()) }
-        Ok(View { heading, columns, lines, tries, start, remarks, lost: lost.unwrap_or_default(), unread: vec![] })
+        Ok(View { heading, columns, lines, tries, start, remarks, exposed, unasked: found.exposed.is_none(), unread: vec![] })
     }
 
     /// Lays a recorded day beside the rows: how often each position was visited, and how often each register was read.
@@ -105,9 +107,20 @@ impl View {
         Ok(())
     }
 
+    /// What is said of a register that is exposed at a level.
+    pub fn exposed_at(&self, k: usize, r: u16) -> Option<&Exposed> {
+        self.exposed.iter().find(|e| e.register == r && e.levels.binary_search(&k).is_ok())
+    }
+
     /// The warnings, a sentence each.
-    pub fn warnings(&self) -> Vec<String> { self.lost.iter().map(|l| format!("WARNING: {}.", l.says())).collect() }
+    pub fn warnings(&self) -> Vec<String> {
+        let unasked = self.unasked.then(|| UNASKED.into());
+        self.exposed.iter().map(Exposed::says).chain(unasked).map(|says| format!("WARNING: {says}.")).collect()
+    }
 }
+
+/// What is said where it was not asked for.
+pub const UNASKED: &str = "too much is inside tries to ask here what is exposed";
 
 /// How often a position was visited.
 fn visited(times: u64) -> String {
@@ -134,12 +147,7 @@ fn sets(code: &[Ins], k: usize, own: &Own, registers: usize) -> (Vec<u16>, Vec<u
 fn unstored(code: &[Ins], k: usize, resume: usize) -> bool { code[k].op.is_call() && code.get(resume).is_none_or(|i| i.op != op::StoreTopR) }
 
 /// The handlers of the tries around a position, in order.
-fn open(tries: &[(usize, usize)], around: &Option<Vec<Vec<usize>>>, k: usize) -> Vec<usize> {
-    match around {
-        Some(around) => around[k].iter().map(|&t| tries[t].1).collect(),
-        None => tries.iter().filter(|&&(s, h)| s < k && k < h).map(|t| t.1).collect(),
-    }
-}
+fn open(tries: &[(usize, usize)], k: usize) -> Vec<usize> { tries.iter().filter(|&&(s, h)| s < k && k < h).map(|t| t.1).collect() }
 
 /// The kept list of the archive, taken apart by what each register is kept for.
 fn parts(found: &Found, k: usize, resume: usize, result: Option<u16>, handlers: &[usize]) -> Vec<Part> {
@@ -172,7 +180,7 @@ fn after(code: &[Ins], k: usize, own: &Own) -> Vec<usize> {
 }
 
 /// The first of many positions, and how many more there are.
-fn few(positions: &[usize]) -> String {
+pub fn few(positions: &[usize]) -> String {
     if positions.len() <= 9 { return and(positions) }
     format!("{} and {} more", positions[..8].iter().map(usize::to_string).collect::<Vec<_>>().join(", "), positions.len() - 8)
 }
@@ -216,14 +224,16 @@ fn remarks(body: &Body, lines: &[Line], found: &Found, own: &[Own]) -> Vec<Strin
         _ => format!(" Rows are looked for from {start} on, the first level; before it they are left blank."),
     };
     let mut remarks = vec![format!("{} of at most {}, {} abandoned.{from}", count(found.full as usize, "full sweep"), found.most, found.abandoned)];
+    if found.exposes() { remarks.insert(0, "A host whose calls may raise asks `kept_raising` in place of `kept`: it keeps what is exposed too.".into()) }
     let untrue = untrue(lines, start);
     if !untrue.is_empty() { remarks.push(format!("ROWS THAT BREAK THEIR EQUATION: {}", few(&untrue))) }
     let outside = outside(body, own);
     if !outside.is_empty() { remarks.push(format!("Not below the register count, so never kept: {}.", registers(&outside))) }
     remarks.extend(dunders(&body.code, found));
     remarks.extend(section(&body.code));
-    remarks.push("By the archive: rows, lists, levels, callees, jumps, uses and gives up.".into());
-    remarks.push("By the listing's own reckoning: what is pending under a call, and so touches no register; paths; warnings.".into());
+    let exposed = if found.exposes() { "what is exposed, " } else { "" };
+    remarks.push(format!("By the archive: rows, lists, {exposed}levels, callees, jumps, uses and gives up."));
+    remarks.push("By the listing's own reckoning: what is pending under a call, and so touches no register; paths.".into());
     remarks
 }
 
@@ -299,6 +309,15 @@ impl Level {
         }).collect();
         if told.is_empty() { "nothing".into() } else { told.join("; ") }
     }
+
+    /// What is exposed, in words; nothing if nothing is.
+    pub fn exposes(&self) -> Option<String> {
+        let are = if self.exposed.len() == 1 { "is" } else { "are" };
+        (!self.exposed.is_empty()).then(|| format!("{} {are} exposed", registers(&self.exposed)))
+    }
+
+    /// What is kept and what is exposed, in words.
+    pub fn lists(&self) -> String { [Some(self.keeps()), self.exposes()].into_iter().flatten().collect::<Vec<_>>().join("; ") }
 
     /// All that is kept, in the list's order.
     pub fn registers(&self) -> Vec<u16> { self.kept.iter().flat_map(|p| p.registers.iter().copied()).collect() }

@@ -171,7 +171,7 @@ impl Of {
     /// How many warnings it has.
     pub fn warnings(&self) -> usize {
         match self {
-            Of::Body(of) => of.1.lost.len(),
+            Of::Body(of) => of.1.warnings().len(),
             Of::Chunk(_) => 0,
         }
     }

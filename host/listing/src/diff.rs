@@ -1,7 +1,7 @@
-//! What differs between two bodies, or two chunks: instructions that came and went, and rows and lists that changed.
+//! What differs between two bodies, or two chunks: instructions that came and went, rows and lists that changed, and what is exposed now.
 
-use crate::{body::{Line, View, registers}, chunk, count};
-use std::fmt::Write;
+use crate::{body::{Line, UNASKED, View, registers}, chunk, count, exposed::Exposed};
+use std::{collections::BTreeSet, fmt::Write};
 
 /// The most pairs of lines that are looked at for the longest common part.
 const MOST: usize = 16_000_000;
@@ -69,6 +69,8 @@ fn walk(old: &[String], new: &[String], same: &mut dyn FnMut(usize, usize) -> Op
 pub fn bodies(old: &View, new: &View) -> String {
     let keys = |v: &View| v.lines.iter().map(key).collect::<Vec<_>>();
     let kept = |l: &Line| l.level.as_ref().map(|v| v.registers());
+    let exposed = |l: &Line| l.level.as_ref().map_or(vec![], |v| v.exposed.clone());
+    let mut were = BTreeSet::new();
     let mut same = |a: usize, b: usize| {
         let (l, m) = (&old.lines[a], &new.lines[b]);
         let row = if a < old.start || b < new.start { None } else { changed(&l.row, &m.row) };
@@ -78,18 +80,32 @@ pub fn bodies(old: &View, new: &View) -> String {
             (None, Some(m)) => Some(format!("now a level, keeps {}", if m.is_empty() { "nothing".into() } else { registers(&m) })),
             (None, None) => None,
         };
-        if row.is_none() && keeps.is_none() { return None }
+        were.extend(exposed(l).into_iter().map(|r| (b, r)));
+        let exposed = changed(&exposed(l), &exposed(m));
+        if row.is_none() && keeps.is_none() && exposed.is_none() { return None }
         let place = if a == b { a.to_string() } else { format!("{a}, now {b}") };
         let mut told = format!("  {place} {}\n", m.text);
         if let Some(row) = row { told += &format!("      row    {row}\n") }
         if let Some(keeps) = keeps { told += &format!("      keeps  {keeps}\n") }
+        if let Some(exposed) = exposed { told += &format!("      exposed  {exposed}\n") }
         Some(told)
     };
     let text = |is_new: bool, k: usize| format!("{k} {}", if is_new { &new.lines[k].text } else { &old.lines[k].text });
     let (mut out, [gone, came, changed]) = walk(&keys(old), &keys(new), &mut same, &text);
     if old.heading != new.heading { out = format!("{}\n{}\n\n{out}", old.heading, new.heading) }
     let told = format!("{} gone, {} new, rows or lists changed at {}.\n", count(gone, "instruction"), count(came, "instruction"), count(changed, "other"));
-    if gone + came + changed == 0 { out + "Nothing differs: the same instructions, rows and lists.\n" } else { out + "\n" + &told }
+    let told = if gone + came + changed == 0 { "Nothing differs: the same instructions, rows and lists.\n".into() } else { format!("\n{told}") };
+    out + &told + &now(new, &were)
+}
+
+/// The warnings of what is exposed and was not.
+fn now(new: &View, were: &BTreeSet<(usize, u16)>) -> String {
+    let came = |e: &Exposed| {
+        let levels: Vec<usize> = e.levels.iter().copied().filter(|&k| !were.contains(&(k, e.register))).collect();
+        (!levels.is_empty()).then(|| format!("WARNING: {}.\n", Exposed { levels, ..e.clone() }.says()))
+    };
+    let unasked = if new.unasked { format!("WARNING: {UNASKED}.\n") } else { String::new() };
+    new.exposed.iter().filter_map(came).collect::<String>() + &unasked
 }
 
 /// What differs between two chunks as they ship. Where an instruction was does not count, since that moves.

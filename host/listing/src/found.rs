@@ -1,13 +1,18 @@
 //! What the kept-register call found, with rows of either width.
 
-use crate::notation::Body;
+use crate::{exposed, notation::Body};
 use turniploom::{Kept, Refusal, abi};
+
+/// Registers at levels.
+pub type AtLevels = Vec<(usize, Vec<u16>)>;
 
 /// Rows and lists, the levels and the sweeps.
 pub struct Found {
     /// The rows, the end's too, and what is kept at each position.
     pub rows: Vec<Vec<u16>>,
     pub kept: Vec<Vec<u16>>,
+    /// The levels with a register that is exposed, and those registers; none if it was not asked for.
+    pub exposed: Option<AtLevels>,
     /// Where each level resumes, and its result register.
     pub levels: Vec<Option<(usize, Option<u16>)>>,
     pub full: u64,
@@ -24,15 +29,15 @@ impl Found {
         let (words, registers, wide) = (body.words(), body.registers, body.wide);
         let tries = tries(body)?;
         let most = turniploom::most_sweeps(&words);
-        if body.rows32 { Ok(Found::read(turniploom::kept32(&words, registers, &tries, wide)?, most?)) }
-        else { Ok(Found::read(turniploom::kept(&words, registers, &tries, wide)?, most?)) }
+        if body.rows32 { Found::read(body, &tries, turniploom::kept32(&words, registers, &tries, wide)?, most?) }
+        else { Found::read(body, &tries, turniploom::kept(&words, registers, &tries, wide)?, most?) }
     }
 
-    fn read<W: Copy + Into<u64>>(kept: Kept<W>, most: u64) -> Found {
+    fn read<W: Copy + Into<u64>>(body: &Body, tries: &[(usize, usize)], kept: Kept<W>, most: u64) -> Result<Found, Refusal> {
         let n = kept.offsets.len() - 1;
         let levels = (0..n).map(|k| kept.level(k).map(|l| (l.resume(), l.result()))).collect();
         let (rows, lists) = ((0..=n).map(|k| set(kept.row(k))).collect(), (0..n).map(|k| kept.at(k).to_vec()).collect());
-        Found { rows, kept: lists, levels, full: kept.full, abandoned: kept.abandoned, most }
+        Ok(Found { rows, kept: lists, exposed: exposed(body, tries, &kept)?, levels, full: kept.full, abandoned: kept.abandoned, most })
     }
 
     /// The row of a position, and of any past the end.
@@ -44,8 +49,21 @@ impl Found {
         if wide || self.abandoned > 0 { 0 } else { self.first() }
     }
 
+    /// Whether anything is exposed.
+    pub fn exposes(&self) -> bool { self.exposed.as_ref().is_some_and(|e| !e.is_empty()) }
+
     /// The first level, or the end.
     pub fn first(&self) -> usize { self.levels.iter().position(Option::is_some).unwrap_or(self.levels.len()) }
+}
+
+/// Every position looks at every try in every sweep; past so many looks what is exposed is not asked for.
+const MOST: u64 = 500_000_000;
+
+/// What a later exception may need and the lists do not keep. In code that goes nowhere but where its rows lead nothing is, and a second call is not made.
+fn exposed<W: Copy + Into<u64>>(body: &Body, tries: &[(usize, usize)], kept: &Kept<W>) -> Result<Option<AtLevels>, Refusal> {
+    if !exposed::may_be(&body.code, tries) { return Ok(Some(vec![])) }
+    if (body.code.len() * tries.len()) as u64 * (kept.full + kept.abandoned) > MOST { return Ok(None) }
+    Ok(Some(turniploom::exposed(kept, &turniploom::kept_raising(&body.words(), body.registers, tries, true)?)))
 }
 
 /// The registers whose bits are set in a row's words.

@@ -40,11 +40,12 @@ pub fn files(listed: &[Listed]) -> String {
     format!("{{\"version\":{},\"archive_sha256\":{},\"kit\":{},\"files\":{}}}\n", quoted(VERSION), quoted(ARCHIVE_SHA256), quoted(KIT), list(files))
 }
 
-fn level(v: &body::Level) -> String {
+fn level(v: &body::Level, asked: bool) -> String {
     let handlers = v.kept.iter().filter_map(|p| Some(format!("{{\"handler\":{},\"keeps\":{}}}", p.handler?, numbers(&p.registers))));
     format!(
-        "{{\"resumes\":{},\"result\":{},\"calls\":{},\"store_missing\":{},\"keeps\":{},\"for_handlers\":{}}}",
-        v.resume, or_null(v.result.map(|r| r.to_string())), or_null(v.callee.as_ref().map(|c| quoted(c))), v.unstored, numbers(&v.registers()), list(handlers)
+        "{{\"resumes\":{},\"result\":{},\"calls\":{},\"store_missing\":{},\"keeps\":{},\"for_handlers\":{},\"exposed\":{}}}",
+        v.resume, or_null(v.result.map(|r| r.to_string())), or_null(v.callee.as_ref().map(|c| quoted(c))), v.unstored, numbers(&v.registers()), list(handlers),
+        or_null(asked.then(|| numbers(&v.exposed)))
     )
 }
 
@@ -53,17 +54,19 @@ fn body(view: &body::View) -> String {
         let row = if k < view.start { "null".into() } else { numbers(&l.row) };
         format!(
             "\n{{\"at\":{k},\"instruction\":{},\"uses\":{},\"gives_up\":{},\"row\":{row},\"level\":{},\"notes\":{},\"comment\":{}}}",
-            quoted(&l.text), numbers(&l.used), numbers(&l.given_up), or_null(l.level.as_ref().map(level)), texts(&l.notes), quoted(&l.comment)
+            quoted(&l.text), numbers(&l.used), numbers(&l.given_up), or_null(l.level.as_ref().map(|v| level(v, !view.unasked))), texts(&l.notes), quoted(&l.comment)
         )
     });
-    let lost = view.lost.iter().map(|l| {
-        format!("{{\"register\":{},\"try\":{},\"handler\":{},\"not_kept_at\":{},\"says\":{}}}", l.register, l.start, l.handler, numbers(&l.levels),
-            quoted(&l.says()))
+    let exposed = view.exposed.iter().map(|e| {
+        let leaves = e.leaves.iter().map(|l| format!("{{\"at\":{},\"{}\":{}}}", l.at, if l.raises { "handler" } else { "goes_on_at" }, l.to));
+        format!("{{\"register\":{},\"not_kept_at\":{},\"raises\":{},\"read_at\":{},\"says\":{}}}", e.register, numbers(&e.levels), list(leaves),
+            or_null(e.read.map(|k| k.to_string())), quoted(&e.says()))
     });
+    let unasked = view.unasked.then(|| format!("{{\"says\":{}}}", quoted(body::UNASKED)));
     let tries = view.tries.iter().map(|(s, h)| format!("[{s},{h}]"));
     format!(
         "\"kind\":\"body\",\"heading\":{},\"tries\":{},\"lines\":{},\"warnings\":{},\"remarks\":{}",
-        quoted(&view.heading), list(tries), list(lines), list(lost), texts(&view.remarks)
+        quoted(&view.heading), list(tries), list(lines), list(exposed.chain(unasked)), texts(&view.remarks)
     )
 }
 

@@ -116,10 +116,8 @@ fn note(view: &body::View, k: usize, chart: Chart) -> String {
     let l = &view.lines[k];
     let mut out = String::new();
     if let Some(v) = &l.level { write!(out, "<div>{}</div><div class=\"keeps\">keeps {}</div>", escaped(&v.says()), escaped(&v.keeps())).unwrap() }
-    let warned = |n: &String| n.starts_with("WARNING");
-    let plain: Vec<String> = l.notes.iter().filter(|n| !warned(n)).cloned().collect();
-    out += &escaped(&plain.join("; "));
-    for warning in l.notes.iter().filter(|n| warned(n)) { write!(out, "<div class=\"warning\">{}</div>", escaped(warning)).unwrap() }
+    if let Some(exposed) = l.level.as_ref().and_then(Level::exposes) { write!(out, "<div class=\"warning\">{exposed}</div>").unwrap() }
+    out += &escaped(&l.notes.join("; "));
     if !l.comment.is_empty() { write!(out, "<div class=\"comment\"># {}</div>", escaped(&l.comment)).unwrap() }
     if chart != Chart::Words && k >= view.start && !l.row.is_empty() {
         let (first, rest) = l.row.split_at(l.row.len().min(12));
@@ -141,7 +139,7 @@ fn marks(view: &body::View, k: usize) -> String {
     text::picture(view, k).chars().map(|row| match kept.next() { Some('·') | None => row, Some(mark) => mark }).collect()
 }
 
-/// The cell of a register at a position: in the row or not, used, given up, kept, each by a mark of its own.
+/// The cell of a register at a position: in the row or not, used, given up, kept, exposed, each by a mark of its own.
 fn cell(view: &body::View, k: usize, r: u16) -> String {
     let l = &view.lines[k];
     let (row, used, given) = (l.row.binary_search(&r).is_ok(), l.used.contains(&r), l.given_up.contains(&r));
@@ -160,6 +158,11 @@ fn cell(view: &body::View, k: usize, r: u16) -> String {
         marks += if handler.is_some() { "△" } else { "▲" };
         says.push(handler.map_or("kept".into(), |h| format!("kept for the handler at {h}")));
     }
+    if let Some(exposed) = l.level.as_ref().filter(|v| v.exposed.contains(&r)).and_then(|_| view.exposed_at(k, r)) {
+        class += " exposed";
+        marks += "▽";
+        says.push(format!("exposed: {}", escaped(&exposed.way())));
+    }
     let title = if says.is_empty() { String::new() } else { format!(" title=\"{} at {k}: {}\"", registers(&[r]), says.join(", ")) };
     format!("<td class=\"{class}\" aria-hidden=\"true\"{title}>{marks}</td>")
 }
@@ -168,6 +171,7 @@ fn legend(view: &body::View, chart: Chart) -> String {
     let mut told = vec![("●", "row", "needed before the instruction")];
     if chart == Chart::Cells { told.extend([("u", "", "used"), ("g", "", "given up")]) }
     told.extend([("▲", "kept", "kept for the resume point"), ("△", "kept handler", "kept for a handler")]);
+    if !view.exposed.is_empty() { told.push(("▽", "exposed", "exposed: not kept, though a later exception may need it")) }
     if !view.unread.is_empty() { told.push(("○", "row unread", "needed and never read on that day")) }
     if view.start > 0 { told.push(("", "unknown", "not looked for, before the first level")) }
     let told: String = told.iter().map(|(mark, class, says)| format!("<li><span class=\"cell {class}\" aria-hidden=\"true\">{mark}</span> \

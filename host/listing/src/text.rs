@@ -25,12 +25,12 @@ pub fn picture(view: &body::View, k: usize) -> String {
     view.columns.iter().map(mark).collect()
 }
 
-/// What a level keeps as a line of marks: `▲` for the resume point, `△` for a handler.
+/// What a level keeps as a line of marks: `▲` for the resume point, `△` for a handler; and `▽` for what is exposed.
 pub fn kept_picture(view: &body::View, level: &Level) -> String {
     let mut marks = vec!['·'; view.columns.len()];
-    for part in &level.kept {
-        for r in &part.registers { if let Ok(c) = view.columns.binary_search(r) { marks[c] = if part.handler.is_some() { '△' } else { '▲' } } }
-    }
+    let mut mark = |of: &[u16], mark: char| for r in of { if let Ok(c) = view.columns.binary_search(r) { marks[c] = mark } };
+    for part in &level.kept { mark(&part.registers, if part.handler.is_some() { '△' } else { '▲' }) }
+    mark(&level.exposed, '▽');
     marks.into_iter().collect()
 }
 
@@ -74,7 +74,7 @@ pub fn body(view: &body::View) -> String {
         line(&k.to_string(), &lanes.gutter(k, false), [&l.text, &told[k][0], &told[k][1]], &row, &commented(&notes.join("; "), &l.comment));
         let Some(v) = &l.level else { continue };
         let row = if drawn { kept_picture(view, v) } else { String::new() };
-        line("", &lanes.gutter(k, true), ["  keeps", "", ""], &row, &v.keeps());
+        line("", &lanes.gutter(k, true), ["  keeps", "", ""], &row, &v.lists());
     }
     out.push('\n');
     if drawn && !view.columns.is_empty() { writeln!(out, "{}", legend(view)).unwrap() }
@@ -87,7 +87,7 @@ pub fn levels(view: &body::View) -> String {
     let place = view.lines.len().to_string().len();
     let levels: Vec<(usize, &body::Line, &Level)> = view.lines.iter().enumerate().filter_map(|(k, l)| Some((k, l, l.level.as_ref()?))).collect();
     let width = widest(levels.iter().map(|(_, l, _)| l.text.as_str()));
-    let mut out: String = levels.iter().map(|(k, l, v)| format!("{k:>place$} {}  keeps {}\n", pad(&l.text, width), v.keeps())).collect();
+    let mut out: String = levels.iter().map(|(k, l, v)| format!("{k:>place$} {}  keeps {}\n", pad(&l.text, width), v.lists())).collect();
     if levels.is_empty() { out += "No level: no call has anything to keep.\n" }
     for warning in view.warnings() { writeln!(out, "{warning}").unwrap() }
     out
@@ -99,6 +99,7 @@ fn legend(view: &body::View) -> String {
     if !view.unread.is_empty() && view.lines.iter().any(|l| l.row.iter().any(|r| view.unread.contains(r))) { text += ", ○ needed and never read on that day" }
     if parts().any(|p| p.handler.is_none()) { text += ", ▲ kept for the resume point" }
     if parts().any(|p| p.handler.is_some() && !p.registers.is_empty()) { text += ", △ kept for a handler" }
+    if !view.exposed.is_empty() { text += ", ▽ exposed: not kept, though a later exception may need it" }
     text + "."
 }
 

@@ -195,8 +195,8 @@ fn json() {
     assert_eq!(output.status.code(), Some(2));
     for due in [
         "\"level\":{\"resumes\":9,\"result\":6,\"calls\":\"calls binding \
-            9\",\"store_missing\":false,\"keeps\":[1,3,5],\"for_handlers\":[{\"handler\":13,\"keeps\":[5]}]}",
-        "{\"register\":5,\"try\":5,\"handler\":9,\"not_kept_at\":[2],", "\"row\":null,", "\"row\":[0,3],", "\"comment\":\"r1: the part's own reading\"",
+            9\",\"store_missing\":false,\"keeps\":[1,3,5],\"for_handlers\":[{\"handler\":13,\"keeps\":[5]}],\"exposed\":[]}",
+        "{\"register\":5,\"not_kept_at\":[2],", "\"row\":null,", "\"row\":[0,3],", "\"comment\":\"r1: the part's own reading\"",
             "\"kind\":\"chunk\"", "\"ships\":\"chunk\\nstrict\\n",
         "\"file\":\"", "wrong \\\"q\\\".txt", "\"error\":", turniploom::ARCHIVE_SHA256,
     ] { assert!(text.contains(due), "{due}\n{text}") }
@@ -207,7 +207,7 @@ fn levels_alone() {
     let text = printed(&["--kept", &sample("jacket.txt")]);
     assert!(text.contains("\n\n 0 GetAttrR a1 b0 c1  keeps r0 r3\n 1 GetAttrR a2 b0 c2  keeps r0 r1 r3\n 2 GetAttrR a5 b0 c3  keeps r1-r3\n 8 CallR \
         a4 b3 x1     keeps r1 r3; r5 for the handler at 13\nturniploom "), "{text}");
-    assert!(printed(&["--kept", &sample("exposed.txt")]).contains("\nWARNING: the handler at 9 needs r5"));
+    assert!(printed(&["--kept", &sample("exposed.txt")]).contains("\nWARNING: level 2 does not keep r5"));
 }
 
 #[test]

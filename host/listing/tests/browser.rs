@@ -27,7 +27,11 @@ addEventListener('load', () => {
       && b.right <= innerWidth && b.width > 5 && !!at && (e.contains(at) || at.contains(e)) };
   const level = one('tr.level');
   if (level) say('position, instruction and list in sight', ['th', 'td.ins', '.keeps'].every((s) => seen(level.querySelector(s))));
-  say('cells say it by a mark too', all('td.cell.row, td.cell.kept').every((c) => c.textContent.trim()));
+  say('cells say it by a mark too', all('td.cell.row, td.cell.kept, td.cell.exposed').every((c) => c.textContent.trim()));
+  const borders = (s) => all(s).map((e) => getComputedStyle(e)).map((c) => c.outlineStyle + ' ' + c.outlineColor + ' ' + (c.boxShadow !== 'none'));
+  const own = borders('td.cell.exposed'), others = borders('td.cell:not(.exposed)');
+  say('what is exposed is seen, with a border of its own', own.length > 0 && own.every((b) => b.startsWith('dashed ') && !others.includes(b))
+      && all('.legend .cell.exposed').length === 1 && all('.warning').length >= 2 && all('.warning').every((e) => box(e).width > 50));
   say('head cells and captions', all('table').every((t) => t.caption && [...t.tHead.rows[0].cells].every((c) => c.scope === 'col'
       || c.getAttribute('aria-hidden')) && [...t.tBodies[0].rows].every((r) => r.querySelector('th[scope=row], td.ins'))));
   const chart = one('.chart'), before = box(chart), left = box(chart.querySelector('tbody th') || chart).left;
@@ -117,19 +121,28 @@ fn as_a_browser_shows_them() {
         assert!(told.contains("scrolled: 150 300\n"), "{told}");
     }
     holds(&told(chromium, &pages(&sample("ships.txt")).1, 390, true), &MUST);
+    let (exposed, asked) = pages(&sample("exposed.txt"));
+    for (width, dark) in [(1280, false), (390, false), (1280, true), (390, true)] {
+        let told = told(chromium, &asked, width, dark);
+        holds(&told, &MUST);
+        holds(&told, &["position, instruction and list in sight", "what is exposed is seen, with a border of its own"]);
+    }
+    assert!((1..=3).contains(&papers(chromium, &exposed)));
     printed(chromium, &jacket);
     if let Some(pictures) = env::var_os("TURNIPLOOM_PICTURES") { pictured(chromium, Path::new(&pictures)) }
 }
 
+/// How many papers a page takes.
+fn papers(chromium: &str, page: &Path) -> usize {
+    let paper = page.with_extension("pdf");
+    browse(chromium, page, 1280, false, &[format!("--print-to-pdf={}", paper.display()), "--no-pdf-header-footer".into()]);
+    let bytes = fs::read(paper).unwrap();
+    bytes.windows(11).filter(|w| w == b"/Type /Page").count() - bytes.windows(12).filter(|w| w == b"/Type /Pages").count()
+}
+
 /// On paper it is more than nothing, and all of a long body is there.
 fn printed(chromium: &str, page: &Path) {
-    let many = |page: &Path| {
-        let paper = page.with_extension("pdf");
-        browse(chromium, page, 1280, false, &[format!("--print-to-pdf={}", paper.display()), "--no-pdf-header-footer".into()]);
-        let bytes = fs::read(paper).unwrap();
-        bytes.windows(11).filter(|w| w == b"/Type /Page").count() - bytes.windows(12).filter(|w| w == b"/Type /Pages").count()
-    };
-    let (short, long) = (many(page), many(&folder().join("large.html")));
+    let (short, long) = (papers(chromium, page), papers(chromium, &folder().join("large.html")));
     assert!((1..=3).contains(&short) && long >= 5, "{short} {long}");
 }
 

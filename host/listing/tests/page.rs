@@ -23,7 +23,7 @@ fn contrast(a: [f64; 3], b: [f64; 3]) -> f64 {
 const PAIRS: [(&str, &[&str]); 7] = [
     ("ink", &["paper", "cell", "level", "g1", "g2", "g3", "g4", "g5"]), ("faint", &["paper", "level", "g1", "g2", "g3", "g4", "g5"]), ("on-row",
         &["row", "paper"]), ("keeps", &["level", "paper"]),
-    ("handler", &["paper", "level", "cell"]), ("warn", &["paper", "level"]), ("ink", &["level"]),
+    ("handler", &["paper", "level", "cell"]), ("warn", &["paper", "level", "cell", "row"]), ("ink", &["level"]),
 ];
 
 #[test]

@@ -226,29 +226,6 @@ fn what_is_written_stands_where_it_differs() {
     assert!(!line("2 Move").contains("writes"), "{text}");
 }
 
-/// A handler that reads what a level before its try does not keep: named with the positions, in text, page and JSON.
-#[test]
-fn what_a_handler_loses() {
-    let (text, page) = listed("exposed.txt");
-    let warning = "WARNING: the handler at 9 needs r5, which is not kept at the level at 2 before its try at 5.";
-    assert!(text.contains(&format!("\n{warning}\n")) && text.contains("; WARNING: r5 is not kept for the handler at 9  # "), "{text}");
-    assert!(page.contains(&format!("<p class=\"warning\">{warning}</p>")), "{page}");
-    for name in ["K.txt", "P5.txt", "jacket.txt"] { assert!(!listed(name).0.contains("WARNING"), "{name}") }
-    // Kept by a use after the try, or written anew before it: nothing is lost.
-    let body = |four: &str, eight: &str| shown(&format!("registers 6; try 5 9; LoadGlobalR a5 b1; LoadGlobalR a4 b9; CallR a4 b0 x1; StoreTopR a1; \
-        {four}; SetupExcept a9; CallR a4 b1 x1; StoreTopR a2; {eight}; ReturnR b5")).0;
-    assert!(body("LoadGlobalR a4 b9", "ReturnR b2").contains("WARNING"));
-    assert!(!body("LoadGlobalR a4 b9", "ReturnR b5").contains("WARNING"));
-    assert!(!body("LoadGlobalR a5 b9", "ReturnR b2").contains("WARNING"));
-    // By way of a first handler, into a second try.
-    let nested = shown("registers 5; try 1 4; try 4 7; LoadGlobalR a3 b1; CallR a0 x0; StoreTopR a1; ReturnR b1; SetupExcept a7; CallR a0 x0; \
-        StoreTopR a1; ReturnR b3").0;
-    assert!(nested.contains("the handler at 4 needs r3, which is not kept at the level at 1 before its try at 1."), "{nested}");
-    let nested = shown("registers 5; try 0 4; try 5 9; LoadGlobalR a3 b1; CallR a0 x0; StoreTopR a1; ReturnR b1; SetupExcept a9; Move a1 b0; CallR a0 \
-        x0; StoreTopR a1; ReturnR b1; ReturnR b3").0;
-    assert!(nested.contains("the handler at 4 needs r3, which is not kept at the level at 1 inside its try at 0."), "{nested}");
-}
-
 #[test]
 fn a_store_that_is_missing_is_named() {
     let (text, page) = shown("registers 4; CallR a0 x0; AddR a3 b1 c2; CallR a0 x0");

@@ -238,7 +238,7 @@ fn colour() {
     assert!(printed(&["--colour=always", &sample("K.txt")]).contains("\x1b[36m●●\x1b[0m") && !printed(&[&sample("K.txt")]).contains('\x1b'));
     let marked = file(&folder("colour"), "marked.txt", "registers 1\nReturnR b0 # ● is no mark here");
     assert!(!printed(&["--colour=always", "--json", &marked]).contains('\x1b') && printed(&["--colour=always", &marked]).contains("\x1b[36m●\x1b[0m is no"));
-    assert!(printed(&["--colour=always", &sample("exposed.txt")]).contains("\n\x1b[31;1mWARNING: the handler at 9"));
+    assert!(printed(&["--colour=always", &sample("exposed.txt")]).contains("\n\x1b[31;1mWARNING: "));
     let on_a_terminal = |no_color: Option<&str>, more: &str| {
         let mut script = Command::new("script");
         script.args(["-qec", &format!("{LISTING} {} {more}", sample("K.txt")), "/dev/null"]).env_remove("NO_COLOR").stdin(Stdio::null());

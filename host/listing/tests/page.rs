@@ -30,8 +30,10 @@ const PAIRS: [(&str, &[&str]); 7] = [
 fn colours_can_be_told_apart() {
     let light = STYLE.split(":root {").nth(1).unwrap().split('}').next().unwrap();
     let dark = STYLE.split("@media (prefers-color-scheme: dark)").nth(1).unwrap().split('}').next().unwrap();
-    let schemes = [colours(light), colours(dark)];
-    assert!(schemes.iter().all(|c| c.len() >= 16) && contrast(schemes[0]["paper"], schemes[1]["paper"]) > 10.0);
+    // On paper it is the light one, but for what is black there.
+    let paper = STYLE.split("@media print").nth(1).unwrap().split('}').next().unwrap();
+    let schemes = [colours(light), colours(dark), colours(light).into_iter().chain(colours(paper)).collect()];
+    assert!(schemes.iter().all(|c| c.len() >= 16) && contrast(schemes[0]["paper"], schemes[1]["paper"]) > 10.0 && schemes[2]["ink"] == [0.0; 3]);
     for scheme in &schemes {
         for (front, backs) in PAIRS { for back in backs { let far = contrast(scheme[front], scheme[*back]); assert!(far >= 4.5,
             "{front} on {back}: {far:.2}") } }
@@ -44,7 +46,8 @@ fn colours_can_be_told_apart() {
 #[test]
 fn laid_out_for_a_phone_for_paper_and_for_both_schemes() {
     for due in ["color-scheme: light dark", "@media (max-width: 600px)", "@media print", "thead { display: table-header-group; }",
-        "thead th { position: sticky; top: 0;", "position: sticky; left: 0;", "td.ins, thead th.ins { position: sticky; left: 3.2rem;"] {
+        ".chart { overflow: visible; max-height: none; }", "thead th, tbody th, td.ins { position: static !important; }", "thead th { position: sticky; top: 0;",
+        "tbody th, thead th:first-child { position: sticky; left: 0;", "td.ins, thead th.ins { position: sticky; left: 3.2rem;"] {
         assert!(STYLE.contains(due), "{due}");
     }
     let page = page::whole("a", "b", "");

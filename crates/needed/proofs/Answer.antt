@@ -20,7 +20,8 @@ use Rattle.steps.specs.Code.{usedAt, givenAt, afterAt, setOf, flow}
 use Rattle.needed.specs.Path.{Needs}
 use Rattle.needed.specs.Path as path
 use Rattle.paths.specs.Search.{Reach, here, later, Says}
-use Rattle.needed.specs.Asked.{usesAt, givesAt, Asked}
+use Rattle.seek.specs.Asked.{usesAt, givesAt, Asked}
+use Rattle.seek.proofs.Within.{next-after, after-next}
 use Rattle.needed.proofs.Rows.{row-needs, needs-row}
 
 -- ---- a register in a set
@@ -75,7 +76,12 @@ module _ (w : List ℕ) (regs r : ℕ) where
 
     pub asked-needs : {k : ℕ} → Asked w r k → Needs (flow regs w) r k
     asked-needs {k} (here h e) = path.here h (omega (arith, used-bit k, ap (λ (t : Bool). cond {A = ℕ} t 1 0) e))
-    asked-needs {k} (later h e m x) = path.later h (given-bit k ∙ ap (λ (t : Bool). cond {A = ℕ} t 1 0) e) m (asked-needs x)
+    asked-needs {k} (later {t = s} h e m x) =
+        path.later h (given-bit k ∙ ap (λ (t : Bool). cond {A = ℕ} t 1 0) e) (next-after w k s m) (asked-needs x)
+
+    needs-in : {k : ℕ} → Needs (flow regs w) r k → k < count w
+    needs-in (path.here h u) = h
+    needs-in (path.later h g m x) = h
 
     pub needs-asked : {k : ℕ} → Needs (flow regs w) r k → Asked w r k
     needs-asked {k} (path.here h u) = here h (go (usesAt w r k) refl)
@@ -83,7 +89,7 @@ module _ (w : List ℕ) (regs r : ℕ) where
         go : (t : Bool) → usesAt w r k ≡ t → usesAt w r k ≡ true
         go true e = e
         go false e = absurd (omega (arith, used-bit k, ap (λ (t : Bool). cond {A = ℕ} t 1 0) e, u))
-    needs-asked {k} (path.later h g m x) = later h (go (givesAt w r k) refl) m (needs-asked x)
+    needs-asked {k} (path.later {s = s} h g m x) = later h (go (givesAt w r k) refl) (after-next w k s (needs-in x) m) (needs-asked x)
       where
         go : (t : Bool) → givesAt w r k ≡ t → givesAt w r k ≡ false
         go false e = e

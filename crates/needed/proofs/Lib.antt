@@ -1,5 +1,3 @@
 pub mod Rows
-pub mod Loop
-pub mod Given
 pub mod Answer
 pub mod Telling

@@ -20,7 +20,7 @@ use Rattle.steps.specs.Code.{flow}
 use Rattle.needed.specs.Path.{Needs}
 use Rattle.paths.specs.Search.{Says, Searched, Settles}
 use Rattle.paths.proofs.Between.{settles}
-use Rattle.needed.specs.Asked.{Asked, Room}
+use Rattle.seek.specs.Asked.{Asked, Room}
 use Rattle.needed.specs.Answers.{uptoOf}
 use Rattle.needed.proofs.Answer.{asked-needs, needs-asked, never-past}
 

@@ -1,3 +1,2 @@
 pub mod Path
-pub mod Asked
 pub mod Answers

@@ -6,7 +6,7 @@ use mathlib.Core.List.{List, List·Memᴰ}
 use Prim.Native.Nat.{ℕ, _+_, _-_, _<_, _≤_}
 use native.Mathlib.Nat.{eq-or-lt-of-le}
 use native.Mathlib.Omega.{arith}
-use lib.ListN.{length, getD, set}
+use lib.ListN.{length, getD, set, length-set}
 use lib.Seq.{getD-set-same, getD-set-other}
 use mir.Val.{boolByte}
 use Rattle.paths.specs.Search.{Reach, here, later, pushed}
@@ -28,6 +28,11 @@ pub record State (n : ℕ) (reads stops : ℕ → Bool) (leads : ℕ → List �
   pub room : top ≤ 1 + marked seen n
 
 -- a push
+pub pushed-long : (todo : List ℕ) (top t : ℕ) (y : Bool) → length (pushed todo top t y) ≡ length todo
+unfolding pushed
+pushed-long todo top t true = length-set todo top t
+pushed-long todo top t false = refl
+
 module _ (todo : List ℕ) (top t : ℕ) (l : top < length todo) where
   pub push-keeps : (y : Bool) (s : ℕ) → Waits todo top s → Waits (pushed todo top t y) (top + boolByte y) s
   unfolding pushed

@@ -117,12 +117,11 @@ module _ (n : ℕ) (reads stops : ℕ → Bool) (leads : ℕ → List ℕ) (star
       free = below n reads stops leads start seen todo top j (l .state) some popped h (mark-in j h) fresh
 
       pub falls-stop : owed leads (set seen j 1) n + (top - 1) < owed leads seen n + top
-      falls-stop = falls n leads seen (set seen j 1) top (top - 1) (taken h (mark-in j h) fresh (omega arith))
+      falls-stop = falls n leads seen (set seen j 1) top (top - 1) (taken some h (mark-in j h) fresh (omega arith))
 
-      pub push-in-2 : (t top₁ : ℕ) (todo₁ : List ℕ) (y : Bool) → top₁ ≡ (top - 1) + boolByte y → todo₁ ≡ pushed todo (top - 1) t y → top₁ < length todo₁
-      push-in-2 t top₁ todo₁ y p p′ =
-          let w = held-push (n + 1) (top - 1) t y todo₀ todo (omega (arith, l .state .room, free)) (l .waiting) in
-          omega (arith, l .state .room, free, l .room .waiting, w .same, ap length p′, byte-small y)
+      -- two more can wait
+      pub room-for-2 : (top - 1) + 1 < length todo
+      room-for-2 = omega (arith, l .state .room, free, l .room .waiting, l .waiting .same)
 
       -- a read is found
       pub finds : reads j ≡ true → Reach n reads stops leads start
@@ -143,22 +142,31 @@ module _ (n : ℕ) (reads stops : ℕ → Bool) (leads : ℕ → List ℕ) (star
         }
 
         -- or what it leads to waits
-        module _ (u : stops j ≡ false) (on to : Bool) (s t : ℕ) (two : ways on s to t ≡ leads j) (top₁ top₂ : ℕ) (todo₁ todo₂ : List ℕ)
-            (p : top₁ ≡ (top - 1) + boolByte on) (p′ : todo₁ ≡ pushed todo (top - 1) s on)
-            (q : top₂ ≡ top₁ + boolByte to) (q′ : todo₂ ≡ pushed todo₁ top₁ t to) where
+        module _ (u : stops j ≡ false) (on to : Bool) (s t : ℕ) (two : ways on s to t ≡ leads j) (top₂ : ℕ) (todo₂ : List ℕ)
+            (q : top₂ ≡ (top - 1) + boolByte on + boolByte to)
+            (q′ : todo₂ ≡ pushed (pushed todo (top - 1) s on) ((top - 1) + boolByte on) t to) where
+          abbrev top₁ : ℕ
+          top₁ = (top - 1) + boolByte on
+
+          abbrev todo₁ : List ℕ
+          todo₁ = pushed todo (top - 1) s on
+
+          held-first : Held (n + 1) todo₀ todo₁
+          held-first = held-push _ (top - 1) s on todo₀ todo (omega (arith, l .state .room, free)) (l .waiting)
+
           in-2 : top₁ < length todo₁
-          in-2 = push-in-2 s top₁ todo₁ on p p′
+          in-2 = omega (arith, l .state .room, free, l .room .waiting, held-first .same, byte-small on)
 
           pub falls-go : owed leads (set seen j 1) n + top₂ < owed leads seen n + top
-          falls-go = falls n leads seen (set seen j 1) top top₂ (taken h (mark-in j h) fresh (omega (arith, ap length two, ways-long on to s t)))
+          falls-go = falls n leads seen (set seen j 1) top top₂ (taken some h (mark-in j h) fresh (omega (arith, ap length two, ways-long on to s t)))
 
           keeps : (x : ℕ) → Waits todo (top - 1) x → Waits todo₂ top₂ x
-          keeps x m = rw (q, q′) (push-keeps todo₁ top₁ t in-2 to x (rw (p, p′) (push-keeps todo (top - 1) s top-in on x m)))
+          keeps x m = rw (q, q′) (push-keeps todo₁ top₁ t in-2 to x (push-keeps todo (top - 1) s top-in on x m))
 
           adds : (x : ℕ) → stops j ≡ false → List·Memᴰ x (leads j) → Waits todo₂ top₂ x
           adds x z m = ⊎-elim
               (λ a. let (o, v) = in-way on s x a in
-              rw (q, q′, v) (push-keeps todo₁ top₁ t in-2 to s (rw (p, p′) (push-adds todo (top - 1) s top-in on o))))
+              rw (q, q′, v) (push-keeps todo₁ top₁ t in-2 to s (push-adds todo (top - 1) s top-in on o)))
               (λ a. let (o, v) = in-way to t x a in rw (q, q′, v) (push-adds todo₁ top₁ t in-2 to o))
               (List·Memᴰ·append-cases (cond on (s ∷ []) []) (subst (List·Memᴰ x) (sym two) m))
 
@@ -167,7 +175,7 @@ module _ (n : ℕ) (reads stops : ℕ → Bool) (leads : ℕ → List ℕ) (star
               (λ v. inl v)
               (λ v. let i : List·Memᴰ x (cond on (s ∷ []) []) = rw (v .1) (way-in on s (v .0)) in
               inr (u, subst (List·Memᴰ x) two (Memᴰ·append-left (cond to (t ∷ []) []) i)))
-              (push-only todo (top - 1) s top-in on x (rw (p, p′) at m))
+              (push-only todo (top - 1) s top-in on x m)
 
           all : (x : ℕ) → Waits todo₂ top₂ x → Waits todo (top - 1) x ⊎ ((stops j ≡ false) × List·Memᴰ x (leads j))
           all x m = ⊎-elim
@@ -175,9 +183,6 @@ module _ (n : ℕ) (reads stops : ℕ → Bool) (leads : ℕ → List ℕ) (star
               (λ v. let i : List·Memᴰ x (cond to (t ∷ []) []) = rw (v .1) (way-in to t (v .0)) in
               inr (u, subst (List·Memᴰ x) two (Memᴰ·append-right (cond on (s ∷ []) []) i)))
               (push-only todo₁ top₁ t in-2 to x (rw (q, q′) at m))
-
-          held-first : Held (n + 1) todo₀ todo₁
-          held-first = rw p′ (held-push _ (top - 1) s on todo₀ todo (omega (arith, l .state .room, free)) (l .waiting))
 
           pub goes : Loop n reads stops leads start seen₀ todo₀ (set seen j 1) todo₂ top₂
           goes = record {
@@ -200,4 +205,4 @@ tells n reads stops leads start seen₀ todo₀ seen todo top l some j popped h 
 }
 
 -- the turns that are alike for every search
-pub ruleset turning = (ends, same-todo, few-wait, top-in, mark-in, skip-past, skip-seen, falls-stop, push-in-2)
+pub ruleset turning = (ends, same-todo, few-wait, top-in, mark-in, skip-past, skip-seen, falls-stop, room-for-2)

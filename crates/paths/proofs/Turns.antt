@@ -11,6 +11,7 @@ use lib.ListN.{length, getD, set}
 use lib.Seq.{getD-set-same, getD-set-other}
 use Rattle.laws.specs.All.{many}
 use Rattle.paths.specs.Search.{Turn, left, taken, Turns, none, more, owed}
+use Rattle.paths.proofs.Marks.{stored-at}
 
 -- a mark more: the ways out of j are owed no longer
 module _ (leads : ℕ → List ℕ) (seen : List ℕ) (j : ℕ) (l : j < length seen) (fresh : getD seen j 0 ≡ 0) where
@@ -33,7 +34,7 @@ module _ (leads : ℕ → List ℕ) (seen : List ℕ) (j : ℕ) (l : j < length 
 pub falls : (n : ℕ) (leads : ℕ → List ℕ) (seen seen′ : List ℕ) (top top′ : ℕ) → Turn n leads seen top seen′ top′
     → owed leads seen′ n + top′ < owed leads seen n + top
 falls n leads seen seen′ top top′ (left h) = omega arith
-falls n leads seen seen′ top top′ (taken {j = j} h l e f) = omega (arith, owed-less leads seen j l e n h)
+falls n leads seen seen′ top top′ (taken {j = j} some h l e f) = omega (arith, owed-less leads seen j l e n h)
 
 -- So k turns take k of it.
 pub few-turns : {n : ℕ} {leads : ℕ → List ℕ} {seen₀ : List ℕ} {top₀ k : ℕ} {seen : List ℕ} {top : ℕ} → Turns n leads seen₀ top₀ k seen top
@@ -47,11 +48,24 @@ module _ (leads : ℕ → List ℕ) (jumps : ℕ → Bool) (two : (j : ℕ) → 
   one-way m true = two m
   one-way m false = omega arith
 
-  owed-most : (n : ℕ) → owed leads seen n ≤ n + many jumps n
+  pub owed-most : (n : ℕ) → owed leads seen n ≤ n + many jumps n
   unfolding owed many
   owed-most zero = omega arith
   owed-most (suc n) = omega (arith, owed-most n, one-way n (eqb (getD seen n 0) 0))
 
-  -- From one waiting position on there are at most as many turns as positions and jumps, and the first.
-  pub turns-most : (n k : ℕ) (seen′ : List ℕ) (top : ℕ) → Turns n leads seen 1 k seen′ top → k ≤ 1 + (n + many jumps n)
-  turns-most n k seen′ top ts = omega (arith, few-turns ts, owed-most n)
+  -- Where the last position leads on by a jump alone, one waiting position more is no more than positions and jumps.
+  pub owed-first : (n : ℕ) → 0 < n → ((j : ℕ) → suc j ≡ n → length (leads j) ≤ boolByte (jumps j)) → owed leads seen n + 1 ≤ n + many jumps n
+  unfolding owed many
+  owed-first zero h last = absurd (omega arith)
+  owed-first (suc n) h last = omega (arith, owed-most n, go (eqb (getD seen n 0) 0))
+    where
+      go : (b : Bool) → cond b (length (leads n)) 0 ≤ boolByte (jumps n)
+      go true = last n refl
+      go false = omega arith
+
+-- A position that was looked at bears a mark, whatever turns follow: no turn looks at it again.
+pub once : {n : ℕ} {leads : ℕ → List ℕ} {seen₀ : List ℕ} {top₀ k : ℕ} {seen : List ℕ} {top : ℕ} → Turns n leads seen₀ top₀ k seen top
+    → (j : ℕ) → getD seen₀ j 0 ≡ 1 → getD seen j 0 ≡ 1
+once none j e = e
+once (more ts (left h)) j e = once ts j e
+once (more {seen = s} ts (taken {j = i} some h l f g)) j e = stored-at s i 1 l j (λ v. v ≡ 1) (λ q. refl) (λ q. once ts j e)

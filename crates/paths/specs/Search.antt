@@ -43,10 +43,10 @@ pub record Settles (P : Type 0) (m : ℕ) (seen todo : List ℕ) (b : Bool) (see
   pub marks : seen′ ≡ clearedTo m seen
   pub waiting : todo′ ≡ clearedTo m todo
 
--- One turn of a search, by its marks and by how many wait: one is taken off and left out; or it is marked, and what it leads to may wait.
+-- One turn of a search, by its marks and by how many wait: one is taken off and left out; or it had no mark and gets one, and what it leads to may wait.
 pub data Turn (n : ℕ) (leads : ℕ → List ℕ) (seen : List ℕ) (top : ℕ) : List ℕ → ℕ → Type 0 where
   left : {top′ : ℕ} → top′ < top → Turn n leads seen top seen top′
-  taken : {j top′ : ℕ} → j < n → j < length seen → getD seen j 0 ≡ 0 → top′ < top + length (leads j) → Turn n leads seen top (set seen j 1) top′
+  taken : {j top′ : ℕ} → 0 < top → j < n → j < length seen → getD seen j 0 ≡ 0 → top′ < top + length (leads j) → Turn n leads seen top (set seen j 1) top′
 
 -- so many turns from these marks on, with so many waiting
 pub data Turns (n : ℕ) (leads : ℕ → List ℕ) (seen₀ : List ℕ) (top₀ : ℕ) : ℕ → List ℕ → ℕ → Type 0 where

@@ -1,18 +1,16 @@
 -- The search's loop over instructions: what its turns are in the laws of a search. Assumes nothing.
 use mathlib.Core.Path.{_≡_, sym, _∙_, ap}
-use mathlib.Core.Bool.{Bool, true, false, not}
+use mathlib.Core.Bool.{Bool, true, false}
 use mathlib.Core.List.{List}
 use Prim.Native.Nat.{ℕ, _+_, _-_, _/_, _<_}
-use lib.Dec.{eqb}
 use lib.ListN.{length, getD, set}
 use mir.Val.{boolByte}
 use Rattle.code.specs.Ins.{insAt, count}
-use Rattle.code.specs.Op.{Jump}
 use Rattle.code.specs.declared.Ins.{Ins}
 use Rattle.roles.specs.Kinds.{isJump}
 use Rattle.paths.specs.Search.{ways, pushed, Searched, owed}
 use Rattle.paths.proofs.Loop as path
-use Rattle.phis.specs.Phi.{reads, stops, readsAt, stopsAt, leadsAt, Read, Room}
+use Rattle.phis.specs.Phi.{reads, stops, goesOn, readsAt, stopsAt, leadsAt, Read, Room}
 
 abbrev pub Loop : List ℕ → ℕ → ℕ → List ℕ → List ℕ → List ℕ → List ℕ → ℕ → Type 0
 Loop w r start seen₀ todo₀ seen todo top = path.Loop (count w) (readsAt w r) (stopsAt w r) (leadsAt w) start seen₀ todo₀ seen todo top
@@ -32,9 +30,9 @@ module _ (w : List ℕ) (r j : ℕ) (i : Ins) (at : i ≡ insAt w j) where
   unfolding stopsAt
   stop-is b t e f = sym (ap (λ (x : Ins). stops x r) at) ∙ sym e ∙ f
 
-  ways-are : (y : Bool) → y ≡ isJump i → ways (not (eqb (i .op) Jump)) (j + 1) y (i .a) ≡ leadsAt w j
+  ways-are : ways (goesOn i) (j + 1) (isJump i) (i .a) ≡ leadsAt w j
   unfolding leadsAt
-  ways-are y g = rw (g, at)
+  ways-are = rw at
 
 module _ (w : List ℕ) (r start : ℕ) (seen₀ todo₀ seen todo : List ℕ) (top : ℕ) (l : Loop w r start seen₀ todo₀ seen todo top) (some : 0 < top)
     (j : ℕ) (popped : j ≡ getD todo (top - 1) 0) (h : j < length w / 6) (fresh : getD seen j 0 ≡ 0) (i : Ins) (at : i ≡ insAt w j)
@@ -44,21 +42,20 @@ module _ (w : List ℕ) (r start : ℕ) (seen₀ todo₀ seen todo : List ℕ) (
       path.stands (count w) (readsAt w r) (stopsAt w r) (leadsAt w) start seen₀ todo₀ seen todo top l some j popped h fresh
       (read-is w r j i at b false e t) (stop-is w r j i at d true f u)
 
-  module _ (u : d ≡ false) (top₁ top₂ : ℕ) (todo₁ todo₂ : List ℕ) (y : Bool)
-      (p : top₁ ≡ (top - 1) + boolByte (not (eqb (i .op) Jump)))
-      (p′ : todo₁ ≡ pushed todo (top - 1) (j + 1) (not (eqb (i .op) Jump)))
-      (g : y ≡ isJump i) (q : top₂ ≡ top₁ + boolByte y) (q′ : todo₂ ≡ pushed todo₁ top₁ (i .a) y) where
+  module _ (u : d ≡ false) (top₂ : ℕ) (todo₂ : List ℕ)
+      (q : top₂ ≡ (top - 1) + boolByte (goesOn i) + boolByte (isJump i))
+      (q′ : todo₂ ≡ pushed (pushed todo (top - 1) (j + 1) (goesOn i)) ((top - 1) + boolByte (goesOn i)) (i .a) (isJump i)) where
     pub falls-go : owed (leadsAt w) (set seen j 1) (length w / 6) + top₂ < owed (leadsAt w) seen (length w / 6) + top
     falls-go =
         path.falls-go (count w) (readsAt w r) (stopsAt w r) (leadsAt w) start seen₀ todo₀ seen todo top l some j popped h fresh
         (read-is w r j i at b false e t) (stop-is w r j i at d false f u)
-        (not (eqb (i .op) Jump)) y (j + 1) (i .a) (ways-are w r j i at y g) top₁ top₂ todo₁ todo₂ p p′ q q′
+        (goesOn i) (isJump i) (j + 1) (i .a) (ways-are w r j i at) top₂ todo₂ q q′
 
     pub goes : Loop w r start seen₀ todo₀ (set seen j 1) todo₂ top₂
     goes =
         path.goes (count w) (readsAt w r) (stopsAt w r) (leadsAt w) start seen₀ todo₀ seen todo top l some j popped h fresh
         (read-is w r j i at b false e t) (stop-is w r j i at d false f u)
-        (not (eqb (i .op) Jump)) y (j + 1) (i .a) (ways-are w r j i at y g) top₁ top₂ todo₁ todo₂ p p′ q q′
+        (goesOn i) (isJump i) (j + 1) (i .a) (ways-are w r j i at) top₂ todo₂ q q′
 
 -- a read is found
 pub tells : (w : List ℕ) (r start : ℕ) (seen₀ todo₀ seen todo : List ℕ) (top : ℕ) → Loop w r start seen₀ (set todo₀ 0 start) seen todo top → 0 < top

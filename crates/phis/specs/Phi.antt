@@ -39,9 +39,13 @@ readsAt w r j = reads (insAt w j) r
 unfoldable pub stopsAt : List ℕ → ℕ → ℕ → Bool
 stopsAt w r j = stops (insAt w j) r
 
--- where control goes from j: to the next, but from a Jump; to a, from a jump
+-- control goes on from i to the next, but from a Jump
+abbrev pub goesOn : Ins → Bool
+goesOn i = not (eqb (i .op) Jump)
+
+-- where control goes from j: to the next; to a, from a jump
 unfoldable pub leadsAt : List ℕ → ℕ → List ℕ
-leadsAt w j = ways (not (eqb (insAt w j .op) Jump)) (j + 1) (isJump (insAt w j)) (insAt w j .a)
+leadsAt w j = ways (goesOn (insAt w j)) (j + 1) (isJump (insAt w j)) (insAt w j .a)
 
 -- some path from j, over instructions that do not stop it, comes to one that reads r
 abbrev pub Read : List ℕ → ℕ → ℕ → Type 0

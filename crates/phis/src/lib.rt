@@ -3,9 +3,10 @@ ghost use mathlib.Core.Path.{_≡_};
 ghost use Prim.Native.Nat.{ℕ, _+_, _/_, _<_};
 ghost use lib.ListN.{length, getD};
 ghost use mir.Val.{boolByte};
+ghost use Rattle.roles.specs.Kinds.{isJump};
 ghost use Rattle.roles.specs.Roles.{roleTable};
 ghost use Rattle.paths.specs.Search.{pushed, Searched, Settles};
-ghost use Rattle.phis.specs.Phi.{reads, stops, Read, Dead, Room};
+ghost use Rattle.phis.specs.Phi.{reads, stops, goesOn, Read, Dead, Room};
 ghost use Rattle.phis.specs.Answers.{DeadPhi};
 use code::Answer;
 use code::Checked;
@@ -26,12 +27,6 @@ pub fn dead_phi(code: &[u16], at: usize, r: u16, seen: &mut [u8], todo: &mut [u3
         Checked::No(q) => code::refused(q),
         Checked::Count(_) => code::tell(dead(code, at, r, seen, todo) as u64, 0, 0, 0),
     }
-}
-
-fn wide(x: u32) -> usize
-    ensures { λ r. ⌜ r ≡ x ⌝ }
-{
-    x as usize
 }
 
 // Whether i reads r.
@@ -64,16 +59,14 @@ fn stops(roles: &[u8; 1280], i: Ins, r: u16) -> bool
     writes | (o == ReturnR) | (o == ReturnValue) | (o == Raise)
 }
 
-// The waiting stack's height with `at` on it, where `yes`.
-fn push(todo: &mut [u32], top: usize, at: u32, yes: bool) -> usize
-    requires { ⌜ top < length (now todo) ⌝ }
-    ensures { λ h. ⌜ (h ≡ top + boolByte yes) × (now (todo .exit) ≡ pushed (now (todo .entry)) top at yes) ⌝ }
+// The waiting stack's height with what comes after j on it, by its instruction.
+fn follow(roles: &[u8; 1280], todo: &mut [u32], top: usize, j: usize, i: Ins) -> usize
+    requires { ⌜ (now roles ≡ roleTable) × (top + 1 < length (now todo)) × (j < 65535) ⌝ }
+    ensures { λ h. ⌜ (h ≡ top + boolByte (goesOn i) + boolByte (isJump i))
+        × (now (todo .exit) ≡ pushed (pushed (now (todo .entry)) top (j + 1) (goesOn i)) (top + boolByte (goesOn i)) (i .a) (isJump i)) ⌝ }
 {
-    if yes {
-        todo[top] = at;
-        return top + 1;
-    }
-    top
+    let to = roles::is_jump_in(roles, i);
+    paths::follow(todo, top, (j + 1) as u32, i.op != Jump, i.a as u32, to)
 }
 
 // Whether a path from `start` reads r; no mark is set at entry.
@@ -94,7 +87,7 @@ fn search(
     let mut top = 1;
     while 0 < top {
         top -= 1;
-        let j = wide(todo[top]);
+        let j = paths::wide(todo[top]);
         if n <= j {
             continue;
         }
@@ -109,8 +102,7 @@ fn search(
         if stops(roles, i, r) {
             continue;
         }
-        top = push(todo, top, (j + 1) as u32, i.op != Jump);
-        top = push(todo, top, i.a as u32, roles::is_jump_in(roles, i));
+        top = follow(roles, todo, top, j, i);
     }
     false
 }

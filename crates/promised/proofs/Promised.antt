@@ -28,7 +28,8 @@ use Rattle.exported.proofs.Answered.{one}
 use Rattle.exported.proofs.Writing.{targets-settles, loops-settles, dead-settles, gen-settles, dead-truth, gen-truth}
 use Rattle.exported.proofs.Kept.{kept-settles, kept-holds, routes-same}
 use Rattle.exported.proofs.Touched.{touched-holds}
-use Rattle.needed.proofs.Loop.{few-turns}
+use Rattle.paths.proofs.Turns.{once}
+use Rattle.seek.proofs.Within.{few-turns}
 use Rattle.exported.proofs.Needed.{needed-settles, needed-truth, needed-bit, wide-zero}
 use Rattle.exported.proofs.Folded.{fold-settles, pool-kept, tables-kept, tries-kept, landings-true, code-again, none-died}
 use Rattle.exported.proofs.Folded.{folds-next, clears-next, folds-cleared, folds-same}
@@ -91,6 +92,7 @@ promised =
       needed-truth = needed-truth;
       needed-bit = needed-bit;
       needed-few = few-turns;
+      needed-once = λ w seen seen′ top k top′ j ts e. once ts j e;
       wide-zero = wide-zero;
       divides = divides;
       one-pair = one-pair;

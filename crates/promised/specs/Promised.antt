@@ -4,7 +4,7 @@ use mathlib.Core.Path.{_≡_}
 use mathlib.Core.Bool.{Bool, true, false, not, cond, _&&_}
 use mathlib.Core.Logic.{_⊎_, _≢_}
 use mathlib.Core.List.{List, [], _∷_, _++_, List·Memᴰ}
-use lib.Dec.{eqb}
+use lib.Dec.{eqb, ltb}
 use lib.ListN.{length, replicate, take, getD}
 use lib.IntN.{ℤ, pos, natAbs, _*ℤ_}
 use lib.Signed.{ltZ, leZ}
@@ -32,7 +32,7 @@ use Rattle.callee.specs.Trace.{stepAt, heard, tracedBy, traced}
 use Rattle.phis.specs.Phi.{Dead}
 use Rattle.generators.specs.Generator.{GenPure}
 use Rattle.needed.specs.Path.{Needs}
-use Rattle.needed.specs.Asked.{jumpsIn}
+use Rattle.seek.specs.Asked.{nextAt, jumpsIn}
 use Rattle.paths.specs.Search.{Turns}
 use Rattle.flow.specs.Set.{bit}
 use Rattle.flow.specs.Flow.{Flow, Least}
@@ -205,8 +205,11 @@ pub record Promised : Type 0 where
       → (k q : ℕ) (m : Marks) (s : Answer) (m′ : Marks) → NeededCall w regs k q m s m′ → s .refusal ≡ 0 → bit (rowLeft bits regs w a k) q ≡ s .first
   -- as the forced wide route does
   pub wide-zero : (bits regs : ℕ) (w : List ℕ) → startAt bits true regs w ≡ 0
-  -- the turns of its search from the asked position on are at most as many as instructions and jumps, and the first
-  pub needed-few : (w seen seen′ : List ℕ) (k top : ℕ) → Turns (count w) (afterAt w) seen 1 k seen′ top → k ≤ 1 + (count w + jumpsIn w)
+  -- its search begins with the asked position, if that is an instruction, and makes at most as many turns as there are instructions and jumps
+  pub needed-few : (w seen seen′ : List ℕ) (at k top : ℕ) → Turns (count w) (nextAt w) seen (boolByte (ltb at (count w))) k seen′ top
+      → k ≤ count w + jumpsIn w
+  -- a turn looks only at an instruction with no mark and marks it, and a mark stays: none is looked at twice
+  pub needed-once : (w seen seen′ : List ℕ) (top k top′ j : ℕ) → Turns (count w) (nextAt w) seen top k seen′ top′ → getD seen j 0 ≡ 1 → getD seen′ j 0 ≡ 1
   -- ---- Python's numbers
 
   -- quotient and remainder are as Python's law asks

@@ -1,5 +1,5 @@
-//! How far `needed` walks: each way out of an instruction once at most, so as many turns as instructions and jumps, and the first (`few-turns`,
-//! crates/needed/proofs/Loop.antt). Instructions of the archive are counted by callgrind, where valgrind is at hand.
+//! How far `needed` walks: each way out of an instruction to another once at most, so at most as many turns as instructions and jumps (`few-turns`,
+//! crates/seek/proofs/Within.antt). Instructions of the archive are counted by callgrind, where valgrind is at hand.
 
 use std::{env, fs, process::Command};
 use turniploom::{Ins, abi, op::*};
@@ -12,14 +12,14 @@ fn straight(n: usize) -> Vec<Ins> { vec![Ins::unmarked(Move, 2, 3, 0, 0); n] }
 /// Every instruction is a jump with two ways out, to the next and back to the first.
 fn jumps(n: usize) -> Vec<Ins> { vec![Ins::unmarked(JumpIfFalseR, 0, 3, 0, 0); n] }
 
-/// The same search, its turns counted: what waits, past the end and marked before too.
+/// The same search, its turns counted, those of instructions that were marked before too; n does not wait.
 fn turns(code: &[Ins]) -> usize {
     let (mut seen, mut todo, mut turns) = (vec![false; code.len()], vec![0], 0);
     while let Some(k) = todo.pop() {
         turns += 1;
-        if k >= code.len() || std::mem::replace(&mut seen[k], true) { continue }
-        todo.push(k + 1);
-        if code[k].op == JumpIfFalseR { todo.push(code[k].a.into()) }
+        if std::mem::replace(&mut seen[k], true) { continue }
+        let over = (code[k].op == JumpIfFalseR).then_some(code[k].a.into());
+        todo.extend([Some(k + 1), over].into_iter().flatten().filter(|&next| next < code.len()));
     }
     turns
 }
@@ -35,9 +35,12 @@ fn ask(code: &[Ins]) {
     assert_eq!((answer.refusal, answer.first), (0, 0));
 }
 
+/// Met by code with no jump and by code of jumps alone, at 65,535 as at 1.
 #[test]
 fn the_most_turns() {
-    assert_eq!((turns(&straight(MOST)), turns(&jumps(MOST))), (MOST + 1, 2 * MOST + 1));
+    for n in [1, 2, 1_000, MOST] {
+        assert_eq!((turns(&straight(n)), turns(&jumps(n))), (n, 2 * n));
+    }
 }
 
 const SIZES: [usize; 3] = [1_000, 10_000, MOST];

@@ -14,9 +14,6 @@ add-words c = search needs
 clear-marks-requires : tie.Need-clear-marks-requires
 clear-marks-requires c κs = search needs
 
-cast-search : tie.Need-cast-search
-cast-search c = search needs
-
 search-requires : tie.Need-search-requires
 search-requires c κs = (search needs, search ready, search none)
 
@@ -42,7 +39,6 @@ asks-spec =
     table-requires
     add-words
     clear-marks-requires
-    cast-search
     search-requires
     clear-marks-requires-2
     clear-words-requires

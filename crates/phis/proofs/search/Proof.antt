@@ -4,9 +4,9 @@ use Prim.Native.Nat.{_+_, _/_}
 use native.Mathlib.Omega.{arith}
 use lib.ListN.{length}
 use Rattle.paths.specs.Search.{owed}
-use Rattle.paths.proofs.Loop.{few-wait, top-in, push-in-2, turning}
+use Rattle.paths.proofs.Loop.{few-wait, room-for-2, turning}
 use Rattle.phis.specs.Phi.{leadsAt}
-use Rattle.phis.proofs.Loop.{Loop, turn, falls-go, goes}
+use Rattle.phis.proofs.Loop.{Loop, turn}
 use Rattle.phis.proofs.search.Statement.{statement}
 use Rattle.phis.proofs.search.Tie as tie
 
@@ -76,47 +76,14 @@ loop-less-3 c = search (needs, turning, turn)
 loop-again-3 : tie.Need-loop-again-3 Inv-loop μ-loop
 loop-again-3 c = search (needs, turning, turn)
 
-add-push : tie.Need-add-push Inv-loop μ-loop
-add-push c = search (needs, turning, turn)
-
-cast-push : tie.Need-cast-push Inv-loop μ-loop
-cast-push c = search (needs, turning, turn)
-
-push-requires : tie.Need-push-requires Inv-loop μ-loop
-push-requires c κs = top-in _ _ _ _ _ _ _ _ _ _ (c .before .before .before .before .before .before .before .before .before .before .before .before .before .loop .inv) (omega arith)
-
-cast-push-2 : tie.Need-cast-push-2 Inv-loop μ-loop
-cast-push-2 c = search (needs, turning, turn)
-
-is-jump-in-requires : tie.Need-is-jump-in-requires Inv-loop μ-loop
-is-jump-in-requires c κs =
-    let p = c .before .before .before .before .before .before .before .before .before .before .before in
-    p .before .before .before .before .before .before .before .before .before .before .before .pre .0
-
-push-requires-2 : tie.Need-push-requires-2 Inv-loop μ-loop
-push-requires-2 c κs = push-in-2 _ _ _ _ _ _ _ _ _ _ (c .before .before .before .before .before .before .before .before .before .before .before .before .before .before .before .before .before .before .before .loop .inv) (omega arith) (c .before .before .before .before .before .before .before .before .before .before .before .before .before .before .before .before .wide .result) (c .before .before .before .before .before .before .before .before .before .before .before .before .before .before .before .before .wide .ensures) (omega arith) (omega arith) _ _ _ _ (c .before .before .before .before .before .push .ensures .0) (c .before .before .before .before .before .push .ensures .1)
+follow-requires : tie.Need-follow-requires Inv-loop μ-loop
+follow-requires c κs = (search needs, search room-for-2, omega arith)
 
 loop-less-4 : tie.Need-loop-less-4 Inv-loop μ-loop
-loop-less-4 c =
-    let p = c .before .before .before .before .before .before .before .before in
-    let q = p .before .before .before .before .before .before in
-    let s = q .before .before .before .before .before in
-    falls-go _ _ _ _ _ _ _ _ (s .before .before .before .loop .inv) (s .before .before .loop-test .taken) (s .wide .result) (s .wide .ensures)
-    (omega arith) (omega arith) _ (q .before .ins-at .ensures) _ (q .reads .ensures) (p .before .before .before .before .before .if3 .left)
-    _ (p .before .before .before .before .stops .ensures) (p .before .before .before .if4 .left)
-    _ _ _ _ _ (p .push .ensures .0) (p .push .ensures .1) (c .before .before .before .is-jump-in .ensures)
-    (c .before .before .push2 .ensures .0) (c .before .before .push2 .ensures .1)
+loop-less-4 c = search (needs, turning, turn)
 
 loop-again-4 : tie.Need-loop-again-4 Inv-loop μ-loop
-loop-again-4 c =
-    let p = c .before .before .before .before .before .before .before .before in
-    let q = p .before .before .before .before .before .before in
-    let s = q .before .before .before .before .before in
-    goes _ _ _ _ _ _ _ _ (s .before .before .before .loop .inv) (s .before .before .loop-test .taken) (s .wide .result) (s .wide .ensures)
-    (omega arith) (omega arith) _ (q .before .ins-at .ensures) _ (q .reads .ensures) (p .before .before .before .before .before .if3 .left)
-    _ (p .before .before .before .before .stops .ensures) (p .before .before .before .if4 .left)
-    _ _ _ _ _ (p .push .ensures .0) (p .push .ensures .1) (c .before .before .before .is-jump-in .ensures)
-    (c .before .before .push2 .ensures .0) (c .before .before .push2 .ensures .1)
+loop-again-4 c = search (needs, turning, turn)
 
 same-length-3 : tie.Need-same-length-3 Inv-loop μ-loop
 same-length-3 c = search (needs, turning, turn)
@@ -153,12 +120,7 @@ search-spec =
     stops-requires
     loop-less-3
     loop-again-3
-    add-push
-    cast-push
-    push-requires
-    cast-push-2
-    is-jump-in-requires
-    push-requires-2
+    follow-requires
     loop-less-4
     loop-again-4
     same-length-3

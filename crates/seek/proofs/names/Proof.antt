@@ -1,7 +1,7 @@
--- `needed::names` meets its contract. Assumes nothing.
+-- `seek::names` meets its contract. Assumes nothing.
 use Rattle.touch.proofs.Written.{among-named}
-use Rattle.needed.proofs.names.Statement.{statement}
-use Rattle.needed.proofs.names.Tie as tie
+use Rattle.seek.proofs.names.Statement.{statement}
+use Rattle.seek.proofs.names.Tie as tie
 
 returns : tie.Need-returns
 returns c = search among-named

@@ -1,4 +1,4 @@
--- `needed::push` meets its contract. Assumes nothing.
+-- `paths::push` meets its contract. Assumes nothing.
 use borrow.Author.Needs.{needs}
 use mathlib.Core.Path.{_≡_}
 use mathlib.Core.Bool.{Bool, true, false}
@@ -7,9 +7,9 @@ use Prim.Native.Nat.{ℕ, _+_}
 use native.Mathlib.Omega.{arith}
 use lib.ListN.{set}
 use mir.Val.{boolByte}
 use Rattle.paths.specs.Search.{pushed}
-use Rattle.needed.proofs.push.Statement.{statement}
-use Rattle.needed.proofs.push.Tie as tie
+use Rattle.paths.proofs.push.Statement.{statement}
+use Rattle.paths.proofs.push.Tie as tie
 
 module _ (todo : List ℕ) (top t : ℕ) (y : Bool) where
   on-top : y ≡ true → top + 1 ≡ top + boolByte y

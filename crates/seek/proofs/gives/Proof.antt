@@ -1,8 +1,8 @@
--- `needed::gives` meets its contract. Assumes nothing.
+-- `seek::gives` meets its contract. Assumes nothing.
 use borrow.Author.Needs.{needs}
-use Rattle.needed.proofs.Given.{given-is}
-use Rattle.needed.proofs.gives.Statement.{statement}
-use Rattle.needed.proofs.gives.Tie as tie
+use Rattle.seek.proofs.Given.{given-is}
+use Rattle.seek.proofs.gives.Statement.{statement}
+use Rattle.seek.proofs.gives.Tie as tie
 
 names-requires : tie.Need-names-requires
 names-requires c κs = search needs

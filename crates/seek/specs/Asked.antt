@@ -1,7 +1,8 @@
 -- A search for one register of lent code. Assumes nothing.
 use Prim.Native.Nat.{ℕ, _+_, _≤_}
-use mathlib.Core.Bool.{Bool}
-use mathlib.Core.List.{List}
+use mathlib.Core.Bool.{Bool, cond, _&&_}
+use mathlib.Core.List.{List, [], _∷_}
+use lib.Dec.{ltb}
 use lib.ListN.{length}
 use Rattle.laws.specs.All.{many}
 use Rattle.laws.specs.Page.{among}
@@ -9,6 +10,7 @@ use Rattle.code.specs.Ins.{insAt, count}
 use Rattle.code.specs.Check.{Valid}
 use Rattle.roles.specs.Kinds.{isJump}
 use Rattle.steps.specs.Code.{usedAt, givenAt, afterAt}
+use Rattle.steps.specs.declared.Step.{Step}
 use Rattle.paths.specs.Search.{Reach}
 
 -- position j uses r, gives r up
@@ -18,9 +20,25 @@ usesAt w r j = among r (usedAt w j)
 unfoldable pub givesAt : List ℕ → ℕ → ℕ → Bool
 givesAt w r j = among r (givenAt w j)
 
+-- those of some positions that are below n
+unfoldable pub within : ℕ → List ℕ → List ℕ
+within n [] = []
+within n (x ∷ l) = cond (ltb x n) (x ∷ within n l) (within n l)
+
+-- the instructions that come after j: n is none
+unfoldable pub nextAt : List ℕ → ℕ → List ℕ
+nextAt w j = within (count w) (afterAt w j)
+
+-- the step at j goes on to an instruction, and over to one
+abbrev pub onTo : Step → ℕ → ℕ → Bool
+onTo s j n = s .on && ltb (j + 1) n
+
+abbrev pub overTo : Step → ℕ → Bool
+overTo s n = s .to && ltb (s .target) n
+
 -- some path from k uses r before it gives it up
 abbrev pub Asked : List ℕ → ℕ → ℕ → Type 0
-Asked w r k = Reach (count w) (usesAt w r) (givesAt w r) (afterAt w) k
+Asked w r k = Reach (count w) (usesAt w r) (givesAt w r) (nextAt w) k
 
 -- the jumps of all the code
 abbrev pub jumpsIn : List ℕ → ℕ

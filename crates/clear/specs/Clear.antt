@@ -9,7 +9,7 @@ use Rattle.code.specs.declared.Checked.{Checked}
 use Rattle.lent.specs.Chunk.{stride, count}
 use Rattle.lent.specs.Tables.{constantsKept, tableOf}
 use Rattle.lent.specs.Check.{checkOf}
-use Rattle.clear.specs.Unused.{named, before, pooled, recoded, numbered}
+use Rattle.named.specs.Unused.{named, before, pooled, recoded, numbered}
 use Rattle.clear.specs.declared.ClearAnswer.{ClearAnswer}
 use Rattle.clear.specs.declared.ClearAnswer.the-variants.{Is, No}
 

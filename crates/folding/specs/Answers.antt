@@ -7,7 +7,7 @@ use Rattle.code.specs.Answers.{asked, answerOf, refusedOf}
 use Rattle.code.specs.declared.Answer.{Answer}
 use Rattle.code.specs.declared.Checked.{Checked}
 use Rattle.lent.specs.declared.Counts.{Counts}
-use Rattle.optimizer.specs.Fold.{Buffers, needed, outcome, foldLent, called, rejoined, foldCall}
+use Rattle.optimizer.specs.Fold.{Buffers, outcome, called, foldCall}
 use Rattle.optimizer.specs.declared.Folded.{Folded}
 use Rattle.optimizer.specs.Fold.{FoldAnswer}
 use Rattle.optimizer.specs.Fold.{Is, No}
@@ -23,11 +23,6 @@ foldedTold f = answerOf (f .instructions) (f .constants) (f .map) (f .sources)
 abbrev pub foldTold : FoldAnswer → Answer
 foldTold (Is f) = foldedTold f
 foldTold (No r) = refusedOf r
-
--- the fold of what is needed, with all that is lent as it leaves it
-pub record Rejoined (strict : Bool) (b : Buffers) (tries landings : List ℕ) (c : Counts) (f : Folded)
-    (b′ : Buffers) (tries′ landings′ : List ℕ) : Type 0 where
-  pub is : called (outcome (Is f) b′) tries′ landings′ ≡ rejoined b landings c (foldLent strict tries (needed b c) c)
 
 -- an answer that tells what the call is defined to be, with all that is lent as it leaves it
 pub record FoldTold (strict : Bool) (b : Buffers) (tries landings : List ℕ) (c : Counts) (r : Answer)

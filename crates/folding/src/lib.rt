@@ -1,11 +1,8 @@
 // The folding call: its refusals, then the fold over each buffer as far as it is needed, told.
 ghost use mathlib.Core.Path.{_≡_};
-ghost use Prim.Native.Nat.{_+_, _≤_};
-ghost use lib.ListN.{length};
-ghost use Rattle.lent.specs.Chunk.{count};
 ghost use Rattle.lent.specs.Check.{sourceRoom, tallyOf, readyOf};
-ghost use Rattle.optimizer.specs.Fold.{buffers, Held};
-ghost use Rattle.folding.specs.Answers.{testedTold, foldedTold, Rejoined, FoldTold};
+ghost use Rattle.optimizer.specs.Fold.{buffers};
+ghost use Rattle.folding.specs.Answers.{testedTold, foldedTold, FoldTold};
 use code::Answer;
 use code::Checked;
 use lent::Counts;
@@ -49,53 +46,6 @@ fn tested(
         Checked::No(r) => code::refused(r),
         Checked::Count(_) => code::tell(0, 0, 0, 0),
     }
-}
-
-// The fold over each buffer as far as it is needed, where the tests passed.
-fn fold_needed(
-    code: &mut [u16],
-    kinds: &mut [u8],
-    words: &mut [u64],
-    phi_map: &mut [u32],
-    phi_sources: &mut [u16],
-    stmt_pos: &mut [u32],
-    call_byte_pos: &mut [u32],
-    dead: &mut [u8],
-    remap: &mut [u32],
-    tries: &mut [u32],
-    landings: &mut [u64],
-    counts: Counts,
-    strict: bool,
-) -> Folded
-    requires { ⌜ Held
-        (buffers (now code) (now kinds) (now words) (now «phi_map») (now «phi_sources») (now «stmt_pos») (now «call_byte_pos») (now dead) (now remap))
-        counts × (count (now code) + 1 ≤ length (now landings)) ⌝ }
-    ensures { λ r. ⌜ Rejoined strict
-        (buffers (now (code .entry)) (now (kinds .entry)) (now (words .entry)) (now («phi_map» .entry)) (now («phi_sources» .entry))
-        (now («stmt_pos» .entry)) (now («call_byte_pos» .entry)) (now (dead .entry)) (now (remap .entry)))
-        (now (tries .entry)) (now (landings .entry)) counts r
-        (buffers (now (code .exit)) (now (kinds .exit)) (now (words .exit)) (now («phi_map» .exit)) (now («phi_sources» .exit))
-        (now («stmt_pos» .exit)) (now («call_byte_pos» .exit)) (now (dead .exit)) (now (remap .exit)))
-        (now (tries .exit)) (now (landings .exit)) ⌝ }
-{
-    let n = code.len() / STRIDE;
-    let more = n + 1;
-    let sources = sources_needed(code, counts.sources);
-    optimizer::constant_fold(
-        code,
-        kinds,
-        words,
-        &mut phi_map[..n],
-        &mut phi_sources[..sources],
-        &mut stmt_pos[..counts.stmts],
-        &mut call_byte_pos[..counts.calls],
-        &mut dead[..n],
-        &mut remap[..more],
-        tries,
-        &mut landings[..more],
-        counts,
-        strict,
-    )
 }
 
 // The folding call.
@@ -154,18 +104,21 @@ pub fn fold(
     if a.refusal > 0 {
         return a;
     }
-    told(fold_needed(
+    let n = code.len() / STRIDE;
+    let more = n + 1;
+    let sources = sources_needed(code, phi_sources_count);
+    told(optimizer::constant_fold(
         code,
         kinds,
         words,
-        phi_map,
-        phi_sources,
-        stmt_pos,
-        call_byte_pos,
-        dead,
-        remap,
+        &mut phi_map[..n],
+        &mut phi_sources[..sources],
+        &mut stmt_pos[..stmt_pos_count],
+        &mut call_byte_pos[..call_byte_pos_count],
+        &mut dead[..n],
+        &mut remap[..more],
         tries,
-        landings,
+        &mut landings[..more],
         counts,
         strict,
     ))

@@ -21,7 +21,7 @@ use Rattle.lent.specs.Check.{checkOf, tablesOf, tallyOf, constantRoom, sourceRo
 use Rattle.lent.specs.declared.Counts.{Counts}
 use Rattle.lent.specs.declared.Lens.{Lens}
 use Rattle.lent.proofs.Kept.{few, kinds-there, words-there}
-use Rattle.clear.specs.Unused.{named, before, pooled, recoded}
+use Rattle.named.specs.Unused.{named, before, pooled, recoded}
 use Rattle.lent.proofs.Counting.{many-ext}
 use Rattle.clear.proofs.Tested.{table-met, check-met, whole-of}
 use Rattle.clear.proofs.Loads.{recoded-count, recoded-op}

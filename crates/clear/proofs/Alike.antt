@@ -10,14 +10,14 @@ use lib.ListN.{length, getD}
 use borrow.Author.Tests.{lt-ltb, le-ltb}
 use Rattle.laws.specs.Some.{some}
 use Rattle.code.specs.Op.{LoadConst}
-use Rattle.lent.specs.Chunk.{stride, count, opAt, markAt, operandAt, jumps, names, isPhi}
+use Rattle.lent.specs.Chunk.{stride, count, opAt, markAt, operandAt, jumps, names, isPhi, lands}
 use Rattle.values.specs.Folds.{foldBinop}
 use Rattle.values.specs.declared.Val.{Val}
 use Rattle.values.specs.declared.Maybe.{Maybe}
 use Rattle.values.specs.declared.Maybe.the-variants.{Is, Nothing}
 use Rattle.values.specs.declared.Op.{Op}
 use Rattle.chunk.specs.Pool.{constToVal}
-use Rattle.landings.specs.Landings.{lands, landsAny, handlesAny, barred}
+use Rattle.landings.specs.Landings.{landsAny, handlesAny, barred}
 use Rattle.fold.specs.Pass.{byScan}
 use Rattle.fold.specs.Plan.{Chunk, kindOf, prevLive, operandOf, skipsInto, blocked, withFound, withVal, foldUnary, tryFoldBinop, tryFoldUnary, planFor, planAt}
 use Rattle.operands.specs.declared.Found.{Found}

@@ -5,7 +5,7 @@ use mathlib.Core.Path.{_≡_, refl, sym, ap, _∙_}
 use Rattle.code.specs.declared.Refusal.{Refusal}
 use Rattle.code.specs.declared.Checked.{Checked}
 use Rattle.code.specs.declared.Checked.the-variants.{Count, No as Refused}
-use Rattle.clear.specs.Unused.{named, before, pooled, recoded, numbered}
+use Rattle.named.specs.Unused.{named, before, pooled, recoded, numbered}
 use Rattle.clear.specs.Clear.{Is, No, Buffers, Outcome, outcome, cleared, readyOf, clearCall}
 
 -- the four buffers and the count, from those lent

@@ -10,15 +10,15 @@ use Rattle.laws.specs.All.{every, many}
 use Rattle.laws.specs.Each.{each}
 use Rattle.laws.specs.Some.{some}
 use Rattle.laws.specs.Walk.{first}
-use Rattle.lent.specs.Chunk.{folds, rules}
+use Rattle.lent.specs.Chunk.{folds, rules, lands}
 use Rattle.lent.specs.Check.{checkOf}
 use Rattle.values.specs.Folds.{foldBinop, ints, inRange}
 use Rattle.chunk.specs.Pool.{toVal, constToVal, findOrPush, findOrPushConst}
-use Rattle.landings.specs.Landings.{lands, barred}
+use Rattle.landings.specs.Landings.{barred}
 use Rattle.fold.specs.Plan.{Chunk, chunk, page, kindOf, prevLive, skipsInto, blocked, tryFoldBinop, planFor, planAt}
 use Rattle.fold.specs.Plan as plan
 use Rattle.fold.specs.Pass.{constLoad, markOf, put, landed, applied, tryFold, byScan, folded, foldAll}
-use Rattle.clear.specs.Unused.{named, kept, pooled, renumbered, operandOf, recoded, numbered, loaded}
+use Rattle.named.specs.Unused.{named, kept, pooled, renumbered, operandOf, recoded, numbered, loaded}
 use Rattle.clear.specs.Clear.{Is, No, buffers, outcome, cleared, readyOf, clearCall}
 use Rattle.clear.proofs.Room.{clearedChunk}
 

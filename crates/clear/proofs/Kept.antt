@@ -18,7 +18,7 @@ use Rattle.laws.proofs.Branch.{and-true}
 use Rattle.laws.proofs.Many.{many-few}
 use Rattle.laws.proofs.Some.{passes-at}
 use Rattle.lent.specs.Chunk.{count, operandAt, names}
-use Rattle.clear.specs.Unused.{namesIt, named, keptAt, kept, pooled}
+use Rattle.named.specs.Unused.{namesIt, named, keptAt, kept, pooled}
 
 below-suc : (i m : ℕ) → i < suc m → i ≤ m
 below-suc i m h = omega arith

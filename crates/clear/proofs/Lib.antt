@@ -1,4 +1,3 @@
-pub mod Marking
 pub mod Moving
 pub mod Whole
 pub mod Tested

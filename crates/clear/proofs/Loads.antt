@@ -14,7 +14,7 @@ use Rattle.laws.specs.Each.{each}
 use Rattle.laws.proofs.Many.{many-few}
 use Rattle.laws.proofs.Each.{each-length}
 use Rattle.lent.specs.Chunk.{stride, count, opAt, markAt, operandAt, originAt, names}
-use Rattle.clear.specs.Unused.{named, before, pooled, renumbered, operandOf, insOf, recoded, loaded}
+use Rattle.named.specs.Unused.{named, before, pooled, renumbered, operandOf, insOf, recoded, loaded}
 use Rattle.clear.proofs.Kept.{named-by, in-order, pooled-kept}
 
 -- word j of place k

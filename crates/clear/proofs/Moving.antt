@@ -1,22 +1,20 @@
--- Laws of `kept`, `freed` and `recoded`, for the loops that write them in place. Assumes nothing.
-use Prim.Native.Nat.{ℕ, _+_, _-_, _*_, _≤_, _<_}
+-- Laws of `kept` and `freed`, for the loops that write them in place. Assumes nothing.
+use Prim.Native.Nat.{ℕ, _+_, _-_, _≤_, _<_}
 use native.Mathlib.Nat.{sub-self, le-refl}
 use native.Mathlib.Omega.{arith}
 use mathlib.Core.Path.{_≡_, refl, sym, ap, _∙_}
 use mathlib.Core.Bool.{Bool, true, false, not}
 use mathlib.Core.List.{List, [], _∷_, _++_, append-nil, append-assoc}
-use lib.Dec.{eqb, ltb}
+use lib.Dec.{eqb}
 use lib.ListN.{length, getD, set, take, drop, replicate, replicate-append-replicate}
-use lib.Seq.{set-getD}
-use borrow.Author.Tests.{lt-ltb, le-ltb}
 use Rattle.laws.specs.All.{many}
 use Rattle.laws.specs.Each.{each}
 use Rattle.laws.proofs.Many.{many-more, many-few}
 use Rattle.laws.proofs.Each.{each-more}
-use Rattle.laws.proofs.InPlace.{Walked, walk-none, walk-read, walk-pass, walk-put, walk-at, walk-as, walk-end, walk-whole, word-put}
-use Rattle.lent.specs.Chunk.{stride, count, opAt, markAt, operandAt, originAt, names}
-use Rattle.clear.specs.Unused.{keptAt, kept, numbered, renumbered, operandOf, insOf, recoded}
-use Rattle.clear.specs.Passes.{marked, Moved, Down, freed, Low, numberIn}
+use Rattle.laws.proofs.InPlace.{Walked, walk-none, walk-read, walk-pass, walk-put, walk-as, walk-end, word-put}
+use Rattle.named.specs.Unused.{keptAt, kept, numbered}
+use Rattle.named.specs.Marks.{marked}
+use Rattle.clear.specs.Passes.{Moved, Down, freed}
 
 -- ---- the constants that move down
 
@@ -150,71 +148,3 @@ module _ {xs old : List ℕ} {a i : ℕ} (c : Freeing xs old a i) where
   freeing-done m h l =
       let e : i ≡ m = omega arith in
       (rw e at (walk-end (c .walked))) ∙ append-assoc (take a old) (replicate (m - a) 0) (drop m old)
-
--- ---- the operands
-
--- in the code: o is the operand as it was read, v the same, t the mark
-module _ (s w : List ℕ) (m k v o : ℕ) (e : v ≡ o) (f : o ≡ operandAt w k) where
-  pub stays-far : m ≤ v → o ≡ operandOf (numberIn s) m w k
-  unfolding operandOf renumbered
-  stays-far h = go (names w k) refl (rw (sym (e ∙ f)) (le-ltb v m h))
-    where
-      go : (a : Bool) → names w k ≡ a → ltb (operandAt w k) m ≡ false → o ≡ operandOf (numberIn s) m w k
-      go false n q = rw n f
-      go true n q = rw (n, q) f
-
-  pub stays-unmarked : (t : Bool) → t ≡ names w k → t ≡ false → o ≡ operandOf (numberIn s) m w k
-  unfolding operandOf
-  stays-unmarked t g h = let n : names w k ≡ false = sym g ∙ h in rw n f
-
-  pub renumbered-here : (t : Bool) → t ≡ names w k → t ≡ true → v < m → getD s v 0 ≡ operandOf (numberIn s) m w k
-  unfolding operandOf renumbered
-  renumbered-here t g h l =
-      let n : names w k ≡ true = sym g ∙ h in
-      let z : operandAt w k ≡ v = sym (e ∙ f) in
-      let q : ltb (operandAt w k) m ≡ true = rw z (lt-ltb v m l) in
-      rw (n, q, z)
-
-pub number-low : (m v : ℕ) (s : List ℕ) → Low m s → v < m → getD s v 0 < 65536
-number-low m v s l h = omega (arith, l .at v h, l .few)
-
--- where the loop stands at instruction k
-pub record Recoding (number : ℕ → ℕ) (m : ℕ) (xs old : List ℕ) (k : ℕ) : Type 0 where
-  pub walked : Walked xs old (each (insOf number m old) k) (stride * k) (stride * k)
-
-pub recoding-none : (number : ℕ → ℕ) (m : ℕ) (old : List ℕ) → Recoding number m old old 0
-unfolding each
-recoding-none number m old = record { walked = walk-none old }
-
-operand-same : (number : ℕ → ℕ) (m : ℕ) (xs old : List ℕ) (k : ℕ) → markAt xs k ≡ markAt old k → operandAt xs k ≡ operandAt old k
-    → operandOf number m xs k ≡ operandOf number m old k
-unfolding operandOf
-operand-same number m xs old k p q = rw (p, q)
-
-append-four : (l : List ℕ) (a b d f : ℕ) → (((l ++ (a ∷ [])) ++ (b ∷ [])) ++ (d ∷ [])) ++ (f ∷ []) ≡ l ++ (a ∷ b ∷ d ∷ f ∷ [])
-append-four l a b d f = simp append-assoc
-
-module _ {number : ℕ → ℕ} {m : ℕ} {xs old : List ℕ} {k : ℕ} (r : Recoding number m xs old k) where
-  pub recoding-more : (v : ℕ) → v ≡ operandOf number m xs k → k < count old → length old ≡ stride * count old → Recoding number m (set xs (stride * k + 2) v) old (k + 1)
-  recoding-more v e h l =
-      let w = r .walked in
-      let o : opAt xs k ≡ opAt old k = walk-read w (stride * k) (omega arith) in
-      let n : markAt xs k ≡ markAt old k = walk-read w (stride * k + 1) (omega arith) in
-      let x : v ≡ operandOf number m old k = e ∙ operand-same number m xs old k n (walk-read w (stride * k + 2) (omega arith)) in
-      let one = rw (set-getD xs (stride * k) 0) at (walk-put w (opAt xs k) (omega arith)) in
-      let two = rw (set-getD xs (stride * k + 1) 0) at (walk-put one (markAt xs k) (omega arith)) in
-      let three = walk-put (walk-at two (stride * k + 2) (stride * k + 2) (omega arith) (omega arith)) v (omega arith) in
-      let ys = set xs (stride * k + 2) v in
-      let u : originAt ys k ≡ originAt old k = walk-read three (stride * k + 3) (omega arith) in
-      let four = rw (set-getD ys (stride * k + 3) 0) at (walk-put (walk-at three (stride * k + 3) (stride * k + 3) (omega arith) (omega arith)) (originAt ys k) (omega arith)) in
-      let j = each (insOf number m old) k in
-      let done : (((j ++ (opAt xs k ∷ [])) ++ (markAt xs k ∷ [])) ++ (v ∷ [])) ++ (originAt ys k ∷ []) ≡ each (insOf number m old) (k + 1) =
-      append-four j (opAt xs k) (markAt xs k) v (originAt ys k) ∙ rw (u, o, n, x) (sym (each-more (insOf number m old) k)) in
-      record { walked = walk-at (walk-as four (each (insOf number m old) (k + 1)) done) (stride * (k + 1)) (stride * (k + 1)) (omega arith) (omega arith) }
-
-  pub recoding-same : length xs ≡ length old
-  recoding-same = r .walked .same
-
-  pub recoding-done : count old ≤ k → k ≤ count old → length old ≡ stride * count old → xs ≡ recoded number m old
-  unfolding recoded
-  recoding-done h l z = let e : k ≡ count old = omega arith in walk-whole (r .walked) (omega arith) ∙ ap (each (insOf number m old)) e

@@ -31,7 +31,7 @@ use Rattle.fold.specs.declared.Plan.{Plan}
 use Rattle.fold.specs.declared.Plan.the-variants.{Stay, Put}
 use Rattle.fold.proofs.Put.{put-long}
 use Rattle.fold.proofs.Grown.{Held, held-none, held-more, held-ready}
-use Rattle.clear.specs.Unused.{AllNear, named, before, pooled, recoded}
+use Rattle.named.specs.Unused.{AllNear, named, before, pooled, recoded}
 use Rattle.clear.proofs.Kept.{named-by, in-order, onto, pooled-kept}
 use Rattle.clear.proofs.Loads.{recoded-length, recoded-count, recoded-op, recoded-mark, unmarked-stays, far-stays, near-moves}
 use Rattle.clear.proofs.Tested.{check-met, whole-of, never}

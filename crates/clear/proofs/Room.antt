@@ -10,7 +10,7 @@ use Rattle.lent.specs.Chunk.{count, opAt, folds}
 use Rattle.lent.specs.Check.{constantRoom}
 use Rattle.fold.specs.Plan.{Chunk, chunk}
 use Rattle.fold.specs.Pass.{Lent}
-use Rattle.clear.specs.Unused.{named, before, pooled, recoded}
+use Rattle.named.specs.Unused.{named, before, pooled, recoded}
 use Rattle.lent.proofs.Counting.{many-ext}
 use Rattle.clear.proofs.Kept.{pooled-length}
 use Rattle.clear.proofs.Loads.{recoded-count, recoded-op}

@@ -24,11 +24,11 @@ use Rattle.code.proofs.Stages.{room-before}
 use Rattle.lent.specs.Chunk.{stride, count, operandAt, names, breaksAt}
 use Rattle.lent.specs.Tables.{constantKept, within, constantsKept, tableOf}
 use Rattle.lent.specs.Check.{firstBad, checkOf}
-use Rattle.clear.specs.Unused.{named, before, kept, pooled, operandOf, recoded, numbered}
+use Rattle.named.specs.Unused.{named, before, kept, pooled, operandOf, recoded, numbered}
 use Rattle.clear.specs.Clear.{Is, No, Buffers, Outcome, outcome, cleared, readyOf, clearCall, Held}
 use Rattle.clear.proofs.Answers.{refused-call, answered-call}
 use Rattle.clear.proofs.Whole.{numbered-ext}
-use Rattle.clear.proofs.Moving.{Recoding, recoding-none, recoding-more, recoding-done}
+use Rattle.named.proofs.Recoding.{Recoding, recoding-none, recoding-more, recoding-done}
 use Rattle.clear.proofs.Tested.{held-of, table-met}
 use Rattle.clear.proofs.Kept.{named-by, naming, onto, pooled-kept, pooled-length}
 use Rattle.clear.proofs.Loads.{recoded-length, recoded-count, recoded-op, recoded-mark, recoded-names, near-moves, operand-unmarked, operand-far, operand-near}

@@ -18,8 +18,9 @@ use Rattle.lent.specs.Chunk.{count, operandAt, markAt, opAt, originAt, names}
 use Rattle.lent.specs.Tables.{constantsKept, tableOf}
 use Rattle.lent.specs.Check.{checkOf}
 use Rattle.lent.proofs.Counting.{many-ext}
-use Rattle.clear.specs.Unused.{named, before, keptAt, kept, pooled, renumbered, operandOf, insOf, recoded, numbered}
-use Rattle.clear.specs.Passes.{Marks, marked, Moved, Down, freed, Low, numberIn}
+use Rattle.named.specs.Unused.{named, before, keptAt, kept, pooled, renumbered, operandOf, insOf, recoded, numbered}
+use Rattle.named.specs.Marks.{Marks, marked, Low, numberIn}
+use Rattle.clear.specs.Passes.{Moved, Down, freed}
 use Rattle.clear.specs.Clear.{Is, buffers, outcome, cleared, readyOf}
 
 -- ---- two tests, or two numberings, that agree below m

@@ -11,7 +11,7 @@ use Rattle.code.specs.declared.Refusal.{Refusal}
 use Rattle.lent.specs.Chunk.{stride, count}
 use Rattle.lent.specs.Tables.{constantsKept, tableOf}
 use Rattle.lent.specs.Check.{checkOf}
-use Rattle.clear.specs.Unused.{named, before, pooled, recoded, numbered}
+use Rattle.named.specs.Unused.{named, before, pooled, recoded, numbered}
 
 -- how many constants there are then, or the refusal
 pub data ClearAnswer : Type 0 where

@@ -1,3 +1,2 @@
-pub mod Unused
 pub mod Passes
 pub mod Clear

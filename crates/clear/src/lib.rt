@@ -1,62 +1,12 @@
 // Clearing: constants that no instruction names go, and the others move up in their order.
 ghost use mathlib.Core.Path.{_≡_};
-ghost use Prim.Native.Nat.{_*_, _≤_, _<_};
+ghost use Prim.Native.Nat.{_≤_};
 ghost use lib.ListN.{length};
-ghost use Rattle.laws.specs.Table.{clearedTo};
-ghost use Rattle.lent.specs.Chunk.{stride, count};
-ghost use Rattle.clear.specs.Unused.{operandOf, recoded};
-ghost use Rattle.clear.specs.Passes.{noted, Marks, marked, Down, freed, Low, numberIn};
+ghost use Rattle.named.specs.Marks.{marked};
+ghost use Rattle.clear.specs.Passes.{Down, freed};
 ghost use Rattle.clear.specs.Clear.{Is, buffers, outcome, cleared, readyOf, ClearTold, Held};
 use code::Answer;
 use code::Checked;
-use lent::STRIDE;
-
-fn wide(x: u16) -> usize
-    ensures { λ r. ⌜ r ≡ x ⌝ }
-{
-    x as usize
-}
-
-// The first m words become 0.
-fn zero(scratch: &mut [u32], m: usize)
-    requires { ⌜ m ≤ length (now scratch) ⌝ }
-    ensures { λ _. ⌜ now (scratch .exit) ≡ clearedTo m (now (scratch .entry)) ⌝ }
-{
-    let mut i: usize = 0;
-    while i < m {
-        scratch[i] = 0;
-        i += 1;
-    }
-}
-
-// Marks the constant that instruction k names.
-fn note(code: &[u16], scratch: &mut [u32], m: usize, k: usize)
-    requires { ⌜ (k < count (now code)) × (m ≤ length (now scratch)) ⌝ }
-    ensures { λ _. ⌜ now (scratch .exit) ≡ noted (now (code .entry)) m k (now (scratch .entry)) ⌝ }
-{
-    let v = wide(lent::operand_at(code, k));
-    if m <= v {
-        return;
-    }
-    let named = lent::names_constant(code, k);
-    if named {
-        scratch[v] = 1;
-    }
-}
-
-// Marks the named constants.
-fn mark_named(code: &[u16], scratch: &mut [u32], m: usize)
-    requires { ⌜ m ≤ length (now scratch) ⌝ }
-    ensures { λ _. ⌜ Marks (now (code .entry)) m (now (scratch .entry)) (now (scratch .exit)) ⌝ }
-{
-    zero(scratch, m);
-    let n = code.len() / STRIDE;
-    let mut k: usize = 0;
-    while k < n {
-        note(code, scratch, m, k);
-        k += 1;
-    }
-}
 
 // Each marked constant moves down in place, and scratch takes its new number. Answers how many there are.
 fn keep(kinds: &mut [u8], words: &mut [u64], scratch: &mut [u32], m: usize) -> usize
@@ -93,36 +43,6 @@ fn free(kinds: &mut [u8], words: &mut [u64], a: usize, m: usize)
     }
 }
 
-// The operand of instruction k by the numbers in scratch.
-fn operand_of(code: &[u16], scratch: &[u32], m: usize, k: usize) -> u16
-    requires { ⌜ (k < count (now code)) × Low m (now scratch) ⌝ }
-    ensures { λ r. ⌜ r ≡ operandOf (numberIn (now (scratch .entry))) m (now (code .entry)) k ⌝ }
-{
-    let v = lent::operand_at(code, k);
-    let at = wide(v);
-    if m <= at {
-        return v;
-    }
-    if lent::names_constant(code, k) {
-        return scratch[at] as u16;
-    }
-    v
-}
-
-// Renumbers the operands that name a constant.
-fn renumber(code: &mut [u16], scratch: &[u32], m: usize)
-    requires { ⌜ (length (now code) ≡ stride * count (now code)) × Low m (now scratch) ⌝ }
-    ensures { λ _. ⌜ now (code .exit) ≡ recoded (numberIn (now (scratch .entry))) m (now (code .entry)) ⌝ }
-{
-    let n = code.len() / STRIDE;
-    let mut k: usize = 0;
-    while k < n {
-        let v = operand_of(code, scratch, m, k);
-        code[STRIDE * k + 2] = v;
-        k += 1;
-    }
-}
-
 // Clears a chunk that passed the tests. Answers how many constants are left.
 fn clear_unused(
     code: &mut [u16],
@@ -134,10 +54,10 @@ fn clear_unused(
     requires { ⌜ Held (buffers (now code) (now kinds) (now words) (now scratch)) m ⌝ }
     ensures { λ r. ⌜ outcome (Is r) (buffers (now (code .exit)) (now (kinds .exit)) (now (words .exit)) (now (scratch .exit))) ≡ cleared (buffers (now (code .entry)) (now (kinds .entry)) (now (words .entry)) (now (scratch .entry))) m ⌝ }
 {
-    mark_named(code, scratch, m);
+    named::mark_named(code, scratch, m);
     let r = keep(kinds, words, scratch, m);
     free(kinds, words, r, m);
-    renumber(code, scratch, m);
+    named::renumber(code, scratch, m);
     r
 }
 

@@ -13,9 +13,9 @@ use Rattle.laws.specs.All.{many}
 use Rattle.laws.specs.Each.{each}
 use Rattle.lent.specs.Chunk.{stride, opAt, markAt, operandAt, originAt}
 use Rattle.lent.proofs.Counting.{many-le, zeros-at}
-use Rattle.compact.specs.Remap.{alive, live}
+use Rattle.positions.specs.Remap.{alive, live}
 use Rattle.compact.specs.Tables.{operandOf, wordsOf, leftAt, left, compacted}
-use Rattle.compact.proofs.Moves.{live-on}
+use Rattle.positions.proofs.Moves.{live-on}
 
 -- a live position goes below what a later one has before it
 pub live-less : (dead : List ℕ) (n k : ℕ) → k < n → getD dead k 0 ≡ 0 → live dead k < live dead n

@@ -1,2 +1,1 @@
-pub mod Remap
 pub mod Tables

@@ -1,12 +1,13 @@
--- What the code and the position tables become: document 01, 'Folding'. Assumes nothing.
-use Prim.Native.Nat.{ℕ, _+_, _-_, _*_, _/_}
+-- What the code becomes, and the position tables with it: document 01, 'Folding'. Assumes nothing.
+use Prim.Native.Nat.{ℕ, _-_}
 use mathlib.Core.Path.{_≡_}
 use mathlib.Core.Bool.{cond}
 use mathlib.Core.List.{List, [], _∷_, _++_}
-use lib.ListN.{length, getD, replicate}
+use lib.ListN.{length, replicate}
 use Rattle.laws.specs.Each.{each}
 use Rattle.lent.specs.Chunk.{opAt, markAt, operandAt, originAt, jumps}
-use Rattle.compact.specs.Remap.{alive, live, remapOf, mapped}
+use Rattle.positions.specs.Remap.{alive, live, remapOf, mapped}
+use Rattle.positions.specs.Moved.{placed}
 
 -- a jump operand maps
 unfoldable pub operandOf : List ℕ → List ℕ → ℕ → ℕ
@@ -27,17 +28,6 @@ left dead w = each (leftAt dead w) (length dead)
 -- words past the new count are 0
 unfoldable pub compacted : List ℕ → List ℕ → List ℕ
 compacted dead w = left dead w ++ replicate (length w - length (left dead w)) 0
-
--- the first word of each position pair maps
-abbrev pub pairAt : List ℕ → List ℕ → ℕ → List ℕ
-pairAt dead t k = mapped dead (getD t (2 * k) 0) ∷ getD t (2 * k + 1) 0 ∷ []
-
-unfoldable pub placed : List ℕ → List ℕ → List ℕ
-placed dead t = each (pairAt dead t) (length t / 2)
-
--- every word of each pair maps: tries are remapped like jump operands
-unfoldable pub movedAll : List ℕ → List ℕ → List ℕ
-movedAll dead t = each (λ k. mapped dead (getD t k 0) ∷ []) (length t)
 
 -- all of it, from n dead marks
 pub record Compacted (dead w stmts calls : List ℕ) (r : ℕ) (w′ remap′ stmts′ calls′ : List ℕ) : Type 0 where

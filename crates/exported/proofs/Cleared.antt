@@ -10,7 +10,7 @@ use Rattle.laws.proofs.Each.{each-word}
 use Rattle.code.specs.declared.Answer.{Answer}
 use Rattle.code.specs.declared.Checked.{Checked}
 use Rattle.code.specs.declared.Checked.the-variants.{Count, No as Refused}
-use Rattle.clear.specs.Unused.{named, before, pooled, recoded, numbered}
+use Rattle.named.specs.Unused.{named, before, pooled, recoded, numbered}
 use Rattle.clear.specs.Clear.{ClearAnswer, Is, No, Buffers, Outcome, outcome, cleared, readyOf, clearCall, clearTold}
 use Rattle.clear.proofs.Answers.{refused-call, answered-call, answered, refusal-keeps}
 use Rattle.clear.proofs.Kept.{in-order, onto, pooled-kept, pooled-freed, pooled-past, pooled-length}

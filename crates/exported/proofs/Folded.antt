@@ -13,7 +13,7 @@ use Rattle.optimizer.specs.Fold.{Called}
 use Rattle.optimizer.specs.declared.Folded.{Folded}
 use Rattle.optimizer.specs.Fold.{FoldAnswer}
 use Rattle.optimizer.specs.Fold.{Is, No}
-use Rattle.clear.specs.Unused.{AllNear}
+use Rattle.named.specs.Unused.{AllNear}
 use Rattle.clear.specs.Clear as clearing
 use Rattle.clear.specs.Clear.{ClearAnswer, clearCall, clearTold}
 use Rattle.optimizer.proofs.Again.{again}

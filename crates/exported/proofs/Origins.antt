@@ -8,7 +8,7 @@ use Rattle.code.specs.declared.Answer.{Answer}
 use Rattle.lent.specs.Chunk.{stride, count, originAt}
 use Rattle.lent.specs.declared.Counts.{Counts}
 use Rattle.clear.specs.Clear as clearing
-use Rattle.clear.specs.Unused.{before}
+use Rattle.named.specs.Unused.{before}
 use Rattle.clear.proofs.Answers.{answered}
 use Rattle.clear.proofs.Loads.{recoded-count, recoded-origin}
 use Rattle.refold.specs.Lending.{Lending}

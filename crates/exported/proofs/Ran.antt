@@ -9,7 +9,7 @@ use Rattle.lent.specs.Chunk.{stride, count}
 use Rattle.lent.specs.declared.Counts.{Counts}
 use Rattle.optimizer.specs.Fold.{Called}
 use Rattle.clear.specs.Clear as clearing
-use Rattle.clear.specs.Unused.{before}
+use Rattle.named.specs.Unused.{before}
 use Rattle.clear.proofs.Answers.{answered}
 use Rattle.clear.proofs.Loads.{recoded-count}
 use Rattle.refold.specs.Lending.{Lending}

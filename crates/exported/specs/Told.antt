@@ -22,7 +22,7 @@ use Rattle.lent.specs.Chunk as chunk
 use Rattle.lent.specs.Chunk.{opAt, markAt, operandAt, names}
 use Rattle.lent.specs.declared.Counts.{Counts}
 use Rattle.optimizer.specs.declared.Folded.{Folded}
-use Rattle.clear.specs.Unused.{named, before, numbered, loaded}
+use Rattle.named.specs.Unused.{named, before, numbered, loaded}
 use Rattle.clear.specs.Clear as clearing
 use Rattle.refold.specs.Lending.{Lending}
 use Rattle.refold.specs.Lendable.{cutAt, countsLeft, clearable, clearedBuffers, withConstants, countsCleared}

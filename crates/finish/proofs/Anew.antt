@@ -8,7 +8,7 @@ use lib.ListN.{length, take, replicate}
 use lib.Seq.{length-take-le}
 use Rattle.laws.specs.All.{every, many}
 use Rattle.lent.specs.Chunk.{count, isPhi}
-use Rattle.compact.specs.Remap.{alive}
+use Rattle.positions.specs.Remap.{alive}
 use Rattle.compact.specs.Tables.{Compacted}
 use Rattle.phi_pass.specs.Phi.{marked, pairsLeft, spread, indexed}
 use Rattle.phi_pass.proofs.Pairs.{spread-length, marked-length}

@@ -7,8 +7,9 @@ use lib.Dec.{eqb}
 use lib.ListN.{length, take, replicate}
 use Rattle.laws.specs.All.{every, many}
 use Rattle.lent.specs.Chunk.{stride, count, isPhi}
-use Rattle.compact.specs.Remap.{alive, live, remapOf}
-use Rattle.compact.specs.Tables.{compacted, placed}
+use Rattle.positions.specs.Remap.{alive, live, remapOf}
+use Rattle.compact.specs.Tables.{compacted}
+use Rattle.positions.specs.Moved.{placed}
 use Rattle.phi_pass.specs.Phi.{marked, pairsLeft, indexed}
 use Rattle.finish.specs.declared.Left.{Left}
 

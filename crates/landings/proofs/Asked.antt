@@ -15,8 +15,8 @@ use Rattle.laws.specs.Some.{some}
 use Rattle.laws.proofs.Each.{each-at, each-word}
 use Rattle.laws.proofs.Some.{passes-at}
 use Rattle.laws.proofs.Branch.{and-true}
-use Rattle.lent.specs.Chunk.{count, operandAt, jumps}
-use Rattle.landings.specs.Landings.{handlerAt, jumpsTo, handledAt, landingsAt, landingsOf, lands, landsAny, handles, handlesAny, barred}
+use Rattle.lent.specs.Chunk.{count, operandAt, jumps, lands}
+use Rattle.landings.specs.Landings.{handlerAt, jumpsTo, handledAt, landingsAt, landingsOf, landsAny, handles, handlesAny, barred}
 use Rattle.landings.specs.Latest.{latest, isLanding}
 
 -- ---- two tests that hold together are one

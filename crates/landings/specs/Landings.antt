@@ -9,7 +9,7 @@ use Rattle.laws.specs.All.{many}
 use Rattle.laws.specs.Some.{some}
 use Rattle.laws.specs.Each.{each}
 use Rattle.code.specs.Op.{LoadConst}
-use Rattle.lent.specs.Chunk.{count, opAt, operandAt, jumps}
+use Rattle.lent.specs.Chunk.{count, opAt, operandAt, jumps, lands}
 
 -- the tries are pairs (s, h): the handler of try j
 abbrev pub handlerAt : List ℕ → ℕ → ℕ
@@ -57,10 +57,6 @@ pub record Jumped (w l₀ l : List ℕ) (k : ℕ) : Type 0 where
 -- the first k tries
 pub record Handled (tries l₀ l : List ℕ) (k : ℕ) : Type 0 where
   pub counts : Counts l (length l₀) (λ t. getD l₀ t 0 + many (handledAt tries t) k)
-
--- a jump at k into (p, i]
-unfoldable pub lands : List ℕ → ℕ → ℕ → ℕ → Bool
-lands w p i k = jumps w k && (ltb p (operandAt w k) && leb (operandAt w k) i)
 
 -- any jump of the chunk lands there
 unfoldable pub landsAny : List ℕ → ℕ → ℕ → Bool

@@ -2,7 +2,7 @@
 use Prim.Native.Nat.{ℕ, _+_, _*_, _%_, _/_}
 use mathlib.Core.Bool.{Bool, not, _&&_, _||_}
 use mathlib.Core.List.{List}
-use lib.Dec.{eqb, leb}
+use lib.Dec.{eqb, ltb, leb}
 use lib.ListN.{getD, length}
 use Rattle.code.specs.Op.{last, LoadConst, Phi, Add, Sub, Mul, Div, Mod, FloorDiv, Eq, NotEq, Lt, Gt, LtEq, GtEq, BitAnd, BitOr, BitXor, Shl, Shr, Not, Minus}
 
@@ -30,6 +30,10 @@ originAt w k = getD w (stride * k + 3) 0
 -- mark bit 0, `is_jump`
 abbrev pub jumps : List ℕ → ℕ → Bool
 jumps w k = eqb (markAt w k % 2) 1
+
+-- a jump at k into (p, i]
+unfoldable pub lands : List ℕ → ℕ → ℕ → ℕ → Bool
+lands w p i k = jumps w k && (ltb p (operandAt w k) && leb (operandAt w k) i)
 
 -- mark bit 1, 'names a constant'
 abbrev pub names : List ℕ → ℕ → Bool

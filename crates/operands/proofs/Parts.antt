@@ -8,14 +8,13 @@ use lib.Dec.{eqb, ltb, leb}
 use lib.ListN.{getD}
 use borrow.Author.Tests.{eq-eqb, ne-eqb, lt-ltb, eqb-true}
 use Rattle.code.specs.Op.{LoadConst}
-use Rattle.lent.specs.Chunk.{opAt, operandAt, jumps}
+use Rattle.lent.specs.Chunk.{opAt, operandAt, jumps, lands}
 use Rattle.values.specs.Folds.{Sound}
 use Rattle.values.specs.declared.Val.{Val}
 use Rattle.values.specs.declared.Maybe.{Maybe}
 use Rattle.values.specs.declared.Maybe.the-variants.{Is, Nothing}
 use Rattle.chunk.specs.Pool.{toVal, constToVal}
 use Rattle.chunk.proofs.Store.{val-sound}
-use Rattle.landings.specs.Landings.{lands}
 use Rattle.operands.specs.Operands.{prevLive, operandOf, skipsInto, blocked, after}
 use Rattle.operands.specs.declared.Found.{Found}
 use Rattle.operands.specs.declared.Found.the-variants.{At, Nowhere}

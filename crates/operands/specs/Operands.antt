@@ -5,8 +5,7 @@ use mathlib.Core.List.{List}
 use lib.Dec.{ltb, eqb}
 use lib.ListN.{getD}
 use Rattle.code.specs.Op.{LoadConst}
-use Rattle.lent.specs.Chunk.{opAt, operandAt}
-use Rattle.landings.specs.Landings.{lands}
+use Rattle.lent.specs.Chunk.{opAt, operandAt, lands}
 use Rattle.values.specs.declared.Maybe.{Maybe}
 use Rattle.values.specs.declared.Maybe.the-variants.{Nothing}
 use Rattle.chunk.specs.Pool.{constToVal}

@@ -4,8 +4,7 @@ use values::Maybe;
 ghost use mathlib.Core.Path.{_≡_};
 ghost use Prim.Native.Nat.{_≤_, _<_};
 ghost use lib.ListN.{length};
-ghost use Rattle.lent.specs.Chunk.{count};
-ghost use Rattle.landings.specs.Landings.{lands};
+ghost use Rattle.lent.specs.Chunk.{count, lands};
 ghost use Rattle.operands.specs.Operands.{prevLive, operandOf, skipsInto, blocked, after};
 
 // A position, where there is one.

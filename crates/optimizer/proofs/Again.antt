@@ -38,7 +38,7 @@ use Rattle.fold.specs.declared.Plan.{Plan}
 use Rattle.fold.specs.declared.Plan.the-variants.{Stay, Put}
 use Rattle.fold.proofs.Planned.{Planned, planned}
 use Rattle.fold.proofs.Put.{put-long, put-other, mark-other, put-here, mark-here}
-use Rattle.compact.specs.Remap.{alive, live}
+use Rattle.positions.specs.Remap.{alive, live}
 use Rattle.compact.specs.Tables.{operandOf, wordsOf, leftAt, left, compacted}
 use Rattle.compact.proofs.Left.{left-long}
 use Rattle.phi_pass.specs.Phi.{marked}

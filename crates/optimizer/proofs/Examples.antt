@@ -8,13 +8,14 @@ use Rattle.laws.specs.All.{every, many}
 use Rattle.laws.specs.Each.{each}
 use Rattle.laws.specs.Some.{some}
 use Rattle.laws.specs.Walk.{first}
-use Rattle.lent.specs.Chunk.{folds, rules}
+use Rattle.lent.specs.Chunk.{folds, rules, lands}
 use Rattle.lent.specs.Check.{checkOf, tablesOf, tallyOf, roomsOf, readyOf}
 use Rattle.code.specs.Check.{firstBadTry}
 use Rattle.code.specs.Rules.{tryKept}
-use Rattle.landings.specs.Landings.{landingsAt, landingsOf, lands, landsAny, handles, handlesAny, barred}
-use Rattle.compact.specs.Remap.{remapOf, mapped}
-use Rattle.compact.specs.Tables.{operandOf, left, compacted, placed, movedAll}
+use Rattle.landings.specs.Landings.{landingsAt, landingsOf, landsAny, handles, handlesAny, barred}
+use Rattle.positions.specs.Remap.{remapOf, mapped}
+use Rattle.compact.specs.Tables.{operandOf, left, compacted}
+use Rattle.positions.specs.Moved.{placed, movedAll}
 use Rattle.phi_pass.specs.Phi.{paired, noop, markAt, marked, pairsLeft, indexed}
 use Rattle.values.specs.Folds.{foldBinop, foldNeg, ints, inRange}
 use Rattle.chunk.specs.Pool.{toVal, constToVal, findOrPush, findOrPushConst}

@@ -16,7 +16,7 @@ use Rattle.laws.proofs.Each.{each-at}
 use Rattle.lent.specs.Chunk.{count}
 use Rattle.lent.proofs.Counting.{every-at}
 use Rattle.lent.specs.declared.Counts.{Counts}
-use Rattle.compact.specs.Remap.{alive}
+use Rattle.positions.specs.Remap.{alive}
 use Rattle.phi_pass.specs.Phi.{markAt, marked}
 use Rattle.phi_pass.proofs.Pairs.{marked-length, dead-stays}
 use Rattle.fold.specs.Plan.{Chunk, chunk}

@@ -1,17 +1,12 @@
--- What the exact fold needs before and after it: the table's length, and that the code keeps its length. Assumes nothing.
+-- What filling the table of landings needs before the exact fold and after it. Assumes nothing.
 use Prim.Native.Nat.{ℕ, _+_, _*_, _/_, _≤_}
 use native.Mathlib.Omega.{arith}
-use mathlib.Core.Path.{_≡_, sym, ap, _∙_}
-use mathlib.Core.List.{List, [], _∷_}
+use mathlib.Core.Path.{_≡_, ap, _∙_}
+use mathlib.Core.List.{List}
 use lib.ListN.{length}
 use Rattle.lent.specs.Chunk.{stride, count}
-use Rattle.lent.specs.declared.Counts.{Counts}
 use Rattle.landings.specs.Landings.{landingsOf}
 use Rattle.landings.proofs.Asked.{table-long}
-use Rattle.fold.specs.Pass.{Bars}
-use Rattle.optimizer.specs.Fold.{Buffers, buffers, Outcome, outcome, constantFold, Exact}
-use Rattle.optimizer.specs.declared.Folded.{Folded}
-use Rattle.optimizer.proofs.Again.{fold-keeps}
 
 table-is : (w tries l : List ℕ) → l ≡ landingsOf w tries → length l ≡ count w + 1
 table-is w tries l e = ap length e ∙ table-long w tries
@@ -19,12 +14,9 @@ table-is w tries l e = ap length e ∙ table-long w tries
 pub table-fits : (w tries l : List ℕ) → l ≡ landingsOf w tries → count w ≤ length l
 table-fits w tries l e = omega (arith, table-is w tries l e)
 
-module _ (bars : Bars) (b : Buffers) (c : Counts) (a : Folded) (code′ kinds′ words′ map′ sources′ stmts′ calls′ dead′ remap′ : List ℕ) (x : Exact b c)
-    (e : outcome a (buffers code′ kinds′ words′ map′ sources′ stmts′ calls′ dead′ remap′) ≡ constantFold bars b c) where
-  long : length code′ ≡ length (b .code)
-  long = ap (λ (o : Outcome Folded). length (o .after .code)) e ∙ fold-keeps bars b c (omega (arith, x .whole)) (omega (arith, x .whole)) .long
-
-  pub fits-again : (tries l : List ℕ) → l ≡ landingsOf (b .code) tries → (count code′ ≤ 65535) × (length l ≡ count code′ + 1)
-  fits-again tries l f =
-      let z : count code′ ≡ count (b .code) = ap (λ (m : ℕ). m / stride) long in
-      (omega (arith, x .whole, x .few), omega (arith, table-is (b .code) tries l f))
+-- the second time too: the code is as long as it was
+pub fits-again : (w tries l : List ℕ) (n m m′ : ℕ) → length w ≡ stride * n → n ≤ 65535 → m ≡ length w → m′ ≡ m → l ≡ landingsOf w tries
+    → (m′ / stride ≤ 65535) × (length l ≡ m′ / stride + 1)
+fits-again w tries l n m m′ h few e f g =
+    let z : m′ / stride ≡ n = omega arith in
+    (omega arith, omega (arith, table-is w tries l g))

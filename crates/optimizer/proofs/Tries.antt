@@ -19,10 +19,11 @@ use Rattle.landings.specs.Landings.{handlerAt, jumpsTo, handledAt, landingsAt, 
 use Rattle.landings.proofs.Asked.{table-long, table-at}
 use Rattle.fold.specs.Plan.{chunk}
 use Rattle.fold.specs.Pass.{Bars, byScan}
-use Rattle.compact.specs.Remap.{alive, live, mapped}
-use Rattle.compact.specs.Tables.{operandOf, compacted, movedAll}
+use Rattle.positions.specs.Remap.{alive, live, mapped}
+use Rattle.compact.specs.Tables.{operandOf, compacted}
+use Rattle.positions.specs.Moved.{movedAll}
 use Rattle.compact.proofs.Left.{from, mark-left, operand-left, mark-past}
-use Rattle.compact.proofs.Mapped.{map-out, pair-kept, moved-long, moved-at}
+use Rattle.positions.proofs.Mapped.{map-out, pair-kept, moved-long, moved-at}
 use Rattle.phi_pass.specs.Phi.{marked}
 use Rattle.phi_pass.proofs.Pairs.{marked-length}
 use Rattle.finish.specs.Finish.{Tables, tables, mapOf, sourcesOf, renewed, finished}

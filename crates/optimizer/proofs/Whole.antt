@@ -26,10 +26,10 @@ use Rattle.fold.specs.Plan.{Chunk, chunk}
 use Rattle.landings.specs.Landings.{landingsOf, Unmarked}
 use Rattle.fold.specs.Pass.{Bars, byScan, byTable, foldAll, Lent}
 use Rattle.fold.proofs.Landed.{same-folds}
-use Rattle.compact.specs.Remap.{alive, live, Remap, mapped}
-use Rattle.compact.specs.Tables.{movedAll}
-use Rattle.compact.proofs.Moves.{remap-of}
-use Rattle.compact.proofs.Mapped.{none-moved}
+use Rattle.positions.specs.Remap.{alive, live, Remap, mapped}
+use Rattle.positions.specs.Moved.{movedAll}
+use Rattle.positions.proofs.Moves.{remap-of}
+use Rattle.positions.proofs.Mapped.{none-moved}
 use Rattle.phi_pass.specs.Phi.{marked}
 use Rattle.fold.proofs.Passed.{Passed, all-passed}
 use Rattle.finish.specs.Finish.{Tables, tables, mapOf, sourcesOf, renewed, finished, Fit}

@@ -14,8 +14,8 @@ use Rattle.lent.specs.declared.Lens.{Lens}
 use Rattle.fold.specs.Plan.{Chunk, chunk}
 use Rattle.landings.specs.Landings.{landingsOf, Unmarked}
 use Rattle.fold.specs.Pass.{Bars, byScan, foldAll}
-use Rattle.compact.specs.Remap.{alive, remapOf}
-use Rattle.compact.specs.Tables.{movedAll}
+use Rattle.positions.specs.Remap.{alive, remapOf}
+use Rattle.positions.specs.Moved.{movedAll}
 use Rattle.finish.specs.Finish.{Tables, tables, finished}
 use Rattle.optimizer.specs.declared.Folded.{Folded}
 

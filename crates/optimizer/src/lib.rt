@@ -5,7 +5,7 @@ ghost use lib.ListN.{length, replicate};
 ghost use Rattle.lent.specs.Chunk.{count};
 ghost use Rattle.fold.specs.Plan.{chunk};
 ghost use Rattle.fold.specs.Pass.{Lent, byTable};
-ghost use Rattle.compact.specs.Tables.{movedAll};
+ghost use Rattle.positions.specs.Moved.{movedAll};
 ghost use Rattle.optimizer.specs.Fold.{buffers, outcome, settled, foldLent, foldPass, Exact, Mapped};
 use finish::Left;
 use lent::Counts;
@@ -54,7 +54,7 @@ fn move_tries(tries: &mut [u32], dead: &[u8], remap: &[u32])
     if phi_pass::all_alive(dead) {
         return;
     }
-    compact::place_words(tries, dead, remap);
+    positions::place_words(tries, dead, remap);
 }
 
 // Folding, the Phi pass and compaction, over buffers that are as long as needed. The table of landings is filled first, and once more for the chunk

@@ -19,7 +19,7 @@ use Rattle.laws.proofs.Many.{many-more, many-few, counted-on}
 use Rattle.laws.proofs.Each.{each-more, each-word}
 use Rattle.laws.proofs.InPlace.{Walked, walk-none, walk-read, walk-two, walk-at, walk-as, walk-count, walk-whole, word-put}
 use Rattle.lent.specs.Chunk.{count, opAt, operandAt, isPhi}
-use Rattle.compact.specs.Remap.{alive}
+use Rattle.positions.specs.Remap.{alive}
 use Rattle.code.specs.Op.{Phi}
 use Rattle.phi_pass.specs.Phi.{paired, firstOf, secondOf, noop, markAt, marked, pairLeft, pairsLeft, spread, entryOf, indexed}
 

@@ -7,7 +7,7 @@ use lib.ListN.{length, getD}
 use Rattle.laws.specs.All.{many}
 use Rattle.laws.specs.Each.{each}
 use Rattle.lent.specs.Chunk.{count, operandAt, isPhi}
-use Rattle.compact.specs.Remap.{alive}
+use Rattle.positions.specs.Remap.{alive}
 
 -- the Phi at i has a pair: phi_map is not empty, and its index is not past phi_sources
 unfoldable pub paired : List ℕ → List ℕ → List ℕ → ℕ → Bool

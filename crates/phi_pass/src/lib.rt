@@ -7,7 +7,7 @@ ghost use Prim.Native.Nat.{_+_, _-_, _*_, _/_, _%_, _≤_, _<_};
 ghost use lib.ListN.{length, getD, take, replicate};
 ghost use Rattle.laws.specs.All.{every, many};
 ghost use Rattle.lent.specs.Chunk.{count, isPhi};
-ghost use Rattle.compact.specs.Remap.{alive};
+ghost use Rattle.positions.specs.Remap.{alive};
 ghost use Rattle.phi_pass.specs.Phi.{paired, firstOf, secondOf, noop, markAt, marked, pairsLeft, spread, entryOf, indexed};
 use code::op::Phi;
 
@@ -166,7 +166,7 @@ pub fn unpack(queue: &[u32], sources: &mut [u16], m: usize)
         sources[at + 1] = low(q);
         j += 1;
     }
-    compact::clear(sources, 2 * m);
+    positions::clear(sources, 2 * m);
 }
 
 // phi_map's entry for an instruction with `next` Phis before it.

@@ -6,20 +6,21 @@ use Rattle.laws.specs.Some.{some}
 use Rattle.laws.specs.Walk.{first}
 use Rattle.values.specs.Folds.{inRange, ints, foldBinop}
 use Rattle.chunk.specs.Pool.{toVal, constToVal, findOrPush, findOrPushConst}
-use Rattle.lent.specs.Chunk.{folds, rules}
+use Rattle.lent.specs.Chunk.{folds, rules, lands}
 use Rattle.lent.specs.Check.{checkOf, tablesOf, tallyOf, roomsOf, readyOf}
 use Rattle.code.specs.Check.{firstBadTry}
-use Rattle.landings.specs.Landings.{lands, barred}
+use Rattle.landings.specs.Landings.{barred}
 use Rattle.fold.specs.Plan as plan
 use Rattle.fold.specs.Plan.{kindOf, prevLive, skipsInto, blocked, tryFoldBinop, planFor, planAt}
 use Rattle.fold.specs.Pass.{constLoad, markOf, put, landed, applied, tryFold, folded, foldAll}
-use Rattle.compact.specs.Remap.{remapOf, mapped}
-use Rattle.compact.specs.Tables.{operandOf, left, compacted, placed}
+use Rattle.positions.specs.Remap.{remapOf, mapped}
+use Rattle.compact.specs.Tables.{operandOf, left, compacted}
+use Rattle.positions.specs.Moved.{placed}
 use Rattle.phi_pass.specs.Phi.{paired, noop, markAt, marked, pairsLeft, indexed}
 use Rattle.finish.specs.Finish.{sourcesAfter, renewed, finished}
 use Rattle.optimizer.specs.Fold.{foldPass, constantFold, joined, foldLent, rejoined, foldCall}
-use Rattle.clear.specs.Unused as unused
-use Rattle.clear.specs.Unused.{named, pooled, renumbered, recoded, numbered}
+use Rattle.named.specs.Unused as unused
+use Rattle.named.specs.Unused.{named, pooled, renumbered, recoded, numbered}
 use Rattle.clear.specs.Clear as clearing
 use Rattle.clear.specs.Clear.{cleared, clearCall}
 use Rattle.promised.specs.Late.{Late}

@@ -33,14 +33,15 @@ use Rattle.callee.specs.Answers.{globalAnswer}
 use Rattle.values.specs.Python.{floorDiv, floorMod, downDiv, downMod, shiftUp}
 use Rattle.values.specs.Folds.{inRange, divmod, quotient, remainder, shifted, ints, floats, foldBinop, foldNeg}
 use Rattle.chunk.specs.Pool.{toVal, constToVal, findOrPush, findOrPushConst}
-use Rattle.lent.specs.Chunk.{folds, rules as chunkRules}
+use Rattle.lent.specs.Chunk.{folds, rules as chunkRules, lands}
 use Rattle.lent.specs.Check.{checkOf as chunkCheckOf, tablesOf, tallyOf, roomsOf, readyOf}
 use Rattle.fold.specs.Plan as plan
-use Rattle.landings.specs.Landings.{lands, landsAny, handlesAny, barred}
+use Rattle.landings.specs.Landings.{landsAny, handlesAny, barred}
 use Rattle.fold.specs.Plan.{kindOf, prevLive, skipsInto, blocked, foldUnary, tryFoldBinop, tryFoldUnary, planFor, planAt}
 use Rattle.fold.specs.Pass.{constLoad, put, landed, applied, tryFold, folded, foldAll}
-use Rattle.compact.specs.Remap.{remapOf, mapped}
-use Rattle.compact.specs.Tables.{operandOf, left, compacted, placed}
+use Rattle.positions.specs.Remap.{remapOf, mapped}
+use Rattle.compact.specs.Tables.{operandOf, left, compacted}
+use Rattle.positions.specs.Moved.{placed}
 use Rattle.phi_pass.specs.Phi.{paired, noop, markAt, marked as phisMarked, pairsLeft, indexed}
 use Rattle.finish.specs.Finish.{sourcesAfter, renewed, finished}
 use Rattle.optimizer.specs.Fold.{foldPass, constantFold, joined, foldLent, rejoined, foldCall}

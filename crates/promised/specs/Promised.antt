@@ -49,7 +49,7 @@ use Rattle.fold.specs.Plan.{Chunk, kindOf}
 use Rattle.landings.specs.Landings.{landingsOf, Unmarked}
 use Rattle.fold.specs.Pass.{Bars, byScan, byTable, folded, foldAll}
 use Rattle.optimizer.specs.Fold as fold
-use Rattle.clear.specs.Unused.{AllNear, named}
+use Rattle.named.specs.Unused.{AllNear, named}
 use Rattle.clear.specs.Clear as clearing
 use Rattle.refold.specs.Lending.{Lending, leaving}
 use Rattle.refold.specs.Lendable.{Lendable}

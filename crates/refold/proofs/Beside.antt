@@ -17,8 +17,9 @@ use Rattle.landings.specs.Landings.{landingsOf}
 use Rattle.landings.proofs.Kept.{landings-same}
 use Rattle.lent.specs.Chunk.{stride, count, opAt, markAt, operandAt, jumps, names, isPhi}
 use Rattle.fold.specs.Plan.{Chunk}
-use Rattle.compact.specs.Remap.{alive, live, remapOf, mapped}
-use Rattle.compact.specs.Tables.{operandOf, wordsOf, leftAt, left, compacted, placed}
+use Rattle.positions.specs.Remap.{alive, live, remapOf, mapped}
+use Rattle.compact.specs.Tables.{operandOf, wordsOf, leftAt, left, compacted}
+use Rattle.positions.specs.Moved.{placed}
 use Rattle.phi_pass.specs.Phi.{paired, noop, markAt as phiMark, marked, pairLeft, pairsLeft, indexed}
 use Rattle.lent.proofs.Counting.{many-ext}
 use Rattle.clear.proofs.Alike.{Loads, Alike}

@@ -11,7 +11,7 @@ use Rattle.lent.specs.declared.Lens.{Lens}
 use Rattle.optimizer.specs.Fold.{lensOf}
 use Rattle.optimizer.specs.declared.Folded.{Folded}
 use Rattle.clear.specs.Clear as clearing
-use Rattle.clear.specs.Unused.{named, before, pooled}
+use Rattle.named.specs.Unused.{named, before, pooled}
 use Rattle.clear.proofs.Answers.{answered-call, answered}
 use Rattle.clear.proofs.Accepts.{accepted-after}
 use Rattle.clear.proofs.Kept.{pooled-length}

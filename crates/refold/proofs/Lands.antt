@@ -15,8 +15,8 @@ use Rattle.lent.specs.Chunk.{stride, count, markAt, operandAt, jumps}
 use Rattle.lent.specs.declared.Counts.{Counts}
 use Rattle.lent.proofs.Counting.{many-ext}
 use Rattle.landings.specs.Landings.{jumpsTo, handledAt, landingsAt}
-use Rattle.compact.specs.Remap.{alive, live}
-use Rattle.compact.specs.Tables.{movedAll}
+use Rattle.positions.specs.Remap.{alive, live}
+use Rattle.positions.specs.Moved.{movedAll}
 use Rattle.compact.proofs.Left.{mark-past}
 use Rattle.phi_pass.specs.Phi.{marked}
 use Rattle.phi_pass.proofs.Pairs.{marked-length}

@@ -32,9 +32,9 @@ use Rattle.fold.specs.Plan.{Chunk, chunk}
 use Rattle.landings.specs.Landings.{landingsOf}
 use Rattle.landings.proofs.Asked.{table-long}
 use Rattle.fold.specs.Pass.{Bars, byScan, foldAll, Lent}
-use Rattle.compact.specs.Remap.{alive}
-use Rattle.compact.specs.Tables.{movedAll}
-use Rattle.compact.proofs.Mapped.{moved-long, none-moved}
+use Rattle.positions.specs.Remap.{alive}
+use Rattle.positions.specs.Moved.{movedAll}
+use Rattle.positions.proofs.Mapped.{moved-long, none-moved}
 use Rattle.finish.specs.Finish.{Tables, tables, finished, Fit}
 use Rattle.optimizer.specs.Fold.{Buffers, lensOf, needed, sourcesNeeded, Outcome, outcome, foldPass, constantFold, joined}
 use Rattle.optimizer.specs.Fold.{foldLent, Called, rejoined, foldCall, Held, Exact}

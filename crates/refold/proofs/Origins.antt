@@ -20,7 +20,7 @@ use Rattle.fold.specs.declared.Loaded.the-variants.{As, No}
 use Rattle.fold.specs.declared.Plan.{Plan}
 use Rattle.fold.specs.declared.Plan.the-variants.{Stay, Put}
 use Rattle.fold.proofs.Put.{put-origin}
-use Rattle.compact.specs.Remap.{alive, live}
+use Rattle.positions.specs.Remap.{alive, live}
 use Rattle.compact.proofs.Left.{live-less, from, origin-left}
 use Rattle.phi_pass.specs.Phi.{marked}
 use Rattle.phi_pass.proofs.Pairs.{marked-length}

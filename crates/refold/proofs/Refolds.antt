@@ -19,11 +19,11 @@ use Rattle.lent.specs.declared.Tally.{Tally}
 use Rattle.fold.specs.Plan.{Chunk}
 use Rattle.landings.specs.Landings.{landingsOf}
 use Rattle.fold.specs.Pass.{byScan, foldAll}
-use Rattle.compact.specs.Tables.{movedAll}
+use Rattle.positions.specs.Moved.{movedAll}
 use Rattle.finish.specs.Finish.{Tables, tables, finished}
 use Rattle.optimizer.specs.Fold.{Buffers, buffers, lensOf, needed, sourcesNeeded, foldPass, constantFold, joined}
 use Rattle.optimizer.specs.declared.Folded.{Folded}
-use Rattle.clear.specs.Unused.{AllNear, named, before as number, pooled, recoded, loaded}
+use Rattle.named.specs.Unused.{AllNear, named, before as number, pooled, recoded, loaded}
 use Rattle.clear.specs.Clear as clearing
 use Rattle.clear.proofs.Answers.{answered-call, answered}
 use Rattle.clear.proofs.Accepts.{tally-same, countsAfter, accepted-after}

@@ -19,8 +19,9 @@ use Rattle.laws.proofs.Each.{each-at, each-length, each-word}
 use Rattle.laws.proofs.Many.{many-few, many-fewer, many-more}
 use Rattle.code.specs.Op.{Phi}
 use Rattle.lent.specs.Chunk.{stride, count, opAt, folds, isPhi}
-use Rattle.compact.specs.Remap.{alive, live, remapOf}
-use Rattle.compact.specs.Tables.{wordsOf, leftAt, left, compacted, pairAt, placed}
+use Rattle.positions.specs.Remap.{alive, live, remapOf}
+use Rattle.compact.specs.Tables.{wordsOf, leftAt, left, compacted}
+use Rattle.positions.specs.Moved.{pairAt, placed}
 use Rattle.phi_pass.specs.Phi.{paired, firstOf, secondOf, markAt as phiMark, marked, pairLeft, pairsLeft, indexed}
 use Rattle.phi_pass.proofs.Pairs.{marked-length, dead-stays}
 use Rattle.lent.proofs.Counting.{many-ext}

@@ -16,7 +16,7 @@ use Rattle.laws.proofs.Branch.{and-true}
 use Rattle.laws.proofs.Many.{bit-small, many-fewer}
 use Rattle.code.specs.Op.{LoadConst, LoadTrue, LoadFalse}
 use Rattle.lent.specs.Chunk.{count, opAt, folds}
-use Rattle.compact.specs.Remap.{alive}
+use Rattle.positions.specs.Remap.{alive}
 use Rattle.values.specs.declared.Val.{Val}
 use Rattle.values.specs.declared.Val.the-variants.{Int, Float as Real, Bool as Truth}
 use Rattle.chunk.specs.Pool.{Stored, findOrPushConst}

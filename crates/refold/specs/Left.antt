@@ -12,8 +12,8 @@ use Rattle.lent.specs.Chunk.{stride, count}
 use Rattle.lent.specs.Check.{constantRoom, tallyOf}
 use Rattle.lent.specs.declared.Counts.{Counts}
 use Rattle.landings.specs.Landings.{landingsAt, landingsOf}
-use Rattle.compact.specs.Remap.{alive}
-use Rattle.compact.specs.Tables.{movedAll}
+use Rattle.positions.specs.Remap.{alive}
+use Rattle.positions.specs.Moved.{movedAll}
 use Rattle.fold.specs.declared.Kind.{Kind}
 use Rattle.fold.specs.declared.Kind.the-variants.{Binop, Not, Minus, Other}
 use Rattle.optimizer.specs.Fold.{Buffers, buffers, sourcesNeeded, Called}

@@ -5,7 +5,7 @@ use mathlib.Core.Bool.{true}
 use mathlib.Core.List.{List}
 use lib.ListN.{take}
 use Rattle.lent.specs.Chunk.{count, originAt}
-use Rattle.compact.specs.Remap.{alive, live}
+use Rattle.positions.specs.Remap.{alive, live}
 use Rattle.optimizer.specs.Fold.{Buffers}
 use Rattle.optimizer.specs.declared.Folded.{Folded}
 

@@ -8,7 +8,7 @@ use Rattle.lent.specs.Chunk.{opAt, markAt, operandAt, names}
 use Rattle.lent.specs.declared.Counts.{Counts}
 use Rattle.optimizer.specs.Fold.{Buffers}
 use Rattle.optimizer.specs.declared.Folded.{Folded}
-use Rattle.clear.specs.Unused.{loaded}
+use Rattle.named.specs.Unused.{loaded}
 use Rattle.clear.specs.Clear as clearing
 use Rattle.clear.specs.Clear.{clearCall}
 use Rattle.refold.specs.Lending.{Lending, Folds}

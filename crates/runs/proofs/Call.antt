@@ -18,7 +18,7 @@ use Rattle.lent.proofs.Counting.{every-at, zeros-at}
 use Rattle.fold.specs.Plan.{Chunk, chunk}
 use Rattle.fold.specs.Pass.{Bars, byScan, foldAll, Lent}
 use Rattle.fold.proofs.Passed.{all-passed}
-use Rattle.compact.specs.Remap.{alive, live}
+use Rattle.positions.specs.Remap.{alive, live}
 use Rattle.compact.specs.Tables.{compacted}
 use Rattle.phi_pass.specs.Phi.{paired, noop, markAt, marked}
 use Rattle.finish.specs.Finish.{Tables, tables, mapOf, sourcesOf, renewed, finished}

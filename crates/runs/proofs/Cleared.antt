@@ -15,7 +15,7 @@ use Rattle.lent.specs.Chunk.{count, opAt, markAt, operandAt, names}
 use Rattle.lent.specs.Tables.{constantsKept, tableOf}
 use Rattle.lent.specs.Check.{checkOf}
 use Rattle.fold.specs.Plan.{kindOf}
-use Rattle.clear.specs.Unused.{named, before, pooled, recoded}
+use Rattle.named.specs.Unused.{named, before, pooled, recoded}
 use Rattle.clear.specs.Clear as clearing
 use Rattle.clear.specs.Clear.{Is, No, readyOf, clearCall}
 use Rattle.clear.proofs.Answers.{refused-call, answered}

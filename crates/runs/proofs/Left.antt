@@ -17,11 +17,11 @@ use Rattle.chunk.specs.Pool.{toVal}
 use Rattle.fold.specs.declared.Kind.{Kind}
 use Rattle.fold.specs.declared.Kind.the-variants.{Binop, Not, Minus, Other}
 use Rattle.fold.specs.Plan.{kindOf}
-use Rattle.compact.specs.Remap.{live, mapped}
+use Rattle.positions.specs.Remap.{live, mapped}
 use Rattle.compact.specs.Tables.{operandOf, compacted}
-use Rattle.compact.proofs.Moves.{live-on, live-off}
+use Rattle.positions.proofs.Moves.{live-on, live-off}
 use Rattle.compact.proofs.Left.{live-less, from, op-left, mark-left, operand-left}
-use Rattle.compact.proofs.Mapped.{map-in, map-past}
+use Rattle.positions.proofs.Mapped.{map-in, map-past}
 use Rattle.runs.specs.Machine.{Value, Known, Ins, Push, Apply, Jump, JumpIfFalse, pushOf, plain, read, ins, Plain}
 use Rattle.runs.specs.Rule.{known, Ruled}
 use Rattle.runs.proofs.Pack.{turn, Moved, gone, kept as stays, Packed}

@@ -25,7 +25,7 @@ use Rattle.fold.specs.Plan.{Chunk, chunk, kindOf, foldUnary, planAt}
 use Rattle.fold.specs.Pass.{constLoad, put, landed, applied, tryFold, Bars, folded, Ready, Lent}
 use Rattle.fold.proofs.Planned.{planned}
 use Rattle.fold.proofs.Grown.{Held, held-none, held-ready, held-more}
-use Rattle.compact.specs.Remap.{alive}
+use Rattle.positions.specs.Remap.{alive}
 use Rattle.runs.specs.Machine.{Known, Stack, Ins, Apply, Pass, End, At, act, Run, ends, stops, goes, read, ins}
 use Rattle.runs.specs.Kept.{Strict}
 use Rattle.runs.proofs.Good.{Good, good-of, binop-good}

@@ -12,7 +12,7 @@ use Rattle.lent.specs.Chunk.{count, opAt}
 use Rattle.landings.specs.Landings.{landsAny, handlesAny, barred}
 use Rattle.fold.specs.Plan.{Chunk}
 use Rattle.fold.specs.Pass.{Bars, byScan, folded, foldAll}
-use Rattle.compact.specs.Remap.{live, mapped}
+use Rattle.positions.specs.Remap.{live, mapped}
 use Rattle.compact.specs.Tables.{compacted}
 use Rattle.runs.specs.Machine.{End, Run}
 use Rattle.runs.specs.Rule.{known, Ruled}
@@ -20,7 +20,7 @@ use Rattle.runs.specs.Kept.{Ends, Same, Strict, Fresh}
 use Rattle.runs.proofs.Step.{living, living-on, codeOf, Fine}
 use Rattle.runs.proofs.Pass.{alike, Passed, pass}
 use Rattle.runs.proofs.Pack.{pack, unpack}
-use Rattle.compact.proofs.Mapped.{map-in}
+use Rattle.positions.proofs.Mapped.{map-in}
 use Rattle.runs.proofs.Left.{packed, ruled-left}
 
 -- alike, and alike again

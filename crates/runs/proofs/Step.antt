@@ -11,8 +11,8 @@ use lib.Seq.{getD-set-same, getD-set-other}
 use borrow.Author.Tests.{ltb-false, leb-false, eqb-true, eqb-false, eq-eqb, ne-eqb}
 use Rattle.laws.proofs.Some.{passes-at}
 use Rattle.code.specs.Op as op
-use Rattle.lent.specs.Chunk.{stride, count, opAt, operandAt, jumps}
-use Rattle.landings.specs.Landings.{lands, landsAny}
+use Rattle.lent.specs.Chunk.{stride, count, opAt, operandAt, jumps, lands}
+use Rattle.landings.specs.Landings.{landsAny}
 use Rattle.values.specs.declared.Val.{Val}
 use Rattle.values.specs.declared.Val.the-variants.{Int, Float as Real, Bool as Truth}
 use Rattle.values.specs.declared.Op.{Op}
@@ -25,7 +25,7 @@ use Rattle.fold.specs.declared.Kind.the-variants.{Binop, Not, Minus, Other}
 use Rattle.fold.specs.Plan.{Chunk, chunk, page, kindOf, operandOf, foldUnary}
 use Rattle.fold.specs.Pass.{put}
 use Rattle.fold.proofs.Put.{put-long, put-other, operand-other, jump-other, put-here, operand-here, jump-here}
-use Rattle.compact.specs.Remap.{alive}
+use Rattle.positions.specs.Remap.{alive}
 use Rattle.runs.specs.Machine.{Value, Known, Stack, truth, Ins, Push, Apply, Jump, JumpIfFalse, Pass, At, answer, apply, act, binopV, negV, pushOf}
 use Rattle.runs.specs.Machine.{plain, read, ins, Plain, End, Run}
 use Rattle.runs.specs.Rule.{known}

@@ -2,7 +2,7 @@
 use borrow.Author.Needs.{needs}
 use Prim.Native.Nat.{_≤_, _-_}
 use lib.ListN.{length}
-use Rattle.compact.proofs.Moves.{Cleared, cleared-none, cleared-more, cleared-same, cleared-whole}
+use Rattle.positions.proofs.Moves.{Cleared, cleared-none, cleared-more, cleared-same, cleared-whole}
 use Rattle.optimizer.proofs.Whole.{cleared}
 use Rattle.optimizer.proofs.clear_marks.Statement.{statement}
 use Rattle.optimizer.proofs.clear_marks.Tie as tie

@@ -5,7 +5,7 @@ use mathlib.Core.Bool.{true}
 use Prim.Native.Nat.{_≤_, _-_}
 use Rattle.laws.specs.All.{every}
 use Rattle.laws.proofs.Every.{all}
-use Rattle.compact.specs.Remap.{alive}
+use Rattle.positions.specs.Remap.{alive}
 use Rattle.phi_pass.proofs.all_alive.Statement.{statement}
 use Rattle.phi_pass.proofs.all_alive.Tie as tie
 

@@ -1,0 +1,2 @@
+pub mod Remap
+pub mod Moved

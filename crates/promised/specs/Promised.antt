@@ -77,7 +77,7 @@ use Rattle.steps.specs.Code.{flow}
 use Rattle.levels.specs.Answers.{levelAnswer}
 use Rattle.area.specs.Area.{freeOf, putIn}
 use Rattle.saver.specs.Saver.{Saver, Back, returned, thrown, regsOf, usedOf}
-use Rattle.saver.specs.Frames.{fileOf, Sound, Open}
+use Rattle.frames.specs.Frames.{fileOf, Sound, Open}
 use Rattle.figures.specs.Figures.{bodyFigures}
 use Rattle.figures.specs.Answers.{reports, addCall, joinCall}
 use Rattle.figures.specs.Month.{Body, reportOf}

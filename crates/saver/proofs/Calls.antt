@@ -5,10 +5,12 @@ use Prim.Native.Nat.{ℕ, _+_, _*_, _/_, _≤_, _<_}
 use native.Mathlib.Omega.{arith}
 use borrow.Author.Tests.{lt-ltb, le-ltb}
 use lib.ListN.{length, getD, set}
-use Rattle.area.specs.Area.{firstStrange, freeOf, needOf, Fit, Stored, putIn, putBack, topOf}
+use Rattle.lists.specs.Lists.{firstStrange}
+use Rattle.area.specs.Area.{freeOf, needOf, Fit, Stored, putIn, putBack, topOf}
 use Rattle.area.specs.declared.Top.{Top}
 use Rattle.area.specs.declared.Top.the-variants.{Entry, Bare}
-use Rattle.area.proofs.Calls.{all-in, top-within}
+use Rattle.lists.proofs.Lists.{all-in}
+use Rattle.area.proofs.Calls.{top-within}
 use Rattle.saver.specs.Saver.{saver, ends, Back, returned, written, Made, enterOf, leftBy, leaveOf}
 use Rattle.saver.specs.declared.SaverAnswer.the-variants.{Used, Registers, Listed, Full, Nothing}
 

@@ -6,7 +6,8 @@ use mathlib.Core.List.{List}
 use lib.Dec.{ltb}
 use lib.ListN.{length, getD, set}
 use lib.Seq.{sets}
-use Rattle.area.specs.Area.{firstStrange, freeOf, needOf, entryOf, putIn, putBack, topOf}
+use Rattle.lists.specs.Lists.{firstStrange}
+use Rattle.area.specs.Area.{freeOf, needOf, entryOf, putIn, putBack, topOf}
 use Rattle.saver.specs.declared.SaverAnswer.{SaverAnswer}
 use Rattle.saver.specs.declared.SaverAnswer.the-variants.{Used, Registers, Listed, Full, Nothing}
 use Rattle.area.specs.declared.Top.{Top}

@@ -13,7 +13,7 @@ use Rattle.steps.specs.Level.{isLevel}
 use Rattle.kept.specs.Level.{resumeOf, resultAt}
 use Rattle.saver.specs.Saver.{Saver, regsOf}
 use Rattle.saver.specs.Saver as saver
-use Rattle.saver.specs.Frames.{fileOf, Sound}
+use Rattle.frames.specs.Frames.{fileOf, Sound}
 use Rattle.saved.specs.Calls.{Entered}
 use Rattle.turniploom.specs.Answers.{LeaveTold}
 use Rattle.nested.specs.Machine.{Event, step, back, thrown}

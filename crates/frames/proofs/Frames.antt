@@ -10,10 +10,12 @@ use lib.Dec.{ltb}
 use lib.ListN.{length, getD, take, drop, set, length-set, length-append, take-append-drop}
 use lib.Seq.{sets, sets-eq, length-sets, getD-set-same, getD-set-other, getD-at, take-at, take-take, length-take-le}
 use Rattle.area.specs.Area.{freeOf, needOf}
-use Rattle.saver.specs.Saver.{Saver, saver, Ends, ends, Back, regsOf, usedOf}
+use Rattle.saver.specs.Saver.{Saver, saver, Ends, ends, regsOf, usedOf}
+use Rattle.leaves.specs.Leaving.{Back}
 use Rattle.lists.specs.Lists.{firstStrange}
 use Rattle.area.specs.Area.{pairsOf, entryOf, putBack, topOf}
-use Rattle.saver.specs.Saver.{written, entered, enterOf, leftBy, leaveOf}
+use Rattle.saver.specs.Saver.{entered, enterOf}
+use Rattle.leaves.specs.Leaving.{written, leftBy, leaveOf}
 use Rattle.frames.specs.Frames.{Sound, Event, enters, writes, leaves, restored, Play, done, enter, write, leave, Matched, none, over, frame, Same}
 use Rattle.saver.specs.declared.SaverAnswer.{SaverAnswer}
 use Rattle.saver.specs.declared.SaverAnswer.the-variants.{Used, Registers, Listed, Full}

@@ -8,9 +8,11 @@ use lib.Dec.{ltb}
 use lib.ListN.{length, getD, take, set, length-set}
 use lib.Seq.{take-take, getD-set-same, getD-set-other}
 use Rattle.area.specs.Area.{needOf}
-use Rattle.saver.specs.Saver.{Saver, saver, Ends, ends, Back, regsOf, usedOf}
+use Rattle.saver.specs.Saver.{Saver, saver, Ends, ends, regsOf, usedOf}
+use Rattle.leaves.specs.Leaving.{Back}
 use Rattle.area.specs.Area.{entryOf, putIn, putBack, topOf}
-use Rattle.saver.specs.Saver.{written, madeHead, enterOf, leftBy, leaveOf}
+use Rattle.saver.specs.Saver.{madeHead, enterOf}
+use Rattle.leaves.specs.Leaving.{written, leftBy, leaveOf}
 use Rattle.frames.specs.Frames.{Sound, Open, made, entered, overwritten, left}
 use Rattle.saver.specs.declared.SaverAnswer.the-variants.{Used, Nothing}
 use Rattle.area.specs.declared.Top.{Top}

@@ -17,7 +17,8 @@ use Rattle.flow.specs.Kept.{Level}
 use Rattle.flow.specs.Demand.{Agree, AgreeOn, Alike, Keeps}
 use Rattle.flow.proofs.Bits.{bit-zero, pow-other}
 use Rattle.area.specs.Area.{freeOf, putIn}
-use Rattle.saver.specs.Saver.{Saver, Ends, Back, returned, thrown, regsOf, usedOf, written, enterOf, leaveOf}
+use Rattle.saver.specs.Saver.{Saver, Ends, regsOf, usedOf, enterOf}
+use Rattle.leaves.specs.Leaving.{Back, returned, thrown, written, leaveOf}
 use Rattle.frames.specs.Frames.{fileOf, restored, Sound, Event, Play, Matched, Same}
 use Rattle.saver.specs.declared.SaverAnswer.the-variants.{Used}
 use Rattle.frames.proofs.Words.{in-length, in-same, in-other, back-length, back-kept, written-length}

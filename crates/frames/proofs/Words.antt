@@ -11,7 +11,7 @@ use lib.Dec.{ltb}
 use lib.ListN.{length, getD, take, drop, set, length-set, length-append}
 use lib.Seq.{getD-set-same, getD-set-other, getD-at}
 use Rattle.area.specs.Area.{pairsOf, entryOf, putIn, putBack}
-use Rattle.saver.specs.Saver.{Back, returned, thrown, written}
+use Rattle.leaves.specs.Leaving.{Back, returned, thrown, written}
 use Rattle.frames.specs.Frames.{restored}
 
 pub pairs-length : (file l : List ℕ) → length (pairsOf file l) ≡ 2 * length l

@@ -4,7 +4,8 @@ use mathlib.Core.Path.{_≡_}
 use mathlib.Core.List.{List, [], _∷_, _++_}
 use lib.ListN.{length, getD, take}
 use Rattle.area.specs.Area.{putIn}
-use Rattle.saver.specs.Saver.{Saver, saver, Back, regsOf, usedOf, enterOf, leaveOf}
+use Rattle.saver.specs.Saver.{Saver, saver, regsOf, usedOf, enterOf}
+use Rattle.leaves.specs.Leaving.{Back, leaveOf}
 use Rattle.saver.specs.declared.SaverAnswer.the-variants.{Used}
 
 -- the register file: as many entries as the saver was made for

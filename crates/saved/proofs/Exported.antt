@@ -26,7 +26,8 @@ use Rattle.kept.specs.Level.{resumeOf, resultAt}
 use Rattle.kept.specs.Lists.{partAt}
 use Rattle.levels.specs.Answers.{levelTold, levelAnswer}
 use Rattle.area.specs.Area.{freeOf, putIn}
-use Rattle.saver.specs.Saver.{Saver, saver, madeHead, Ends, ends, Back, returned, thrown, regsOf, usedOf, entered, enterOf, leaveOf}
+use Rattle.saver.specs.Saver.{Saver, saver, madeHead, Ends, ends, regsOf, usedOf, entered, enterOf}
+use Rattle.leaves.specs.Leaving.{Back, returned, thrown, leaveOf}
 use Rattle.frames.specs.Frames.{fileOf, Sound, Event, Play, Matched, Open, done, enter, write, leave}
 use Rattle.saver.specs.Answers.{saverTold}
 use Rattle.saver.specs.declared.SaverAnswer.{SaverAnswer}

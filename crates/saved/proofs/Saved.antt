@@ -21,7 +21,8 @@ use Rattle.kept.specs.declared.KeptAnswer.the-variants.{Is}
 use Rattle.kept.proofs.Demand.{demand-3, kept-each-once}
 use Rattle.lists.specs.Lists.{firstStrange}
 use Rattle.area.specs.Area.{freeOf, needOf, putIn}
-use Rattle.saver.specs.Saver.{Saver, ends, returned, thrown, regsOf, usedOf, entered, enterOf, leaveOf}
+use Rattle.saver.specs.Saver.{Saver, ends, regsOf, usedOf, entered, enterOf}
+use Rattle.leaves.specs.Leaving.{returned, thrown, leaveOf}
 use Rattle.frames.specs.Frames.{fileOf, Sound, Event, Play, Matched}
 use Rattle.saver.specs.declared.SaverAnswer.the-variants.{Used, Full}
 use Rattle.frames.proofs.Listed.{fine-list}

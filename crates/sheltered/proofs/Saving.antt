@@ -22,8 +22,9 @@ use Rattle.flow.proofs.Steps.{wrote-kept, wrote-new}
 use Rattle.steps.specs.Code.{setOf}
 use Rattle.steps.specs.Level.{isLevel}
 use Rattle.kept.specs.Level.{resumeOf, resultAt}
-use Rattle.saver.specs.Saver.{Saver, Back, returned, regsOf, enterOf, leaveOf}
-use Rattle.saver.specs.Saver as saver
+use Rattle.saver.specs.Saver.{Saver, regsOf, enterOf}
+use Rattle.leaves.specs.Leaving.{Back, returned, leaveOf}
+use Rattle.leaves.specs.Leaving as saver
 use Rattle.frames.specs.Frames as frames
 use Rattle.frames.specs.Frames.{fileOf, Sound, Same, Play, Matched}
 use Rattle.saver.specs.declared.SaverAnswer.the-variants.{Used}

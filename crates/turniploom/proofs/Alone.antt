@@ -25,7 +25,8 @@ use Rattle.lent.specs.declared.Counts.{Counts}
 use Rattle.optimizer.specs.Fold.{Buffers, Called}
 use Rattle.clear.specs.Clear as clearing
 use Rattle.turniploom.specs.Answers.{By, filledTold, truthTold, keptTold, foldTold, TargetsTold, LoopsTold, DeadTold, GenTold, NeededTold, ListsTold, FoldTold, clearTold, ClearTold, MadeTold, EnterTold, LeaveTold, ReplayTold, countTold, ExposedTold}
-use Rattle.saver.specs.Saver.{Saver, Back, Ends}
+use Rattle.saver.specs.Saver.{Saver, Ends}
+use Rattle.leaves.specs.Leaving.{Back}
 use Rattle.saver.specs.Answers.{saverTold}
 use Rattle.day.specs.Answers.{dayTold}
 use Rattle.day.proofs.Alone.{one-day}

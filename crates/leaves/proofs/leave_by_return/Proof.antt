@@ -1,10 +1,9 @@
--- `saver::leave_by_return` meets its contract. Assumes nothing.
+-- `leaves::leave_by_return` meets its contract. Assumes nothing.
 use borrow.Author.Needs.{needs}
-use Rattle.saver.proofs.Calls.{leavings, leave-within}
-use Rattle.saver.proofs.Calls.{leavings}
-use Rattle.saver.specs.Saver.{returned}
-use Rattle.saver.proofs.leave_by_return.Statement.{statement}
-use Rattle.saver.proofs.leave_by_return.Tie as tie
+use Rattle.leaves.proofs.Leavings.{leavings, leave-within}
+use Rattle.leaves.specs.Leaving.{returned}
+use Rattle.leaves.proofs.leave_by_return.Statement.{statement}
+use Rattle.leaves.proofs.leave_by_return.Tie as tie
 
 element-copy-out-regs : tie.Need-element-copy-out-regs
 element-copy-out-regs c = search needs

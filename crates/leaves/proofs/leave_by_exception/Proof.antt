@@ -1,10 +1,9 @@
--- `saver::leave_by_exception` meets its contract. Assumes nothing.
+-- `leaves::leave_by_exception` meets its contract. Assumes nothing.
 use borrow.Author.Needs.{needs}
-use Rattle.saver.proofs.Calls.{leavings, leave-within}
-use Rattle.saver.proofs.Calls.{leavings}
-use Rattle.saver.specs.Saver.{thrown}
-use Rattle.saver.proofs.leave_by_exception.Statement.{statement}
-use Rattle.saver.proofs.leave_by_exception.Tie as tie
+use Rattle.leaves.proofs.Leavings.{leavings, leave-within}
+use Rattle.leaves.specs.Leaving.{thrown}
+use Rattle.leaves.proofs.leave_by_exception.Statement.{statement}
+use Rattle.leaves.proofs.leave_by_exception.Tie as tie
 
 element-copy-out-regs : tie.Need-element-copy-out-regs
 element-copy-out-regs c = search needs

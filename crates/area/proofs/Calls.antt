@@ -1,53 +1,16 @@
 -- What each function's answers rest on: one law for each way out. Assumes nothing.
 use mathlib.Core.Path.{_≡_, refl, sym, ap, ap₂, _∙_}
-use mathlib.Core.Bool.{Bool, true, false, cond, _||_}
+use mathlib.Core.Bool.{Bool, true, false, cond}
 use mathlib.Core.List.{List, [], _∷_, _++_}
 use Prim.Native.Nat.{ℕ, suc, _+_, _-_, _*_, _/_, _≤_, _<_, zero-le}
 use native.Mathlib.Numerals.{add-one}
 use native.Mathlib.Omega.{arith}
-use borrow.Author.Tests.{lt-ltb, le-ltb, eq-eqb, ne-eqb, leb-false, ltb-false}
-use lib.Dec.{ltb, leb, eqb}
+use borrow.Author.Tests.{lt-ltb, le-ltb, ltb-false}
+use lib.Dec.{ltb}
 use lib.ListN.{length, getD, drop, set, length-drop}
 use lib.Seq.{sets, drop-cons}
-use Rattle.laws.specs.Some.{some}
-use Rattle.laws.specs.Walk.{first}
-use Rattle.laws.proofs.Some.{passes-at, some-more, nowhere-yet, nowhere}
-use Rattle.laws.proofs.Walk.{none-passed}
-use Rattle.area.specs.Area.{strange, firstStrange, pairsOf, entryOf, Fit, Stored, putIn, putBack, topOf}
-use Rattle.area.specs.declared.Top.{Top}
+use Rattle.area.specs.Area.{pairsOf, entryOf, Fit, Stored, putIn, putBack, topOf}
 use Rattle.area.specs.declared.Top.the-variants.{Entry, Bare}
-
--- ---- listed before
-
-abbrev pub as-at : List ℕ → ℕ → ℕ → Bool
-as-at l i = λ j. eqb (getD l j 0) (getD l i 0)
-
-module _ (l : List ℕ) (i : ℕ) where
-  pub before-none : some (as-at l i) 0 ≡ false
-  before-none = nowhere-yet (as-at l i)
-
-  pub before-yes : (j : ℕ) → j < i → getD l j 0 ≡ getD l i 0 → true ≡ some (λ j. eqb (getD l j 0) (getD l i 0)) i
-  before-yes j h e = sym (passes-at (as-at l i) j i h (eq-eqb (getD l j 0) (getD l i 0) e))
-
-  pub before-on : (j : ℕ) → (getD l j 0 ≡ getD l i 0 → ⊥) → some (as-at l i) j ≡ false → some (as-at l i) (j + 1) ≡ false
-  before-on j n e = rw (some-more (as-at l i) j, e, ne-eqb (getD l j 0) (getD l i 0) n)
-
-  pub before-no : (j : ℕ) → i ≤ j → j ≤ i → some (as-at l i) j ≡ false → false ≡ some (λ j. eqb (getD l j 0) (getD l i 0)) i
-  before-no j h k e = nowhere (as-at l i) j i h k e
-
-pub strange-is : (regs : ℕ) (l : List ℕ) (i r : ℕ) (t : Bool) → r ≡ getD l i 0 → t ≡ some (λ j. eqb (getD l j 0) (getD l i 0)) i
-    → leb regs r || t ≡ strange regs l i
-strange-is regs l i r t e f = ap₂ (λ (x : ℕ) (y : Bool). leb regs x || y) e f
-
--- where no place is strange, each register is in the file
-pub all-in : (regs : ℕ) (l : List ℕ) → length l ≤ firstStrange regs l → (i : ℕ) → i < length l → getD l i 0 < regs
-unfolding firstStrange
-all-in regs l h i k = leb-false regs (getD l i 0)
-    (left (leb regs (getD l i 0)) (some (as-at l i) i) (none-passed (strange regs l) i (length l) 0 (omega arith) zero-le (omega arith)))
-  where
-    left : (a b : Bool) → a || b ≡ false → a ≡ false
-    left true b e = e
-    left false b e = refl
 
 -- ---- an entry is being stored
 
@@ -63,12 +26,6 @@ module _ (file l : List ℕ) (q : ℕ) (old : List ℕ) (at : ℕ) where
   storing-start f = record { le = zero-le; here = omega arith; fit = f; so = refl }
 
   module _ (out : List ℕ) (p i : ℕ) (s : Storing file l q old at out p i) where
-    pub storing-room : i < length l → p + 3 < 4096
-    storing-room h = omega (arith, s .here, s .fit .room)
-
-    pub storing-last : p + 1 < 4096
-    storing-last = omega (arith, s .here, s .le, s .fit .room)
-
     pub storing-reg : i < length l → getD l i 0 < 64
     storing-reg h = s .fit .below i h
 

@@ -1,23 +1,13 @@
--- The save area (document 02, wish 4): which lists it takes, what an entry stores, the newest entry, registers put back. Assumes nothing.
+-- The save area (document 02, wish 4): what an entry stores, the newest entry, registers put back. Assumes nothing.
 use Prim.Native.Nat.{ℕ, zero, suc, _+_, _-_, _*_, _/_, _<_, _≤_}
 use mathlib.Core.Path.{_≡_}
-use mathlib.Core.Bool.{Bool, cond, _||_}
+use mathlib.Core.Bool.{cond}
 use mathlib.Core.List.{List, [], _∷_, _++_}
-use lib.Dec.{ltb, leb, eqb}
+use lib.Dec.{ltb}
 use lib.ListN.{length, getD, set}
 use lib.Seq.{sets}
-use Rattle.laws.specs.Walk.{first}
-use Rattle.laws.specs.Some.{some}
 use Rattle.area.specs.declared.Top.{Top}
 use Rattle.area.specs.declared.Top.the-variants.{Entry, Bare}
-
--- 14: at place i of the list stands a register that is not in the file, or that stands before i too
-abbrev pub strange : ℕ → List ℕ → ℕ → Bool
-strange regs l i = leb regs (getD l i 0) || some (λ j. eqb (getD l j 0) (getD l i 0)) i
-
--- the first such place, else the list's length
-unfoldable pub firstStrange : ℕ → List ℕ → ℕ
-firstStrange regs l = first (strange regs l) 0 (length l)
 
 -- the area has 4,096 words
 abbrev pub freeOf : ℕ → ℕ

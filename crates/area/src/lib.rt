@@ -1,54 +1,12 @@
-// The save area of the frame saver: which lists it takes, an entry stored, the newest entry, registers put back (document 02, wish 4).
+// The save area of the frame saver: an entry stored, the newest entry, registers put back (document 02, wish 4).
 ghost use mathlib.Core.Path.{_≡_};
 ghost use Prim.Native.Nat.{_+_, _*_, _<_, _≤_};
-ghost use lib.ListN.{length, getD};
-ghost use lib.Dec.{eqb};
-ghost use Rattle.laws.specs.Some.{some};
-ghost use Rattle.area.specs.Area.{strange, firstStrange, freeOf, Fit, Stored, putIn, putBack, topOf};
+ghost use Rattle.area.specs.Area.{freeOf, Fit, Stored, putIn, putBack, topOf};
 
 // The newest entry of the area: where it begins, how long its list is, and its result register.
 pub enum Top {
     Entry(usize, usize, u64),
     Bare,
-}
-
-// The first place of the list with a register that is not in the file, or listed before; else the list's length.
-pub fn first_strange(list: &[u16], regs: usize) -> usize
-    ensures { λ r. ⌜ r ≡ firstStrange regs (now (list .entry)) ⌝ }
-{
-    let mut i = 0;
-    while i < list.len() {
-        if is_strange(list, regs, i) {
-            return i;
-        }
-        i += 1;
-    }
-    i
-}
-
-// Whether the register at place i of the list is not in the file, or listed before.
-fn is_strange(list: &[u16], regs: usize, i: usize) -> bool
-    requires { ⌜ i < length (now list) ⌝ }
-    ensures { λ r. ⌜ r ≡ strange regs (now (list .entry)) i ⌝ }
-{
-    let r = wide(list[i]);
-    let twice = before(list, i);
-    (regs <= r) | twice
-}
-
-// Whether the register at place i of the list stands there before i.
-fn before(list: &[u16], i: usize) -> bool
-    requires { ⌜ i < length (now list) ⌝ }
-    ensures { λ r. ⌜ r ≡ some (λ j. eqb (getD (now (list .entry)) j 0) (getD (now (list .entry)) i 0)) i ⌝ }
-{
-    let mut j = 0;
-    while j < i {
-        if list[j] == list[i] {
-            return true;
-        }
-        j += 1;
-    }
-    false
 }
 
 // The area's free words.
@@ -75,7 +33,7 @@ pub fn store(
     let mut p = at;
     let mut i = 0;
     while i < list.len() {
-        let r = wide(list[i]);
+        let r = lists::wide(list[i]);
         area[p] = r as u64;
         area[p + 1] = file[r];
         p += 2;
@@ -126,10 +84,4 @@ pub fn put_in(file: &mut [u64; 64], regs: usize, r: u64, v: u64)
     if at < regs {
         file[at] = v;
     }
-}
-
-fn wide(x: u16) -> usize
-    ensures { λ r. ⌜ r ≡ x ⌝ }
-{
-    x as usize
 }

@@ -27,12 +27,13 @@ use Rattle.kept.specs.declared.KeptAnswer.{KeptAnswer}
 use Rattle.kept.proofs.Parts.{offset-at}
 use Rattle.kept.proofs.Passes.{offsets-long}
 use Rattle.groups.specs.Groups.{most, joinOf, sumsOf}
-use Rattle.figures.specs.Figures.{bodyFigures, bodyOf, placedOf, Right}
+use Rattle.offsets.specs.Offsets.{Right}
+use Rattle.offsets.proofs.Offsets.{right-fine}
+use Rattle.figures.specs.Figures.{bodyFigures, bodyOf, placedOf}
 use Rattle.figures.specs.Answers.{figuresIn, Reports, reports, reportedOf, addedOf, addCall}
 use Rattle.groups.specs.declared.Figures.{Figures}
 use Rattle.groups.specs.declared.FiguresAnswer.{FiguresAnswer}
 use Rattle.groups.specs.declared.FiguresAnswer.the-variants.{Is, No, Offsets, Over}
-use Rattle.figures.proofs.Calls.{right-fine}
 use Rattle.figures.proofs.Month.{totals}
 use Rattle.turniploom.specs.Answers.{keptTold, KeptTold}
 use Rattle.turniploom.proofs.Answered.{never-0}

@@ -1,17 +1,16 @@
 -- The figures of one body, with its answer from the kept-register call, and what it is refused for (document 02, wish 12). Assumes nothing.
-use Prim.Native.Nat.{ℕ, zero, suc, _+_, _-_, _<_, _≤_}
-use mathlib.Core.Path.{_≡_}
-use mathlib.Core.Bool.{Bool, false, cond, not, _&&_, _||_}
+use Prim.Native.Nat.{ℕ, zero, suc, _+_, _-_}
+use mathlib.Core.Bool.{cond}
 use mathlib.Core.List.{List, [], _∷_, _++_}
-use lib.Dec.{eqb, ltb}
+use lib.Dec.{ltb}
 use lib.ListN.{length, getD}
-use Rattle.laws.specs.Walk.{first}
 use Rattle.code.specs.Ins.{insAt, count}
-use Rattle.code.specs.Check.{Valid, checkOf}
+use Rattle.code.specs.Check.{checkOf}
 use Rattle.code.specs.declared.Checked.{Checked}
 use Rattle.code.specs.declared.Checked.the-variants as stage
 use Rattle.code.specs.declared.Refusal.the-variants.{Short}
 use Rattle.steps.specs.Level.{isLevel}
+use Rattle.offsets.specs.Offsets.{firstWrong}
 use Rattle.groups.specs.declared.Figures.{Figures}
 use Rattle.groups.specs.declared.FiguresAnswer.{FiguresAnswer}
 use Rattle.groups.specs.declared.FiguresAnswer.the-variants.{Is, No, Offsets}
@@ -28,26 +27,6 @@ levelsTo w o (suc m) = levelsTo w o m ++ cond (isLevel (insAt w m)) (met 0 m (le
 
 unfoldable pub bodyFigures : List ℕ → List ℕ → Figures
 bodyFigures w o = figuresOf 1 (levelsTo w o (count w))
-
--- 15: offsets run from 0 to the list's length and never fall, and a place that is no level has no list
-unfoldable pub wrong : List ℕ → List ℕ → ℕ → ℕ → Bool
-wrong w o len k =
-    let here = getD o k 0 in
-    let next = getD o (k + 1) 0 in
-    let start = eqb k 0 && not (eqb here 0) in
-    cond (ltb k (count w)) (start || ltb next here || (not (isLevel (insAt w k)) && not (eqb next here))) (start || not (eqb here len))
-
--- the first place that breaks this, else n + 1
-unfoldable pub firstWrong : List ℕ → List ℕ → ℕ → ℕ
-firstWrong w o len = first (wrong w o len) 0 (count w + 1)
-
--- offsets that break nothing
-pub record Right (w o : List ℕ) : Type 0 where
-  pub valid : Valid w
-  pub long : count w < length o
-  pub start : getD o 0 0 ≡ 0
-  pub rise : (k : ℕ) → k < count w → getD o k 0 ≤ getD o (k + 1) 0
-  pub idle : (k : ℕ) → k < count w → isLevel (insAt w k) ≡ false → getD o (k + 1) 0 ≡ getD o k 0
 
 -- One body: 1, 2, 5 for offsets shorter than n + 1, 15 with the first place; else its figures.
 unfoldable pub placedOf : List ℕ → List ℕ → ℕ → FiguresAnswer

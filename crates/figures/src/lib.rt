@@ -1,11 +1,11 @@
 // A month of scripts in figures: levels, kept registers and the longest list over many bodies (document 02, wish 12).
 ghost use mathlib.Core.Path.{_≡_};
-ghost use Prim.Native.Nat.{_+_, _<_, _≤_};
+ghost use Prim.Native.Nat.{_+_, _<_};
 ghost use lib.ListN.{length};
 ghost use Rattle.code.specs.Ins.{count};
-ghost use Rattle.code.specs.Check.{Whole};
 ghost use Rattle.groups.specs.Groups.{figuresOf};
-ghost use Rattle.figures.specs.Figures.{levelsTo, bodyFigures, wrong, firstWrong, bodyOf, Right};
+ghost use Rattle.offsets.specs.Offsets.{Right};
+ghost use Rattle.figures.specs.Figures.{levelsTo, bodyFigures, bodyOf};
 ghost use Rattle.figures.specs.Answers.{figuresIn, wrote, reports, reportedOf, addedOf, addCall, joinCall};
 ghost use Rattle.code.specs.Answers.{refusalOf};
 use code::Answer;
@@ -119,50 +119,13 @@ fn body(code: &[u16], offsets: &[u32], list: &[u16]) -> FiguresAnswer
                     needed: n + 1,
                 });
             }
-            let k = first_wrong(code, offsets, list.len());
+            let k = offsets::first_wrong(code, offsets, list.len());
             if k < n + 1 {
                 return FiguresAnswer::Offsets(k);
             }
             FiguresAnswer::Is(body_figures(code, offsets))
         }
     }
-}
-
-fn wide(x: u32) -> usize
-    ensures { λ r. ⌜ r ≡ x ⌝ }
-{
-    x as usize
-}
-
-// Whether the offset of place k breaks its rule, in code of n instructions with a list of so many.
-fn is_wrong(code: &[u16], offsets: &[u32], len: usize, k: usize) -> bool
-    requires { ⌜ Whole (now code) × (count (now code) < length (now offsets)) × (k ≤ count (now code)) ⌝ }
-    ensures { λ r. ⌜ r ≡ wrong (now (code .entry)) (now (offsets .entry)) len k ⌝ }
-{
-    let here = wide(offsets[k]);
-    let start = (k == 0) & (here != 0);
-    if k < code.len() / 6 {
-        let next = wide(offsets[k + 1]);
-        let level = steps::level_at(code::ins_at(code, k));
-        return start | (next < here) | (!level & (next != here));
-    }
-    start | (here != len)
-}
-
-// The first place that breaks its rule, else n + 1.
-fn first_wrong(code: &[u16], offsets: &[u32], len: usize) -> usize
-    requires { ⌜ Whole (now code) × (count (now code) < length (now offsets)) ⌝ }
-    ensures { λ r. ⌜ r ≡ firstWrong (now (code .entry)) (now (offsets .entry)) len ⌝ }
-{
-    let m = code.len() / 6 + 1;
-    let mut k = 0;
-    while k < m {
-        if is_wrong(code, offsets, len, k) {
-            return k;
-        }
-        k += 1;
-    }
-    k
 }
 
 // The figures of one body.
@@ -202,8 +165,8 @@ fn with_place(f: Figures, code: &[u16], offsets: &[u32], k: usize) -> Figures
     ensures { λ r. ⌜ r ≡ figuresOf 0 (levelsTo (now (code .entry)) (now (offsets .entry)) (k + 1)) ⌝ }
 {
     if steps::level_at(code::ins_at(code, k)) {
-        let here = wide(offsets[k]);
-        let next = wide(offsets[k + 1]);
+        let here = offsets::wide(offsets[k]);
+        let next = offsets::wide(offsets[k + 1]);
         let len = (next - here) as u64;
         return groups::joined(
             f,

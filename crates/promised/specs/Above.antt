@@ -6,7 +6,7 @@ use Prim.Native.Nat.{ℕ}
 use Rattle.code.specs.declared.Answer.{Answer}
 use Rattle.levels.specs.Answers.{levelAnswer}
 use Rattle.saver.specs.Saver.{Saver, regsOf}
-use Rattle.saver.specs.Frames.{Sound}
+use Rattle.frames.specs.Frames.{Sound}
 pub use Rattle.saved.specs.Calls.{Entered}
 use Rattle.exported.specs.Calls.{Lists, KeptCall}
 

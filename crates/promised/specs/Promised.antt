@@ -76,8 +76,9 @@ use Rattle.flow.specs.Demand.{Alike}
 use Rattle.steps.specs.Code.{flow}
 use Rattle.levels.specs.Answers.{levelAnswer}
 use Rattle.area.specs.Area.{freeOf, putIn}
-use Rattle.saver.specs.Saver.{Saver, Back, returned, thrown, regsOf, usedOf}
-use Rattle.saver.specs.Frames.{fileOf, Sound, Open}
+use Rattle.saver.specs.Saver.{Saver, regsOf, usedOf}
+use Rattle.leaves.specs.Leaving.{Back, returned, thrown}
+use Rattle.frames.specs.Frames.{fileOf, Sound, Open}
 use Rattle.figures.specs.Figures.{bodyFigures}
 use Rattle.figures.specs.Answers.{reports, addCall, joinCall}
 use Rattle.figures.specs.Month.{Body, reportOf}

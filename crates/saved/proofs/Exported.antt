@@ -26,13 +26,14 @@ use Rattle.kept.specs.Level.{resumeOf, resultAt}
 use Rattle.kept.specs.Lists.{partAt}
 use Rattle.levels.specs.Answers.{levelTold, levelAnswer}
 use Rattle.area.specs.Area.{freeOf, putIn}
-use Rattle.saver.specs.Saver.{Saver, saver, madeHead, Ends, ends, Back, returned, thrown, regsOf, usedOf, entered, enterOf, leaveOf}
-use Rattle.saver.specs.Frames.{fileOf, Sound, Event, Play, Matched, Open, done, enter, write, leave}
+use Rattle.saver.specs.Saver.{Saver, saver, madeHead, Ends, ends, regsOf, usedOf, entered, enterOf}
+use Rattle.leaves.specs.Leaving.{Back, returned, thrown, leaveOf}
+use Rattle.frames.specs.Frames.{fileOf, Sound, Event, Play, Matched, Open, done, enter, write, leave}
 use Rattle.saver.specs.Answers.{saverTold}
 use Rattle.saver.specs.declared.SaverAnswer.{SaverAnswer}
 use Rattle.saver.specs.declared.SaverAnswer.the-variants.{Used, Registers, Listed, Full, Nothing}
-use Rattle.saver.proofs.Resumes.{answers}
-use Rattle.saver.proofs.Open.{open-sound, none-open, some-open, made-open}
+use Rattle.frames.proofs.Resumes.{answers}
+use Rattle.frames.proofs.Open.{open-sound, none-open, some-open, made-open}
 use Rattle.turniploom.specs.Answers.{By, KeptTold, MadeTold, EnterTold, LeaveTold}
 use Rattle.turniploom.proofs.Answered.{never-0, kept-answered}
 use Rattle.saved.specs.Calls.{Called}

@@ -19,12 +19,14 @@ use Rattle.kept.specs.Lists.{partAt}
 use Rattle.kept.specs.Answers.{Outcome}
 use Rattle.kept.specs.declared.KeptAnswer.the-variants.{Is}
 use Rattle.kept.proofs.Demand.{demand-3, kept-each-once}
-use Rattle.area.specs.Area.{freeOf, needOf, firstStrange, putIn}
-use Rattle.saver.specs.Saver.{Saver, ends, returned, thrown, regsOf, usedOf, entered, enterOf, leaveOf}
-use Rattle.saver.specs.Frames.{fileOf, Sound, Event, Play, Matched}
+use Rattle.lists.specs.Lists.{firstStrange}
+use Rattle.area.specs.Area.{freeOf, needOf, putIn}
+use Rattle.saver.specs.Saver.{Saver, ends, regsOf, usedOf, entered, enterOf}
+use Rattle.leaves.specs.Leaving.{returned, thrown, leaveOf}
+use Rattle.frames.specs.Frames.{fileOf, Sound, Event, Play, Matched}
 use Rattle.saver.specs.declared.SaverAnswer.the-variants.{Used, Full}
-use Rattle.saver.proofs.Listed.{fine-list}
-use Rattle.saver.proofs.Resumes.{alike-return, alike-thrown}
+use Rattle.frames.proofs.Listed.{fine-list}
+use Rattle.frames.proofs.Resumes.{alike-return, alike-thrown}
 
 -- the kept-register call answered, and k is a level of the code
 module _ (bits : ℕ) (w : List ℕ) (regs : ℕ) (tries : List ℕ) (wide : Bool) (rows offsets list : List ℕ) (new o l : List ℕ) (total full abandoned : ℕ)

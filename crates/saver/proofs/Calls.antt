@@ -1,16 +1,15 @@
 -- What each call's answers rest on: one law for each way out. Assumes nothing.
-use mathlib.Core.Path.{_≡_, sym, ap, _∙_, subst}
+use mathlib.Core.Path.{_≡_, subst}
 use mathlib.Core.List.{List}
-use Prim.Native.Nat.{ℕ, _+_, _*_, _/_, _≤_, _<_}
+use Prim.Native.Nat.{ℕ, _/_, _≤_, _<_}
 use native.Mathlib.Omega.{arith}
 use borrow.Author.Tests.{lt-ltb, le-ltb}
 use lib.ListN.{length, getD, set}
-use Rattle.area.specs.Area.{firstStrange, freeOf, needOf, Fit, Stored, putIn, putBack, topOf}
-use Rattle.area.specs.declared.Top.{Top}
-use Rattle.area.specs.declared.Top.the-variants.{Entry, Bare}
-use Rattle.area.proofs.Calls.{all-in, top-within}
-use Rattle.saver.specs.Saver.{saver, ends, Back, returned, written, Made, enterOf, leftBy, leaveOf}
-use Rattle.saver.specs.declared.SaverAnswer.the-variants.{Used, Registers, Listed, Full, Nothing}
+use Rattle.lists.specs.Lists.{firstStrange}
+use Rattle.area.specs.Area.{freeOf, needOf, Fit, Stored}
+use Rattle.lists.proofs.Lists.{all-in}
+use Rattle.saver.specs.Saver.{saver, ends, Made, enterOf}
+use Rattle.saver.specs.declared.SaverAnswer.the-variants.{Used, Registers, Listed, Full}
 
 module _ (head : List ℕ) (regs : ℕ) where
   pub make-large : 64 < regs → Made regs head head (Registers regs)
@@ -50,29 +49,3 @@ module _ (h a f l : List ℕ) (q : ℕ) where
       enter-done x b n s = rw (le-ltb 64 (getD h 0 0) few, ← e, le-ltb i (length l) fine, ← g, le-ltb free (needOf l) (omega arith), s .words, s .past)
 
 pub ruleset enters = (enter-large, enter-listed, enter-full, enter-done)
-
-module _ (h a f : List ℕ) where
-  pub leave-large : (back : Back) → 64 < getD h 0 0 → leaveOf (saver h a f) back ≡ ends (saver h a f) (Registers (getD h 0 0))
-  unfolding leaveOf
-  leave-large back x = rw (lt-ltb 64 (getD h 0 0) x)
-
-  module _ (back : Back) (few : getD h 0 0 ≤ 64) (t : Top) (e : t ≡ topOf (getD h 1 0) a) where
-    pub leave-bare : t ≡ Bare → leaveOf (saver h a f) back ≡ ends (saver h a f) Nothing
-    unfolding leaveOf leftBy
-    leave-bare x = rw (le-ltb 64 (getD h 0 0) few, ← e, x)
-
-    pub leave-done : (base len q : ℕ) → t ≡ Entry base len q → (g : List ℕ) → g ≡ written (getD h 0 0) q back (putBack (getD h 0 0) a base len f)
-        → leaveOf (saver h a f) back ≡ ends (saver (set h 1 base) a g) (Used base)
-    unfolding leaveOf leftBy
-    leave-done base len q x g y = rw (le-ltb 64 (getD h 0 0) few, ← e, x, y)
-
-  -- a return, in the code's two steps
-  pub leave-returned : (v : ℕ) → getD h 0 0 ≤ 64 → (t : Top) → t ≡ topOf (getD h 1 0) a → (base len q : ℕ) → t ≡ Entry base len q → (g′ : List ℕ)
-      → g′ ≡ putBack (getD h 0 0) a base len f
-      → (g : List ℕ) → g ≡ putIn (getD h 0 0) q v g′ → leaveOf (saver h a f) (returned v) ≡ ends (saver (set h 1 base) a g) (Used base)
-  leave-returned v few t e base len q x g′ y g z = leave-done (returned v) few t e base len q x g (z ∙ ap (putIn (getD h 0 0) q v) y)
-
-pub leave-within : (t : Top) (used : ℕ) (area : List ℕ) (base len q : ℕ) → t ≡ topOf used area → t ≡ Entry base len q → base + 2 * len ≤ 4096
-leave-within t used area base len q e x = top-within used area base len q (sym x ∙ e)
-
-pub ruleset leavings = (leave-large, leave-bare, leave-done, leave-returned)

@@ -1,3 +1,2 @@
 pub mod Saver
-pub mod Frames
 pub mod Answers

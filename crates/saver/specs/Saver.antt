@@ -1,4 +1,4 @@
--- The frame saver (document 02, wish 4): its words, and what each call answers and leaves. Assumes nothing.
+-- The frame saver (document 02, wish 4): its words, and what making it and an entry answer and leave. Assumes nothing.
 use Prim.Native.Nat.{ℕ, _+_}
 use mathlib.Core.Path.{_≡_}
 use mathlib.Core.Bool.{cond}
@@ -6,11 +6,10 @@ use mathlib.Core.List.{List}
 use lib.Dec.{ltb}
 use lib.ListN.{length, getD, set}
 use lib.Seq.{sets}
-use Rattle.area.specs.Area.{firstStrange, freeOf, needOf, entryOf, putIn, putBack, topOf}
+use Rattle.lists.specs.Lists.{firstStrange}
+use Rattle.area.specs.Area.{freeOf, needOf, entryOf}
 use Rattle.saver.specs.declared.SaverAnswer.{SaverAnswer}
-use Rattle.saver.specs.declared.SaverAnswer.the-variants.{Used, Registers, Listed, Full, Nothing}
-use Rattle.area.specs.declared.Top.{Top}
-use Rattle.area.specs.declared.Top.the-variants.{Entry, Bare}
+use Rattle.saver.specs.declared.SaverAnswer.the-variants.{Used, Registers, Listed, Full}
 
 -- A saver's words: its head (the number of registers, the words of the area in use), the save area, and the register file.
 pub record Saver : Type 0 where
@@ -35,16 +34,6 @@ pub record Ends : Type 0 where
 abbrev pub ends : Saver → SaverAnswer → Ends
 ends s a = record { left = s; answer = a }
 
--- how a call ends
-pub data Back : Type 0 where
-  returned : ℕ → Back
-  thrown : Back
-
--- a return writes the result, if there is a result register in the file; an exception writes nothing more
-abbrev pub written : ℕ → ℕ → Back → List ℕ → List ℕ
-written regs q (returned v) file = putIn regs q v file
-written regs q thrown file = file
-
 -- made: refusal 3 for a file above 64; else its length is fixed and no word is in use
 abbrev pub madeHead : List ℕ → ℕ → List ℕ
 madeHead head regs = cond (ltb 64 regs) head (set (set head 0 regs) 1 0)
@@ -64,13 +53,3 @@ enterOf s l q =
     (cond (ltb (firstStrange (regsOf s) l) (length l)) (ends s (Listed (firstStrange (regsOf s) l)))
     (cond (ltb (freeOf (usedOf s)) (needOf l)) (ends s (Full (freeOf (usedOf s))))
     (ends (entered s l q) (Used (usedOf s + needOf l)))))
-
--- what stands from base on is put back, and its words are free again
-unfoldable pub leftBy : Saver → Back → Top → Ends
-leftBy s back Bare = ends s Nothing
-leftBy s back (Entry base len q) =
-    ends (saver (set (s .head) 1 base) (s .area) (written (regsOf s) q back (putBack (regsOf s) (s .area) base len (s .file)))) (Used base)
-
--- left: 3, then 9 where nothing is saved
-unfoldable pub leaveOf : Saver → Back → Ends
-leaveOf s back = cond (ltb 64 (regsOf s)) (ends s (Registers (regsOf s))) (leftBy s back (topOf (usedOf s) (s .area)))

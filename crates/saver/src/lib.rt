@@ -1,9 +1,8 @@
-// A frame saver: what a level keeps is put aside as a call is entered and put back as it is left (document 02, wish 4).
+// A frame saver: what a level keeps is put aside as a call is entered (document 02, wish 4).
 ghost use mathlib.Core.Path.{_≡_};
 ghost use Rattle.code.specs.Answers.{refusalOf};
 ghost use Rattle.saver.specs.Answers.{saverTold};
-ghost use Rattle.saver.specs.Saver.{saver, ends, Made, enterOf, leaveOf, returned, thrown};
-use area::Top;
+ghost use Rattle.saver.specs.Saver.{saver, ends, Made, enterOf};
 use code::Answer;
 
 // What a call answers: the words of the area in use after it, or why it is refused.
@@ -69,7 +68,7 @@ pub fn enter(
     if 64 < regs {
         return SaverAnswer::Registers(regs);
     }
-    let odd = area::first_strange(list, regs);
+    let odd = lists::first_strange(list, regs);
     if odd < list.len() {
         return SaverAnswer::Listed(odd);
     }
@@ -80,56 +79,4 @@ pub fn enter(
     let next = area::store(area, used, file, list, result);
     head[1] = next as u64;
     SaverAnswer::Used(next)
-}
-
-// The call returned: the listed registers are put back, then the result is written.
-pub fn leave_by_return(
-    head: &mut [u64; 2],
-    area: &[u64; 4096],
-    file: &mut [u64; 64],
-    value: u64,
-) -> SaverAnswer
-    ensures { λ r. ⌜ leaveOf (saver (now (head .entry)) (now (area .entry)) (now (file .entry))) (returned value)
-        ≡ ends (saver (now (head .exit)) (now (area .entry)) (now (file .exit))) r ⌝ }
-{
-    let regs = head[0] as usize;
-    let used = head[1] as usize;
-    if 64 < regs {
-        return SaverAnswer::Registers(regs);
-    }
-    let t = area::top_of(area, used);
-    match t {
-        Top::Bare => SaverAnswer::Nothing,
-        Top::Entry(base, len, result) => {
-            area::put_back(area, base, len, file, regs);
-            area::put_in(file, regs, result, value);
-            head[1] = base as u64;
-            SaverAnswer::Used(base)
-        }
-    }
-}
-
-// The call ended by an exception: the listed registers are put back.
-pub fn leave_by_exception(
-    head: &mut [u64; 2],
-    area: &[u64; 4096],
-    file: &mut [u64; 64],
-) -> SaverAnswer
-    ensures { λ r. ⌜ leaveOf (saver (now (head .entry)) (now (area .entry)) (now (file .entry))) thrown
-        ≡ ends (saver (now (head .exit)) (now (area .entry)) (now (file .exit))) r ⌝ }
-{
-    let regs = head[0] as usize;
-    let used = head[1] as usize;
-    if 64 < regs {
-        return SaverAnswer::Registers(regs);
-    }
-    let t = area::top_of(area, used);
-    match t {
-        Top::Bare => SaverAnswer::Nothing,
-        Top::Entry(base, len, result) => {
-            area::put_back(area, base, len, file, regs);
-            head[1] = base as u64;
-            SaverAnswer::Used(base)
-        }
-    }
 }

@@ -22,12 +22,13 @@ use Rattle.flow.proofs.Steps.{wrote-kept, wrote-new}
 use Rattle.steps.specs.Code.{setOf}
 use Rattle.steps.specs.Level.{isLevel}
 use Rattle.kept.specs.Level.{resumeOf, resultAt}
-use Rattle.saver.specs.Saver.{Saver, Back, returned, regsOf, enterOf, leaveOf}
-use Rattle.saver.specs.Saver as saver
-use Rattle.saver.specs.Frames as frames
-use Rattle.saver.specs.Frames.{fileOf, Sound, Same, Play, Matched}
+use Rattle.saver.specs.Saver.{Saver, regsOf, enterOf}
+use Rattle.leaves.specs.Leaving.{Back, returned, leaveOf}
+use Rattle.leaves.specs.Leaving as saver
+use Rattle.frames.specs.Frames as frames
+use Rattle.frames.specs.Frames.{fileOf, Sound, Same, Play, Matched}
 use Rattle.saver.specs.declared.SaverAnswer.the-variants.{Used}
-use Rattle.saver.proofs.Resumes.{frame-same, held-return, held-result, held-thrown}
+use Rattle.frames.proofs.Resumes.{frame-same, held-return, held-result, held-thrown}
 use Rattle.saved.specs.Calls.{Entered}
 use Rattle.saved.proofs.Exported.{by-call, left-is, played}
 use Rattle.turniploom.specs.Answers.{LeaveTold}

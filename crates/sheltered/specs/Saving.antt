@@ -12,8 +12,8 @@ use Rattle.steps.specs.Code.{setOf, usedAt}
 use Rattle.steps.specs.Level.{isLevel}
 use Rattle.kept.specs.Level.{resumeOf, resultAt}
 use Rattle.saver.specs.Saver.{Saver, regsOf}
-use Rattle.saver.specs.Saver as saver
-use Rattle.saver.specs.Frames.{fileOf, Sound}
+use Rattle.leaves.specs.Leaving as saver
+use Rattle.frames.specs.Frames.{fileOf, Sound}
 use Rattle.saved.specs.Calls.{Entered}
 use Rattle.turniploom.specs.Answers.{LeaveTold}
 use Rattle.nested.specs.Machine.{Event, step, back, thrown}

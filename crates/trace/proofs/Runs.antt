@@ -17,7 +17,8 @@ use Rattle.code.specs.Ins.{count}
 use Rattle.trace.specs.declared.Verdict.{Verdict}
 use Rattle.trace.specs.declared.Verdict.the-variants.{Fine, Check, Filler, Move}
 use Rattle.blocks.specs.Blocks.{wordAt, slotAt, fillerAt, weighed, badCheck, follows, badFill, blocksOf}
-use Rattle.trace.specs.Trace.{mayGo, badStep, firstStep, wrongIn, verdictFrom, verdictOf, Recorded}
+use Rattle.moves.specs.Moves.{mayGo, badStep, firstStep}
+use Rattle.trace.specs.Trace.{wrongIn, verdictFrom, verdictOf, Recorded}
 
 module _ (w tries t : List ℕ) where
   -- a block with nothing wrong

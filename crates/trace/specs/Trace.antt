@@ -1,37 +1,15 @@
--- A recorded trace judged (document 02, wish 9): which moves a run may make, and what is wrong with a trace first. Assumes nothing.
-use Prim.Native.Nat.{ℕ, zero, suc, _+_, _-_, _*_, _/_, _%_, _<_}
+-- A recorded trace judged (document 02, wish 9): what is wrong with a trace first. Assumes nothing.
+use Prim.Native.Nat.{ℕ, zero, suc, _+_, _*_, _/_, _%_, _<_}
 use mathlib.Core.Path.{_≡_}
-use mathlib.Core.Bool.{Bool, true, false, cond, not, _&&_, _||_}
+use mathlib.Core.Bool.{true, false, cond}
 use mathlib.Core.List.{List}
-use lib.Dec.{eqb, ltb, leb}
+use lib.Dec.{ltb}
 use lib.ListN.{length}
-use Rattle.laws.specs.Walk.{first}
-use Rattle.laws.specs.Page.{among}
 use Rattle.blocks.specs.Blocks.{wordAt, slotAt, fillerAt, weighed, badCheck, badFill, blocksOf}
-use Rattle.code.specs.Ins.{insAt, count, wide}
-use Rattle.flow.specs.Kept.{handlersOf}
-use Rattle.steps.specs.Code.{afterAt, storeOf}
-use Rattle.steps.specs.Level.{isLevel}
+use Rattle.code.specs.Ins.{count}
+use Rattle.moves.specs.Moves.{mayGo, firstStep}
 use Rattle.trace.specs.declared.Verdict.{Verdict}
 use Rattle.trace.specs.declared.Verdict.the-variants.{Fine, Check, Filler, Move}
-
--- a move: to a position that "after" names, from a level to a handler of a try around it, or from a wide call straight to its store
-unfoldable pub mayGo : List ℕ → List ℕ → ℕ → ℕ → Bool
-mayGo w tries p q = among q (afterAt w p) || (isLevel (insAt w p) && among q (handlersOf (count w) p tries)) || (wide (insAt w p) && eqb q (storeOf w p))
-
--- 12: a first position other than 0, a position not below n, or a move that is none of these
-unfoldable pub badStep : List ℕ → List ℕ → List ℕ → ℕ → Bool
-badStep w tries t s =
-    let p = slotAt t (s - 1) in
-    let q = slotAt t s in
-    cond (eqb q 4294967295) false
-    (cond (leb (count w) q) true
-    (cond (eqb s 0) (not (eqb q 0))
-    (cond (leb (count w) p) true (not (mayGo w tries p q)))))
-
--- the first such slot of block b, else the slot past it
-unfoldable pub firstStep : List ℕ → List ℕ → List ℕ → ℕ → ℕ
-firstStep w tries t b = first (badStep w tries t) (127 * b) 127
 
 -- a block and what is wrong with it: 10, 11, 12 in this order
 unfoldable pub wrongIn : List ℕ → List ℕ → List ℕ → ℕ → Verdict → Verdict

@@ -28,7 +28,8 @@ use Rattle.optimizer.specs.Fold.{Buffers, Called}
 use Rattle.clear.specs.Clear as clearing
 use Rattle.clear.specs.Clear.{clearTold, ClearTold}
 use Rattle.turniploom.specs.Answers.{By, keptTold, foldTold, ListsTold, FoldTold, MadeTold, EnterTold, LeaveTold, ReplayTold, countTold, ExposedTold}
-use Rattle.saver.specs.Saver.{Saver, Back, Ends}
+use Rattle.saver.specs.Saver.{Saver, Ends}
+use Rattle.leaves.specs.Leaving.{Back}
 use Rattle.saver.specs.Answers.{saverTold}
 use Rattle.day.specs.Answers.{dayTold}
 use Rattle.day.proofs.Alone.{one-day}

@@ -12,7 +12,8 @@ use Rattle.flow.specs.Flow.{Flow}
 use Rattle.kept.specs.Answers.{ListsLeft, Outcome}
 use Rattle.kept.specs.declared.KeptAnswer.{KeptAnswer}
 use Rattle.kept.specs.declared.KeptAnswer.the-variants as kept
-use Rattle.saver.specs.Saver.{Made, Saver, Back, ends, enterOf, leaveOf}
+use Rattle.saver.specs.Saver.{Made, Saver, ends, enterOf}
+use Rattle.leaves.specs.Leaving.{Back, leaveOf}
 use Rattle.saver.specs.Answers.{saverTold}
 use Rattle.day.specs.Day.{Day}
 use Rattle.day.specs.Answers.{dayTold}

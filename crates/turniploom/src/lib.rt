@@ -19,7 +19,8 @@ ghost use Rattle.clear.specs.Clear.{buffers as clearable, ClearTold};
 ghost use Rattle.levels.specs.Answers.{levelAnswer};
 ghost use lib.ListN.{length};
 ghost use Rattle.figures.specs.Answers.{reports, addCall, joinCall};
-ghost use Rattle.saver.specs.Saver.{saver as words, returned, thrown};
+ghost use Rattle.saver.specs.Saver.{saver as words};
+ghost use Rattle.leaves.specs.Leaving.{returned, thrown};
 ghost use Rattle.turniploom.specs.Answers.{MadeTold, EnterTold, LeaveTold, ReplayTold};
 ghost use Rattle.turniploom.specs.Answers.{countTold, RaisingTold, ExposedTold};
 ghost use Rattle.code.specs.Answers.{answerOf};
@@ -312,7 +313,7 @@ pub extern "C" fn turniploom_saver_return(
     ensures { λ r. ⌜ LeaveTold (words (now (head .entry)) (now (area .entry)) (now (file .entry))) (returned value)
         (words (now (head .exit)) (now (area .entry)) (now (file .exit))) r ⌝ }
 {
-    saver::told(saver::leave_by_return(head, area, file, value))
+    saver::told(leaves::leave_by_return(head, area, file, value))
 }
 
 #[no_mangle]
@@ -324,7 +325,7 @@ pub extern "C" fn turniploom_saver_exception(
     ensures { λ r. ⌜ LeaveTold (words (now (head .entry)) (now (area .entry)) (now (file .entry))) thrown
         (words (now (head .exit)) (now (area .entry)) (now (file .exit))) r ⌝ }
 {
-    saver::told(saver::leave_by_exception(head, area, file))
+    saver::told(leaves::leave_by_exception(head, area, file))
 }
 
 #[no_mangle]

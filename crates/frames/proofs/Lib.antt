@@ -1,0 +1,5 @@
+pub mod Words
+pub mod Frames
+pub mod Listed
+pub mod Resumes
+pub mod Open

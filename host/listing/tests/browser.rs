@@ -29,7 +29,7 @@ addEventListener('load', () => {
   if (level) say('position, instruction and list in sight', ['th', 'td.ins', '.keeps'].every((s) => seen(level.querySelector(s))));
   say('cells say it by a mark too', all('td.cell.row, td.cell.kept').every((c) => c.textContent.trim()));
   say('head cells and captions', all('table').every((t) => t.caption && [...t.tHead.rows[0].cells].every((c) => c.scope === 'col'
-      || c.getAttribute('aria-hidden')) && [...t.tBodies[0].rows].every((r) => r.querySelector('th[scope=row], td.ins'))));
+      || c.getAttribute('aria-hidden')) && [...t.tBodies[0].rows].every((r) => r.querySelector('th[scope=row]'))));
   say('nothing is cut', all('.chart').every((c) => c.scrollHeight <= c.clientHeight + 1));
   say('nothing is sticky', all('th, td').every((c) => getComputedStyle(c).position === 'static'));
   const chart = one('.chart'), before = box(chart), left = box(chart.querySelector('tbody th') || chart).left;

@@ -98,7 +98,7 @@ fn holds(told: &str, names: &[&str]) { for name in names { assert!(told.contains
 #[test]
 fn as_a_browser_shows_them() {
     let Some(chromium) = chromium() else { return println!("LEFT OUT: there is no chromium; .ci/pages installs it and looks at the pages") };
-    let [jacket, asked, _] = pages(&sample("jacket.txt"));
+    let [jacket, asked, jacket_on_paper] = pages(&sample("jacket.txt"));
     for (width, dark) in [(1280, false), (390, false), (1280, true), (390, true)] {
         let told = told(chromium, &asked, width, dark);
         holds(&told, &MUST);
@@ -118,7 +118,8 @@ fn as_a_browser_shows_them() {
         holds(&told, &MUST[..3]);
         assert!(told.contains("scrolled: 150 300\n"), "{told}");
     }
-    holds(&told(chromium, &paper, 1280, false), &["contrast at least 4.5", "nothing is cut", "nothing is sticky"]);
+    holds(&told(chromium, &paper, 1280, false), &["nothing is cut", "nothing is sticky"]);
+    holds(&told(chromium, &jacket_on_paper, 1280, false), &MUST[..1]);
     holds(&told(chromium, &pages(&sample("ships.txt"))[1], 390, true), &MUST);
     printed(chromium, &jacket);
     if let Some(pictures) = env::var_os("TURNIPLOOM_PICTURES") { pictured(chromium, Path::new(&pictures)) }

@@ -107,3 +107,17 @@ fn the_map_has_every_crate() {
         assert!(map.lines().any(|l| l.starts_with('|') && l.contains(&format!("`{name}`"))), "docs/ARCHITECTURE.md does not name the crate {name}");
     }
 }
+
+/// The tests that the table beside this file names are there.
+#[test]
+fn the_table_of_tests_is_true() {
+    let table = include_str!("README.md");
+    let named: Vec<&str> = table.lines().filter(|l| l.starts_with('|')).flat_map(|l| l.split('`').skip(1).step_by(2)).filter(|n| n.contains("::")).collect();
+    for name in &named {
+        let (file, function) = name.split_once("::").unwrap();
+        let (package, file) = file.split_once('/').unwrap_or(("listing", file));
+        let text = fs::read_to_string(root().join(format!("host/{package}/tests/{file}.rs"))).unwrap_or_default();
+        assert!(text.contains(&format!("#[test]\nfn {function}() ")), "there is no test {name}");
+    }
+    assert!(named.len() > 60, "{}", named.len());
+}

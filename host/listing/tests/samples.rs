@@ -304,13 +304,23 @@ fn callees_near_and_far() {
                 _ => "Move a3 b2\n".into(),
             };
         }
-        let Text::Body(b) = read(&text).unwrap() else { panic!("a chunk") };
-        let view = body::View::of(&b).unwrap();
-        for (k, line) in view.lines.iter().enumerate() {
-            let Some(told) = line.level.as_ref().and_then(|v| v.callee.as_ref()) else { continue };
-            let due = if b.code[k].op.is_call() { turniploom::global_of(&b.code, k).unwrap().map(|g| format!("calls binding {g}")) }
-                else { turniploom::stack_callee(&b.code, k, b.code[k].a).unwrap().map(|(p, r)| format!("calls r{r}, pushed at {p}")) };
-            assert_eq!(*told, due.unwrap_or("calls a function not known here".into()), "{k}");
-        }
+        callees_of_the_whole(&text);
+    }
+    // A register that comes back from a push, with the place where the near part begins before, in and after it.
+    for far in (56..68).chain(2_040..2_052) {
+        let more = "Move a3 b2\n".repeat(far);
+        callees_of_the_whole(&format!("registers 4\nLoadGlobalR a0 b7\nPushRegs a0 x1\nCallR a1 x0\nStoreTopR a3\nStoreTopR a0\n{more}CallR a0 x0"));
+    }
+}
+
+/// Holds every callee that is told to the archive's word on the whole code.
+fn callees_of_the_whole(text: &str) {
+    let Text::Body(b) = read(text).unwrap() else { panic!("a chunk") };
+    let view = body::View::of(&b).unwrap();
+    for (k, line) in view.lines.iter().enumerate() {
+        let Some(told) = line.level.as_ref().and_then(|v| v.callee.as_ref()) else { continue };
+        let due = if b.code[k].op.is_call() { turniploom::global_of(&b.code, k).unwrap().map(|g| format!("calls binding {g}")) }
+            else { turniploom::stack_callee(&b.code, k, b.code[k].a).unwrap().map(|(p, r)| format!("calls r{r}, pushed at {p}")) };
+        assert_eq!(*told, due.unwrap_or("calls a function not known here".into()), "{k}");
     }
 }

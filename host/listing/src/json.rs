@@ -54,7 +54,8 @@ fn body(view: &body::View) -> String {
         let row = if k < view.start { "null".into() } else { numbers(&l.row) };
         format!(
             "\n{{\"at\":{k},\"instruction\":{},\"uses\":{},\"gives_up\":{},\"row\":{row},\"level\":{},\"notes\":{},\"comment\":{}}}",
-            quoted(&l.text), numbers(&l.used), numbers(&l.given_up), or_null(l.level.as_ref().map(|v| level(v, !view.unasked))), texts(&l.notes), quoted(&l.comment)
+            quoted(&l.text), numbers(&l.used), numbers(&l.given_up), or_null(l.level.as_ref().map(|v| level(v, !view.unasked))), texts(&l.notes),
+            quoted(&l.comment)
         )
     });
     let exposed = view.exposed.iter().map(|e| {

@@ -110,8 +110,8 @@ fn raise_itself() {
 /// Kept by a use after the try, or written anew before it: nothing is exposed. A level is told before another position that may raise.
 #[test]
 fn what_makes_it_so() {
-    let of = |four: &str, six: &str, eight: &str| warnings(&format!("registers 6; try 5 10; LoadGlobalR a5 b1; LoadGlobalR a4 b9; CallR a4 b0 x1; StoreTopR a1; \
-        {four}; SetupExcept a10; {six}; CallR a4 b1 x1; StoreTopR a2; {eight}; ReturnR b5"));
+    let of = |four: &str, six: &str, eight: &str| warnings(&format!("registers 6; try 5 10; LoadGlobalR a5 b1; LoadGlobalR a4 b9; CallR a4 b0 x1; \
+        StoreTopR a1; {four}; SetupExcept a10; {six}; CallR a4 b1 x1; StoreTopR a2; {eight}; ReturnR b5"));
     let read = |at: usize| vec![format!("level 2 does not keep r5: its callee may overwrite it; if {at} raises, the handler at 10 reads it at 10")];
     assert_eq!(of("Move a4 b0", "Move a3 b0", "ReturnR b2"), read(7));
     assert_eq!(of("Move a4 b0", "Move a5 b0", "ReturnR b2"), read(6));
@@ -124,13 +124,18 @@ fn what_makes_it_so() {
 fn from_handler_to_handler() {
     let nested = "registers 5; try 0 4; try 5 9; LoadGlobalR a3 b1; CallR a0 x0; StoreTopR a1; ReturnR b1; SetupExcept a9; Move a1 b0; CallR a0 x0; \
         StoreTopR a1; ReturnR b1; ReturnR b3";
-    assert_eq!(warnings(nested), ["level 1 does not keep r3: its callee may overwrite it; if 1 raises, the handler at 4 runs; if 6 raises, the handler at 9 reads it at 9"]);
+    assert_eq!(warnings(nested), ["level 1 does not keep r3: its callee may overwrite it; if 1 raises, the handler at 4 runs; if 6 raises, the \
+        handler at 9 reads it at 9"]);
+    // Of two handlers around what raises the inner one.
+    let inner = "registers 6; try 3 9; try 4 7; LoadGlobalR a5 b1; CallR a0 x0; StoreTopR a1; SetupExcept a9; SetupExcept a7; CallR a0 x0; ReturnR b1; \
+        Move a1 b0; ReturnR b5; ReturnR b5";
+    assert_eq!(warnings(inner), ["level 1 does not keep r5: its callee may overwrite it; if 5 raises, the handler at 7 reads it at 8"]);
     // Eight handlers, each inside the next try.
     let mut long = String::from("registers 4; LoadGlobalR a3 b1; CallR a0 x0; StoreTopR a1");
     for k in 0..8 { long += &format!("; try {} {}; Move a1 b0; Move a1 b0; ReturnR b1", 3 * k + 2, 3 * k + 6) }
     let [told] = &warnings(&(long + "; ReturnR b3"))[..] else { panic!("one") };
-    assert_eq!(told, "level 1 does not keep r3: its callee may overwrite it; if 3 raises, the handler at 6 runs; and so on, 6 exceptions later; if 24 raises, the \
-        handler at 27 reads it at 27");
+    assert_eq!(told, "level 1 does not keep r3: its callee may overwrite it; if 3 raises, the handler at 6 runs; and so on, 6 exceptions later; if \
+        24 raises, the handler at 27 reads it at 27");
 }
 
 /// Levels with the same way are told together, many by the first of them; JSON and marks have them all.
@@ -141,7 +146,8 @@ fn many_levels_and_registers() {
     text += "; SetupExcept a34; CallR a0 x0; StoreTopR a1; ReturnR b1; PushRegs a5 b6 x2; ReturnR b1";
     let view = view(&text);
     let told: Vec<String> = view.exposed.iter().map(Exposed::says).collect();
-    let due = |r: u16| format!("levels 2, 4, 6, 8, 10, 12, 14, 16 and 6 more do not keep r{r}: their callees may overwrite it; if 31 raises, the handler at 34 reads it at 34");
+    let due = |r: u16| format!("levels 2, 4, 6, 8, 10, 12, 14, 16 and 6 more do not keep r{r}: their callees may overwrite it; if 31 raises, the handler at \
+        34 reads it at 34");
     assert_eq!(told, [due(5), due(6)]);
     assert_eq!(view.exposed[0].levels, (1..15).map(|k| 2 * k).collect::<Vec<_>>());
     let shown = text::body(&view);
@@ -156,7 +162,8 @@ fn many_levels_and_registers() {
 fn wide_charts() {
     let marks = source("exposed.txt").replace("registers 6", "registers 60") + &(6..50).map(|r| format!("\nMove a{r} b{r}")).collect::<String>();
     let page = page::body(&view(&marks));
-    assert!(page.contains("<td class=\"marks\" aria-hidden=\"true\">●··●▽····") && page.contains("<span class=\"cell exposed\" aria-hidden=\"true\">▽</span>"));
+    let due = ["<td class=\"marks\" aria-hidden=\"true\">●··●▽····", "<span class=\"cell exposed\" aria-hidden=\"true\">▽</span>"];
+    assert!(due.iter().all(|due| page.contains(due)), "{page}");
     let words = source("exposed.txt").replace("registers 6", "registers 400") + &(6..400).map(|r| format!("\nMove a{r} b{r}")).collect::<String>();
     let (text, page) = (text::body(&view(&words)), page::body(&view(&words)));
     assert!(text.contains("  nothing; r5 is exposed\n") && text.contains("\nWARNING: level 2 ") && !text.contains('▽'), "{text}");
@@ -179,7 +186,8 @@ fn past_a_marked_instruction() {
     let marked = "registers 4; CallR a0 x0; StoreTopR a1; ReturnR a3 b1 dunder; ReturnR b2";
     assert_eq!(warnings(marked), ["level 0 does not keep r2: its callee may overwrite it; by its mark `dunder` 2 goes on at 3, and 3 reads it"]);
     let both = "registers 4; try 3 6; CallR a0 x0; StoreTopR a1; ReturnR a3 b1 dunder; SetupExcept a6; CallR a0 x0; ReturnR b1; ReturnR b2";
-    assert_eq!(warnings(both)[1], "level 0 does not keep r2: its callee may overwrite it; by its mark `dunder` 2 goes on at 3; if 4 raises, the handler at 6 reads it at 6");
+    assert_eq!(warnings(both)[1], "level 0 does not keep r2: its callee may overwrite it; by its mark `dunder` 2 goes on at 3; if 4 raises, the \
+        handler at 6 reads it at 6");
     assert_eq!(view(marked).exposed[0].leaves, [Leave { at: 2, to: 3, raises: false }]);
 }
 
@@ -220,7 +228,7 @@ fn too_much_to_ask() {
     let view = view(&text);
     let due = "WARNING: too much is inside tries to ask here what is exposed.";
     assert!(view.unasked && view.warnings() == [due] && !self::view(&few).unasked);
-    assert!(text::body(&view).contains(due) && text::levels(&view).contains(due) && page::body(&view).contains(due) && diff::bodies(&self::view(&few), &view).ends_with(&format!("{due}\n")));
+    for told in [text::body(&view), text::levels(&view), page::body(&view), diff::bodies(&self::view(&few), &view)] { assert!(told.contains(due), "{told}") }
 }
 
 /// A body in blocks, each with a try at its end: its handler alone reads every second register, so that each level of the block exposes them all.
@@ -234,7 +242,7 @@ fn large(instructions: usize, registers: usize, block: usize) -> String {
             _ if at < registers => format!("LoadGlobalR a{at} b1\n"),
             _ if at == end - 4 => format!("SetupExcept a{}\n", start + end),
             _ if at == end - 1 => format!("Jump {}\n", (start + block).min(instructions)),
-            _ if at >= end => format!("PushRegs a{} b{} c{} x3\n", (6 * (at - end) + 1) % registers, (6 * (at - end) + 3) % registers, (6 * (at - end) + 5) % registers),
+            _ if at >= end => { let [a, b, c] = [1, 3, 5].map(|r| (6 * (at - end) + r) % registers); format!("PushRegs a{a} b{b} c{c} x3\n") }
             _ if at % 4 == 1 => "CallR a0 x0\n".into(),
             _ => "StoreTopR a2\n".into(),
         }
@@ -250,7 +258,8 @@ fn much_that_is_exposed() {
     let shell = Command::new("sh").args(["-c", "\"$0\" \"$1\" > \"$1.out\" && times", env!("CARGO_BIN_EXE_listing")]).arg(&file).output().unwrap();
     let text = fs::read_to_string(file.with_extension("txt.out")).unwrap();
     assert_eq!((text.matches("r61 r63 are exposed\n").count(), text.matches("\nWARNING: ").count()), (16 * 980, 16 * 32));
-    let seconds = |word: &str| { let (m, s) = word.trim_end_matches('s').split_once('m').unwrap(); 60.0 * m.parse::<f64>().unwrap() + s.parse::<f64>().unwrap() };
+    let part = |word: &str| word.parse::<f64>().unwrap();
+    let seconds = |word: &str| { let (m, s) = word.trim_end_matches('s').split_once('m').unwrap(); 60.0 * part(m) + part(s) };
     let counted = String::from_utf8(shell.stdout).unwrap();
     let took: f64 = counted.lines().nth(1).unwrap().split(' ').map(seconds).sum();
     assert!(took > 0.0 && took < 2.0, "{took} seconds");
@@ -307,7 +316,8 @@ fn good(body: &Body, view: &View, e: &Exposed, level: usize) {
     if e.leaves[0].raises { here.insert(level); }
     for leave in &e.leaves {
         let inside = view.tries.iter().any(|&(s, h)| s < leave.at && leave.at < h && h == leave.to);
-        assert!(here.contains(&leave.at) && (if leave.raises { inside } else { model::rows::stranded(&body.code[leave.at]) && leave.to == leave.at + 1 }), "{e:?}");
+        let past = model::rows::stranded(&body.code[leave.at]) && leave.to == leave.at + 1;
+        assert!(here.contains(&leave.at) && if leave.raises { inside } else { past }, "{e:?}");
         here = reached(view, leave.to, r);
     }
     let read = e.read.unwrap();
@@ -327,8 +337,8 @@ fn the_archives_word_and_true_ways() {
         let (words, tries) = (body.words(), &view.tries);
         let plain = turniploom::kept(&words, body.registers, tries, false).unwrap();
         let due = turniploom::exposed(&plain, &turniploom::kept_raising(&words, body.registers, tries, true).unwrap());
-        let at_levels: Vec<(usize, Vec<u16>)> = view.lines.iter().enumerate().filter_map(|(k, l)| Some((k, l.level.as_ref()?.exposed.clone()))).filter(|l| !l.1.is_empty()).collect();
-        assert_eq!(at_levels, due, "{text}");
+        let levels = view.lines.iter().enumerate().filter_map(|(k, l)| Some((k, l.level.as_ref()?.exposed.clone())));
+        assert_eq!(levels.filter(|l| !l.1.is_empty()).collect::<Vec<_>>(), due, "{text}");
         let mut pairs: Vec<(usize, u16)> = view.exposed.iter().flat_map(|e| e.levels.iter().map(|&k| (k, e.register))).collect();
         pairs.sort();
         let mut due: Vec<(usize, u16)> = due.into_iter().flat_map(|(k, list)| list.into_iter().map(move |r| (k, r))).collect();

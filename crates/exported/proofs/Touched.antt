@@ -20,7 +20,7 @@ use Rattle.roles.specs.declared.Touch.{Touch}
 use Rattle.roles.specs.declared.TouchAnswer.{TouchAnswer}
 use Rattle.roles.specs.declared.TouchAnswer.the-variants as touch
 use Rattle.roles.proofs.Cases.{touches}
-use Rattle.turniploom.specs.Answers.{touchTold}
+use Rattle.answers.specs.Answers.{touchTold}
 use Rattle.exported.specs.Told.{fieldsOf, TouchedHolds}
 use Rattle.exported.proofs.Answered.{refused-not}
 

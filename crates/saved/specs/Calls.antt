@@ -6,7 +6,7 @@ use lib.ListN.{length}
 use Rattle.code.specs.declared.Answer.{Answer}
 use Rattle.saver.specs.Saver.{Saver, saver, Back}
 use Rattle.saver.specs.Frames.{Event, enters, writes, leaves, Matched}
-use Rattle.turniploom.specs.Answers.{EnterTold, LeaveTold}
+use Rattle.answers.specs.Answers.{EnterTold, LeaveTold}
 
 -- From one saver to another by exported calls in order. An entry here is one that is answered; overwriting keeps the file's length; a leaving
 -- is whatever the call makes of it.

@@ -1,7 +1,7 @@
 -- `turniploom::truth` meets its contract: each arm knows the case. Assumes nothing.
 use borrow.Author.Needs.{needs}
 use Rattle.turniploom.proofs.Answers.{of-case}
-use Rattle.turniploom.specs.Answers.{truthTold}
+use Rattle.answers.specs.Answers.{truthTold}
 use Rattle.turniploom.proofs.truth.Statement.{statement}
 use Rattle.turniploom.proofs.truth.Tie as tie
 

@@ -1,7 +1,7 @@
 -- `turniploom::turniploom_field` meets its contract: each arm knows the case. Assumes nothing.
 use borrow.Author.Needs.{needs}
 use Rattle.turniploom.proofs.Answers.{by-case}
-use Rattle.turniploom.specs.Answers.{fieldTold}
+use Rattle.answers.specs.Answers.{fieldTold}
 use Rattle.turniploom.proofs.turniploom_field.Statement.{statement}
 use Rattle.turniploom.proofs.turniploom_field.Tie as tie
 

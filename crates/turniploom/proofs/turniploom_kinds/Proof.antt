@@ -1,7 +1,7 @@
 -- `turniploom::turniploom_kinds` meets its contract: each arm knows the case. Assumes nothing.
 use borrow.Author.Needs.{needs}
 use Rattle.turniploom.proofs.Answers.{by-case}
-use Rattle.turniploom.specs.Answers.{kindsTold}
+use Rattle.answers.specs.Answers.{kindsTold}
 use Rattle.turniploom.proofs.turniploom_kinds.Statement.{statement}
 use Rattle.turniploom.proofs.turniploom_kinds.Tie as tie
 

@@ -1,7 +1,7 @@
 -- `turniploom::turniploom_role` meets its contract: each arm knows the case. Assumes nothing.
 use borrow.Author.Needs.{needs}
 use Rattle.turniploom.proofs.Answers.{by-case}
-use Rattle.turniploom.specs.Answers.{roleTold}
+use Rattle.answers.specs.Answers.{roleTold}
 use Rattle.turniploom.proofs.turniploom_role.Statement.{statement}
 use Rattle.turniploom.proofs.turniploom_role.Tie as tie
 

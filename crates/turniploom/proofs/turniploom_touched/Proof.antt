@@ -1,7 +1,7 @@
 -- `turniploom::turniploom_touched` meets its contract: each arm knows the case. Assumes nothing.
 use borrow.Author.Needs.{needs}
 use Rattle.turniploom.proofs.Answers.{by-case}
-use Rattle.turniploom.specs.Answers.{touchTold}
+use Rattle.answers.specs.Answers.{touchTold}
 use Rattle.turniploom.proofs.turniploom_touched.Statement.{statement}
 use Rattle.turniploom.proofs.turniploom_touched.Tie as tie
 

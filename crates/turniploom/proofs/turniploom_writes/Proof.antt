@@ -1,7 +1,7 @@
 -- `turniploom::turniploom_writes` meets its contract. Assumes nothing.
 use borrow.Author.Needs.{needs}
 use Rattle.turniploom.proofs.Answers.{onto}
-use Rattle.turniploom.specs.Answers.{truthTold}
+use Rattle.answers.specs.Answers.{truthTold}
 use Rattle.turniploom.proofs.turniploom_writes.Statement.{statement}
 use Rattle.turniploom.proofs.turniploom_writes.Tie as tie
 

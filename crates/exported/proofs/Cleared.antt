@@ -18,7 +18,7 @@ use Rattle.clear.proofs.Loads.{recoded-length, recoded-op, recoded-mark, unmark
 use Rattle.clear.proofs.Room.{no-more}
 use Rattle.clear.proofs.Tested.{held-of}
 use Rattle.clear.proofs.Twice.{clear-twice}
-use Rattle.turniploom.proofs.Alone.{one-clear}
+use Rattle.answers.proofs.Alone.{one-clear}
 use Rattle.exported.specs.Settles as settles
 use Rattle.exported.specs.Settles.{Settles}
 use Rattle.exported.specs.Calls.{ClearCall, ClearBeyond}

@@ -25,8 +25,8 @@ use Rattle.refold.proofs.Lends.{lends, pool-stays, stays-beyond, refusal-leaves
 use Rattle.refold.proofs.Lands.{tries-follow, table-true}
 use Rattle.refold.proofs.Chain.{fold-clear-fold, fold-fold}
 use Rattle.refold.proofs.Refolds.{refold-call, accepted-again}
-use Rattle.turniploom.specs.Answers.{foldTold}
-use Rattle.turniploom.proofs.Alone.{one-fold}
+use Rattle.answers.specs.Answers.{foldTold}
+use Rattle.answers.proofs.Alone.{one-fold}
 use Rattle.exported.specs.Settles as settles
 use Rattle.exported.specs.Settles.{Settles}
 use Rattle.exported.specs.Calls.{FoldCall, ClearCall}

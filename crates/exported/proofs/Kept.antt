@@ -25,8 +25,8 @@ use Rattle.kept.proofs.Passes.{offsets-long}
 use Rattle.kept.proofs.Demand.{left, stands, no-level, demand-3, none-to-spare, kept-each-once}
 use Rattle.kept.proofs.Counts.{sweeps-few}
 use Rattle.kept.proofs.Widths.{totals-one, lists-one, offsets-one}
-use Rattle.turniploom.specs.Answers.{keptTold}
-use Rattle.turniploom.proofs.Alone.{one-kept}
+use Rattle.answers.specs.Answers.{keptTold}
+use Rattle.answers.proofs.Alone.{one-kept}
 use Rattle.exported.specs.Settles as settles
 use Rattle.exported.specs.Calls.{Lists, ListsCall, ListsSettles, KeptCall, KeptSettles}
 use Rattle.exported.specs.Told.{KeptHolds, SameLists}

@@ -18,7 +18,7 @@ use Rattle.rows.specs.Route.{firstOf}
 use Rattle.needed.specs.Path.{Needs}
 use Rattle.needed.specs.Answers.{uptoOf}
 use Rattle.needed.proofs.Rows.{needs-row, row-needs}
-use Rattle.turniploom.proofs.Alone.{one-needed}
+use Rattle.answers.proofs.Alone.{one-needed}
 use Rattle.exported.specs.Settles.{Settles}
 use Rattle.exported.specs.Calls.{Marks, NeededCall, MarksBeyond, Lists, KeptCall}
 use Rattle.exported.specs.Told.{Truth, startAt, rowLeft}

@@ -23,7 +23,7 @@ use Rattle.paths.specs.Search as paths
 use Rattle.phis.specs.Phi.{Dead}
 use Rattle.generators.specs.Generator.{GenPure}
 use Rattle.phis.specs.Answers.{Tells, roomBoth}
-use Rattle.turniploom.proofs.Alone.{one-targets, one-loops, one-dead, one-gen}
+use Rattle.answers.proofs.Alone.{one-targets, one-loops, one-dead, one-gen}
 use Rattle.exported.specs.Settles as settles
 use Rattle.exported.specs.Settles.{Settles}
 use Rattle.exported.specs.Calls.{TargetsCall, LoopsCall, EntriesBeyond, Marks, DeadCall, GenCall, MarksBeyond}

@@ -22,7 +22,7 @@ use Rattle.loops.specs.Answers.{LoopsAround}
 use Rattle.phis.specs.Answers.{DeadPhi}
 use Rattle.generators.specs.Answers.{GenTold}
 use Rattle.needed.specs.Answers.{NeededTold}
-use Rattle.turniploom.specs.Answers.{ListsTold, FoldTold}
+use Rattle.answers.specs.Answers.{ListsTold, FoldTold}
 use Rattle.exported.specs.Settles.{Refusal}
 
 -- ---- targets and loops_around write n + 1 entries

@@ -21,7 +21,7 @@ use Rattle.groups.specs.declared.Figures.{Figures}
 use Rattle.groups.specs.declared.FiguresAnswer.{FiguresAnswer}
 use Rattle.groups.specs.declared.FiguresAnswer.the-variants.{Is, No, Offsets, Over}
 use Rattle.figures.proofs.Month.{months, added, body-is}
-use Rattle.turniploom.proofs.Answered.{never-0}
+use Rattle.answers.proofs.Answered.{never-0}
 
 -- what was written is read back
 read-back : (f : Figures) (old : List ℕ) → length old ≡ 7 → figuresIn (wrote f old) ≡ f

@@ -35,8 +35,8 @@ use Rattle.groups.specs.declared.Figures.{Figures}
 use Rattle.groups.specs.declared.FiguresAnswer.{FiguresAnswer}
 use Rattle.groups.specs.declared.FiguresAnswer.the-variants.{Is, No, Offsets, Over}
 use Rattle.figures.proofs.Month.{totals}
-use Rattle.turniploom.specs.Answers.{keptTold, KeptTold}
-use Rattle.turniploom.proofs.Answered.{never-0}
+use Rattle.answers.specs.Answers.{keptTold, KeptTold}
+use Rattle.answers.proofs.Answered.{never-0}
 
 -- what an answered call leaves, as the figures read it
 record Lists (bits : ℕ) (w : List ℕ) (regs : ℕ) (tries offsets a b : List ℕ) (total : ℕ) : Type 0 where

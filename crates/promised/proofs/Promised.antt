@@ -37,7 +37,7 @@ use Rattle.exported.proofs.Origins.{origins-folded, origins-cleared, origins-ke
 use Rattle.exported.proofs.Ran.{runs-kept, rule-left, clears-kept, runs-cleared}
 use Rattle.exported.proofs.Cleared.{clear-settles, clear-holds, cleared-twice}
 use Rattle.levels.specs.Answers.{levelAnswer}
-use Rattle.turniploom.proofs.Alone.{one-make, one-enter, one-leave, one-replay, one-exposed}
+use Rattle.answers.proofs.Alone.{one-make, one-enter, one-leave, one-replay, one-exposed}
 use Rattle.saved.proofs.Exported as exported
 use Rattle.figured.proofs.Exported.{empty-report, add-report, join-report, add-keeps, join-keeps}
 use Rattle.figured.proofs.Kept.{kept-added, kept-total}

@@ -58,7 +58,7 @@ use Rattle.refold.specs.Examples.{jumping, summed, crossed, crossedCounts, cros
 use Rattle.refold.specs.Origins.{OriginsLeft}
 use Rattle.runs.specs.Machine.{Ins, Stack, End, Run}
 use Rattle.runs.specs.Rule.{Rule}
-use Rattle.turniploom.specs.Answers.{MadeTold, EnterTold, LeaveTold, ReplayTold}
+use Rattle.answers.specs.Answers.{MadeTold, EnterTold, LeaveTold, ReplayTold}
 use Rattle.exported.specs.Settles.{One, Settles}
 use Rattle.exported.specs.Calls.{TargetsCall, LoopsCall, EntriesBeyond, Marks, DeadCall, GenCall, NeededCall, MarksBeyond, Lists, KeptCall, KeptSettles}
 use Rattle.exported.specs.Calls.{FoldCall, ClearCall, ClearBeyond}
@@ -92,7 +92,7 @@ use Rattle.day.specs.Count.{readsIn, levelsIn}
 use Rattle.day.specs.Day.{stagesOf}
 use Rattle.replays.specs.Positions.{slotsFrom, visited}
 use Rattle.steps.specs.Level.{isLevel}
-use Rattle.turniploom.specs.Answers.{ExposedTold}
+use Rattle.answers.specs.Answers.{ExposedTold}
 use Rattle.nested.specs.Machine.{Event, nested, undisturbed, Sheltered}
 use Rattle.nested.specs.Raising.{levels, mays, frame, Tidy}
 use Rattle.nested.specs.Exposed.{ToldApart}

@@ -27,8 +27,8 @@ use Rattle.day.specs.declared.DayAnswer.{DayAnswer}
 use Rattle.day.specs.declared.DayAnswer.the-variants.{Is, No, Check, Filler, Move}
 use Rattle.trace.proofs.Runs.{fine-recorded, recorded-fine}
 use Rattle.day.proofs.Days.{steps-below}
-use Rattle.turniploom.specs.Answers.{ReplayTold}
-use Rattle.turniploom.proofs.Answered.{never-0}
+use Rattle.answers.specs.Answers.{ReplayTold}
+use Rattle.answers.proofs.Answered.{never-0}
 use Rattle.replays.specs.Positions.{slotsFrom, visited}
 use Rattle.replays.proofs.Stretch.{stretch}
 

@@ -34,8 +34,8 @@ use Rattle.saver.specs.declared.SaverAnswer.{SaverAnswer}
 use Rattle.saver.specs.declared.SaverAnswer.the-variants.{Used, Registers, Listed, Full, Nothing}
 use Rattle.frames.proofs.Resumes.{answers}
 use Rattle.frames.proofs.Open.{open-sound, none-open, some-open, made-open}
-use Rattle.turniploom.specs.Answers.{By, KeptTold, MadeTold, EnterTold, LeaveTold}
-use Rattle.turniploom.proofs.Answered.{never-0, kept-answered}
+use Rattle.answers.specs.Answers.{By, KeptTold, MadeTold, EnterTold, LeaveTold}
+use Rattle.answers.proofs.Answered.{never-0, kept-answered}
 use Rattle.saved.specs.Calls.{Called}
 use Rattle.saved.specs.Calls as called
 use Rattle.saved.proofs.Saved as saved

@@ -7,7 +7,7 @@ use Rattle.code.specs.declared.Answer.{Answer}
 use Rattle.saver.specs.Saver.{Saver, saver}
 use Rattle.leaves.specs.Leaving.{Back}
 use Rattle.frames.specs.Frames.{Event, enters, writes, leaves, Matched}
-use Rattle.turniploom.specs.Answers.{EnterTold, LeaveTold}
+use Rattle.answers.specs.Answers.{EnterTold, LeaveTold}
 
 -- From one saver to another by exported calls in order. An entry here is one that is answered; overwriting keeps the file's length; a leaving
 -- is whatever the call makes of it.

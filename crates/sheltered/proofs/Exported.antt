@@ -23,7 +23,7 @@ use Rattle.kept.specs.Lists.{over}
 use Rattle.kept.specs.Answers.{ListsLeft, Outcome}
 use Rattle.kept.specs.declared.KeptAnswer.the-variants.{Is}
 use Rattle.kept.proofs.Demand.{inside, left-by, stands-by, empty-by}
-use Rattle.turniploom.specs.Answers.{countTold, ExposedTold}
+use Rattle.answers.specs.Answers.{countTold, ExposedTold}
 use Rattle.exported.specs.Calls.{Lists, KeptCall}
 use Rattle.exported.specs.Told.{listLeft}
 use Rattle.exported.proofs.Kept.{lists-settle, told-of}

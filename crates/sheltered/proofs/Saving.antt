@@ -31,7 +31,7 @@ use Rattle.saver.specs.declared.SaverAnswer.the-variants.{Used}
 use Rattle.frames.proofs.Resumes.{frame-same, held-return, held-result, held-thrown}
 use Rattle.saved.specs.Calls.{Entered}
 use Rattle.saved.proofs.Exported.{by-call, left-is, played}
-use Rattle.turniploom.specs.Answers.{LeaveTold}
+use Rattle.answers.specs.Answers.{LeaveTold}
 use Rattle.exported.specs.Calls.{Lists}
 use Rattle.exported.specs.Told.{listLeft}
 use Rattle.nested.specs.Machine.{Event, step, back, thrown, nested, undisturbed, Spares}

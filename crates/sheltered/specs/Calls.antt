@@ -13,7 +13,7 @@ use Rattle.steps.specs.Level.{isLevel}
 use Rattle.steps.specs.Code.{jumpsBack}
 use Rattle.rows.specs.Route.{rowsIn}
 use Rattle.kept.specs.Level.{levelOf, keptAt}
-use Rattle.turniploom.specs.Answers.{ExposedTold}
+use Rattle.answers.specs.Answers.{ExposedTold}
 use Rattle.exported.specs.Calls.{Lists, ListsCall, ListsSettles, KeptCall}
 use Rattle.exported.specs.Told.{listLeft}
 use Rattle.nested.specs.Machine.{Sheltered}

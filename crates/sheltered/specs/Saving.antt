@@ -15,7 +15,7 @@ use Rattle.saver.specs.Saver.{Saver, regsOf}
 use Rattle.leaves.specs.Leaving as saver
 use Rattle.frames.specs.Frames.{fileOf, Sound}
 use Rattle.saved.specs.Calls.{Entered}
-use Rattle.turniploom.specs.Answers.{LeaveTold}
+use Rattle.answers.specs.Answers.{LeaveTold}
 use Rattle.nested.specs.Machine.{Event, step, back, thrown}
 use Rattle.nested.specs.Raising.{raising, mays, argsAt}
 

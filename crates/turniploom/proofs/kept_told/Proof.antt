@@ -1,7 +1,7 @@
 -- `turniploom::kept_told` meets its contract: each arm knows the case. Assumes nothing.
 use borrow.Author.Needs.{needs}
 use Rattle.turniploom.proofs.Answers.{of-case}
-use Rattle.turniploom.specs.Answers.{keptTold}
+use Rattle.answers.specs.Answers.{keptTold}
 use Rattle.turniploom.proofs.kept_told.Statement.{statement}
 use Rattle.turniploom.proofs.kept_told.Tie as tie
 

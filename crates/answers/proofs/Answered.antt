@@ -11,7 +11,7 @@ use Rattle.folding.proofs.Call as folding
 use Rattle.kept.specs.Answers.{Outcome}
 use Rattle.kept.specs.declared.KeptAnswer.{KeptAnswer}
 use Rattle.kept.specs.declared.KeptAnswer.the-variants.{Is, No}
-use Rattle.turniploom.specs.Answers.{keptTold, KeptTold}
+use Rattle.answers.specs.Answers.{keptTold, KeptTold}
 
 -- a refusal's number is not 0
 pub never-0 : (q : Refusal) → refusedOf q .refusal ≢ 0

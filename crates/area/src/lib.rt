@@ -33,7 +33,7 @@ pub fn store(
     let mut p = at;
     let mut i = 0;
     while i < list.len() {
-        let r = lists::wide(list[i]);
+        let r = taken::wide(list[i]);
         area[p] = r as u64;
         area[p + 1] = file[r];
         p += 2;

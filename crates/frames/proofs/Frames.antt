@@ -12,7 +12,7 @@ use lib.Seq.{sets, sets-eq, length-sets, getD-set-same, getD-set-other, getD-at,
 use Rattle.area.specs.Area.{freeOf, needOf}
 use Rattle.saver.specs.Saver.{Saver, saver, Ends, ends, regsOf, usedOf}
 use Rattle.leaves.specs.Leaving.{Back}
-use Rattle.lists.specs.Lists.{firstStrange}
+use Rattle.taken.specs.Lists.{firstStrange}
 use Rattle.area.specs.Area.{pairsOf, entryOf, putBack, topOf}
 use Rattle.saver.specs.Saver.{entered, enterOf}
 use Rattle.leaves.specs.Leaving.{written, leftBy, leaveOf}

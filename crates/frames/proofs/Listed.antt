@@ -13,8 +13,8 @@ use Rattle.laws.specs.Walk.{first}
 use Rattle.laws.proofs.Some.{passes-at}
 use Rattle.laws.proofs.Walk.{none-passed}
 use Rattle.flow.specs.Demand.{Once}
-use Rattle.lists.specs.Lists.{strange, firstStrange}
-use Rattle.lists.proofs.Lists.{as-at, all-in}
+use Rattle.taken.specs.Lists.{strange, firstStrange}
+use Rattle.taken.proofs.Lists.{as-at, all-in}
 
 -- a member stands somewhere
 pub in-place : {r : ℕ} (l : List ℕ) → List·Memᴰ r l → (i : ℕ) × (i < length l) × (getD l i 0 ≡ r)

@@ -19,7 +19,7 @@ use Rattle.kept.specs.Lists.{partAt}
 use Rattle.kept.specs.Answers.{Outcome}
 use Rattle.kept.specs.declared.KeptAnswer.the-variants.{Is}
 use Rattle.kept.proofs.Demand.{demand-3, kept-each-once}
-use Rattle.lists.specs.Lists.{firstStrange}
+use Rattle.taken.specs.Lists.{firstStrange}
 use Rattle.area.specs.Area.{freeOf, needOf, putIn}
 use Rattle.saver.specs.Saver.{Saver, ends, regsOf, usedOf, entered, enterOf}
 use Rattle.leaves.specs.Leaving.{returned, thrown, leaveOf}

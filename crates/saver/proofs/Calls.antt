@@ -5,9 +5,9 @@ use Prim.Native.Nat.{ℕ, _/_, _≤_, _<_}
 use native.Mathlib.Omega.{arith}
 use borrow.Author.Tests.{lt-ltb, le-ltb}
 use lib.ListN.{length, getD, set}
-use Rattle.lists.specs.Lists.{firstStrange}
+use Rattle.taken.specs.Lists.{firstStrange}
 use Rattle.area.specs.Area.{freeOf, needOf, Fit, Stored}
-use Rattle.lists.proofs.Lists.{all-in}
+use Rattle.taken.proofs.Lists.{all-in}
 use Rattle.saver.specs.Saver.{saver, ends, Made, enterOf}
 use Rattle.saver.specs.declared.SaverAnswer.the-variants.{Used, Registers, Listed, Full}
 

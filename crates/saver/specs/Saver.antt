@@ -6,7 +6,7 @@ use mathlib.Core.List.{List}
 use lib.Dec.{ltb}
 use lib.ListN.{length, getD, set}
 use lib.Seq.{sets}
-use Rattle.lists.specs.Lists.{firstStrange}
+use Rattle.taken.specs.Lists.{firstStrange}
 use Rattle.area.specs.Area.{freeOf, needOf, entryOf}
 use Rattle.saver.specs.declared.SaverAnswer.{SaverAnswer}
 use Rattle.saver.specs.declared.SaverAnswer.the-variants.{Used, Registers, Listed, Full}

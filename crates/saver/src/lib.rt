@@ -68,7 +68,7 @@ pub fn enter(
     if 64 < regs {
         return SaverAnswer::Registers(regs);
     }
-    let odd = lists::first_strange(list, regs);
+    let odd = taken::first_strange(list, regs);
     if odd < list.len() {
         return SaverAnswer::Listed(odd);
     }

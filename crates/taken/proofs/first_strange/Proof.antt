@@ -1,13 +1,13 @@
--- `lists::first_strange` meets its contract. Assumes nothing.
+-- `taken::first_strange` meets its contract. Assumes nothing.
 use borrow.Author.Needs.{needs}
 use mathlib.Core.Path.{_≡_}
 use Prim.Native.Nat.{_≤_, _-_}
 use lib.ListN.{length}
 use Rattle.laws.specs.Walk.{first}
 use Rattle.laws.proofs.Walk.{finds}
-use Rattle.lists.specs.Lists.{strange, firstStrange}
-use Rattle.lists.proofs.first_strange.Statement.{statement}
-use Rattle.lists.proofs.first_strange.Tie as tie
+use Rattle.taken.specs.Lists.{strange, firstStrange}
+use Rattle.taken.proofs.first_strange.Statement.{statement}
+use Rattle.taken.proofs.first_strange.Tie as tie
 
 abbrev Inv-loop : tie.InvT-loop
 Inv-loop list regs i₀ i = (i ≤ length list) × (first (strange regs list) i (length list - i) ≡ firstStrange regs list)

@@ -1,13 +1,13 @@
--- `lists::before` meets its contract. Assumes nothing.
+-- `taken::before` meets its contract. Assumes nothing.
 use borrow.Author.Needs.{needs}
 use native.Mathlib.Omega.{arith}
 use mathlib.Core.Path.{_≡_}
 use mathlib.Core.Bool.{false}
 use Prim.Native.Nat.{_≤_, _-_}
 use Rattle.laws.specs.Some.{some}
-use Rattle.lists.proofs.Lists.{as-at, before-none, before-yes, before-on, before-no}
-use Rattle.lists.proofs.before.Statement.{statement}
-use Rattle.lists.proofs.before.Tie as tie
+use Rattle.taken.proofs.Lists.{as-at, before-none, before-yes, before-on, before-no}
+use Rattle.taken.proofs.before.Statement.{statement}
+use Rattle.taken.proofs.before.Tie as tie
 
 abbrev Inv-loop : tie.InvT-loop
 Inv-loop list i j₀ j = (j ≤ i) × (some (as-at list i) j ≡ false)

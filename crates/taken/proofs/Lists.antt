@@ -10,7 +10,7 @@ use lib.ListN.{length, getD}
 use Rattle.laws.specs.Some.{some}
 use Rattle.laws.proofs.Some.{passes-at, some-more, nowhere-yet, nowhere}
 use Rattle.laws.proofs.Walk.{none-passed}
-use Rattle.lists.specs.Lists.{strange, firstStrange}
+use Rattle.taken.specs.Lists.{strange, firstStrange}
 
 abbrev pub as-at : List ℕ → ℕ → ℕ → Bool
 as-at l i = λ j. eqb (getD l j 0) (getD l i 0)

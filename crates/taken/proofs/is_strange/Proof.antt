@@ -1,8 +1,8 @@
--- `lists::is_strange` meets its contract. Assumes nothing.
+-- `taken::is_strange` meets its contract. Assumes nothing.
 use borrow.Author.Needs.{needs}
-use Rattle.lists.proofs.Lists.{strange-is}
-use Rattle.lists.proofs.is_strange.Statement.{statement}
-use Rattle.lists.proofs.is_strange.Tie as tie
+use Rattle.taken.proofs.Lists.{strange-is}
+use Rattle.taken.proofs.is_strange.Statement.{statement}
+use Rattle.taken.proofs.is_strange.Tie as tie
 
 mul-wide : tie.Need-mul-wide
 mul-wide c = search needs

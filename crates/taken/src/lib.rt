@@ -4,7 +4,7 @@ ghost use Prim.Native.Nat.{_<_};
 ghost use lib.ListN.{length, getD};
 ghost use lib.Dec.{eqb};
 ghost use Rattle.laws.specs.Some.{some};
-ghost use Rattle.lists.specs.Lists.{strange, firstStrange};
+ghost use Rattle.taken.specs.Lists.{strange, firstStrange};
 
 // The first place of the list with a register that is not in the file, or listed before; else the list's length.
 pub fn first_strange(list: &[u16], regs: usize) -> usize

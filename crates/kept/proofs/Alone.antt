@@ -21,7 +21,7 @@ use Rattle.kept.specs.Lists.{listsTo, offsetsTo, over}
 use Rattle.kept.specs.Answers.{scratchFor, stagesOf, RowsLeft, ListsLeft, refused, short, told}
 use Rattle.kept.specs.declared.KeptAnswer.{KeptAnswer}
 use Rattle.kept.specs.declared.KeptAnswer.the-variants.{Is, No}
-use Rattle.kept.proofs.Sets.{held}
+use Rattle.sets.proofs.Words.{held}
 use Rattle.kept.proofs.Tests.{accepted-scratch}
 
 -- words are settled by the set that they hold

@@ -26,7 +26,7 @@ use Rattle.kept.specs.Lists.{listsTo, offsetsTo, over, Width, Ready, Fil
 use Rattle.kept.specs.Answers.{scratchFor, stagesOf, RowsLeft, ListsLeft, Outcome, refused, short, told}
 use Rattle.kept.specs.declared.KeptAnswer.{KeptAnswer}
 use Rattle.kept.specs.declared.KeptAnswer.the-variants.{Is, No}
-use Rattle.kept.proofs.Sets.{scaled}
+use Rattle.lists.proofs.Less.{scaled}
 use Rattle.kept.proofs.Tests.{accepted-offsets, accepted-scratch, accepted-few, accepted-valid, accepted-count}
 
 -- rows lie in the first words of a buffer

@@ -1,6 +1,3 @@
-pub mod Sets
-pub mod Walks
-pub mod Tries
 pub mod Levels
 pub mod Passes
 pub mod Over

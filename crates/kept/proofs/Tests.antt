@@ -19,7 +19,7 @@ use Rattle.code.proofs.Stages.{regs-before, regs-few, tries-before, room-before
 use Rattle.rows.specs.Route.{wordsFor}
 use Rattle.rows.proofs.Routes.{words-few}
 use Rattle.kept.specs.Answers.{scratchFor, stagesOf}
-use Rattle.kept.proofs.Sets.{scaled}
+use Rattle.lists.proofs.Less.{scaled}
 
 -- what is known once refusals 1 to 4 are past
 module _ (w : List ℕ) (regs : ℕ) (tries : List ℕ) (n : ℕ) (h : triedOf (registersOf (checkOf w) regs) tries ≡ Count n) where

@@ -1,22 +1,16 @@
 // The registers that each level keeps, by rows of 32 bits: the code of `kept` with other numbers.
 ghost use mathlib.Core.Path.{_≡_};
-ghost use mathlib.Core.Bool.{_&&_};
-ghost use mathlib.Core.List.{[], _∷_};
-ghost use Prim.Native.Nat.{suc, _+_, _*_, _<_, _≤_};
-ghost use lib.ListN.{length, take, drop};
-ghost use lib.Bits.{bitOr};
-ghost use lib.Dec.{ltb};
+ghost use Prim.Native.Nat.{_+_, _<_, _≤_};
+ghost use lib.ListN.{length};
 ghost use Rattle.code.specs.Ins.{count};
-ghost use Rattle.code.specs.Check.{Valid};
 ghost use Rattle.flow.specs.Set.{minus};
-ghost use Rattle.flow.specs.Flow.{joined};
 ghost use Rattle.flow.specs.Sweep.{row};
-ghost use Rattle.flow.specs.Listed.{listed, Listing};
-ghost use Rattle.flow.specs.Words.{value, rowsOf, Small, Holds};
-ghost use Rattle.flow.specs.Kept.{handlersOf, added, kept as keptOf};
+ghost use Rattle.flow.specs.Listed.{Listing};
+ghost use Rattle.flow.specs.Words.{Holds};
+ghost use Rattle.flow.specs.Kept.{kept as keptOf};
 ghost use Rattle.kept.specs.Level.{resumeOf, resultOf, levelOf, keptAt};
 ghost use Rattle.kept.specs.Lists.{rowsBy, listsTo, Ready, Filled};
-ghost use Rattle.kept.specs.Answers.{stagesOf, scratchFor, Outcome};
+ghost use Rattle.kept.specs.Answers.{stagesOf, Outcome};
 use code::Checked;
 use code::Refusal;
 use kept::KeptAnswer;
@@ -40,165 +34,14 @@ pub fn kept32(
     }
 }
 
-// The row that starts at `at`, less a set.
-fn less_row(rows: &[u32], at: usize, words: usize, less: [u32; 32]) -> [u32; 32]
-    requires { ⌜ (words ≤ 32) × (at + words ≤ length (now rows)) × Small 32 less × Small 32 (now rows) ⌝ }
-    ensures { λ s. ⌜ Holds 32 s (minus (value 32 (take words (drop at (now (rows .entry))))) (value 32 less)) ⌝ }
-{
-    let mut out = [0u32; 32];
-    let mut j = 0;
-    while j < words {
-        out[j] = rows[at + j] & !less[j];
-        j += 1;
-    }
-    out
-}
-
-// The registers of a word whose lowest bit is register `base`, ascending, from m on: the place past the last.
-fn list_word(word: u32, base: u16, out: &mut [u16], m: usize) -> usize
-    requires { ⌜ (base ≤ 1024) × (m + length (listed 32 base word) ≤ length (now out)) ⌝ }
-    ensures { λ r. ⌜ Listing (listed 32 base word) (now (out .entry)) m (now (out .exit)) r ⌝ }
-{
-    let mut rest = word;
-    let mut n = m;
-    while rest != 0 {
-        let low = u32::trailing_zeros(rest);
-        out[n] = base + (low as u16);
-        rest = rest & (rest - 1);
-        n += 1;
-    }
-    n
-}
-
-// The registers of a set, ascending, from m on: the place past the last.
-fn list_set(set: [u32; 32], words: usize, out: &mut [u16], m: usize) -> usize
-    requires { ⌜ (words ≤ 32) × Small 32 set × (m + length (listed (words * 32) 0 (value 32 set)) ≤ length (now out)) ⌝ }
-    ensures { λ r. ⌜ Listing (listed (words * 32) 0 (value 32 set)) (now (out .entry)) m (now (out .exit)) r ⌝ }
-{
-    let mut n = m;
-    let mut j = 0;
-    while j < words {
-        n = list_word(set[j], (32 * j) as u16, out, n);
-        j += 1;
-    }
-    n
-}
-
-// How many registers a set has.
-fn count_set(set: [u32; 32], words: usize) -> usize
-    requires { ⌜ (words ≤ 32) × Small 32 set ⌝ }
-    ensures { λ r. ⌜ r ≡ length (listed (words * 32) 0 (value 32 set)) ⌝ }
-{
-    let mut n = 0;
-    let mut j = 0;
-    while j < words {
-        n += u32::count_ones(set[j]) as usize;
-        j += 1;
-    }
-    n
-}
-
-// A set and the row of the handler of the try (s, h), if it is around k, together.
-fn join_try(
-    seen: [u32; 32],
-    rows: &[u32],
-    n: usize,
-    words: usize,
-    k: usize,
-    s: usize,
-    h: usize,
-) -> [u32; 32]
-    requires { ⌜ (n ≤ 65535) × (words ≤ 32) × (suc n * words ≤ length (now rows)) × Small 32 seen × Small 32 (now rows) ⌝ }
-    ensures { λ r. ⌜ Holds 32 r (bitOr (value 32 seen) (joined (row (rowsOf 32 words (suc n) (now (rows .entry)))) (handlersOf n k (s ∷ h ∷ [])))) ⌝ }
-{
-    if kept::around(s, k, h) {
-        return rows32::join_row(seen, rows, code::least(h, n) * words, words);
-    }
-    seen
-}
-
-// What that handler adds to the registers seen, from m on: the place past the last.
-fn list_try(
-    seen: [u32; 32],
-    rows: &[u32],
-    n: usize,
-    words: usize,
-    k: usize,
-    s: usize,
-    h: usize,
-    out: &mut [u16],
-    m: usize,
-) -> usize
-    requires { ⌜ (n ≤ 65535) × (words ≤ 32) × (suc n * words ≤ length (now rows)) × Small 32 seen × Small 32 (now rows) × (m + length (added (words * 32) (row (rowsOf 32 words (suc n) (now rows))) (value 32 seen) (handlersOf n k (s ∷ h ∷ []))) ≤ length (now out)) ⌝ }
-    ensures { λ r. ⌜ Listing (added (words * 32) (row (rowsOf 32 words (suc n) (now (rows .entry)))) (value 32 seen) (handlersOf n k (s ∷ h ∷ []))) (now (out .entry)) m (now (out .exit)) r ⌝ }
-{
-    if kept::around(s, k, h) {
-        let more = less_row(rows, code::least(h, n) * words, words, seen);
-        return list_set(more, words, out, m);
-    }
-    m
-}
-
-// A set and the rows of the handlers around k, together.
-pub fn join_tries(
-    seen: [u32; 32],
-    rows: &[u32],
-    n: usize,
-    words: usize,
-    k: usize,
-    tries: &[u32],
-) -> [u32; 32]
-    requires { ⌜ (n ≤ 65535) × (words ≤ 32) × (suc n * words ≤ length (now rows)) × Small 32 seen × Small 32 (now rows) ⌝ }
-    ensures { λ r. ⌜ Holds 32 r (bitOr (value 32 seen) (joined (row (rowsOf 32 words (suc n) (now (rows .entry)))) (handlersOf n k (now (tries .entry))))) ⌝ }
-{
-    let mut all = seen;
-    let mut i = 0;
-    while i + 1 < tries.len() {
-        let s = kept::wide_of(tries[i]);
-        let h = kept::wide_of(tries[i + 1]);
-        let more = join_try(all, rows, n, words, k, s, h);
-        all = more;
-        i += 2;
-    }
-    all
-}
-
-// What the handlers around k add to the registers seen, from m on: the place past the last.
-fn list_tries(
-    seen: [u32; 32],
-    rows: &[u32],
-    n: usize,
-    words: usize,
-    k: usize,
-    tries: &[u32],
-    out: &mut [u16],
-    m: usize,
-) -> usize
-    requires { ⌜ (n ≤ 65535) × (words ≤ 32) × (suc n * words ≤ length (now rows)) × Small 32 seen × Small 32 (now rows) × (m + length (added (words * 32) (row (rowsOf 32 words (suc n) (now rows))) (value 32 seen) (handlersOf n k (now tries))) ≤ length (now out)) ⌝ }
-    ensures { λ r. ⌜ Listing (added (words * 32) (row (rowsOf 32 words (suc n) (now (rows .entry)))) (value 32 seen) (handlersOf n k (now (tries .entry)))) (now (out .entry)) m (now (out .exit)) r ⌝ }
-{
-    let mut all = seen;
-    let mut at = m;
-    let mut i = 0;
-    while i + 1 < tries.len() {
-        let s = kept::wide_of(tries[i]);
-        let h = kept::wide_of(tries[i + 1]);
-        at = list_try(all, rows, n, words, k, s, h, out, at);
-        let more = join_try(all, rows, n, words, k, s, h);
-        all = more;
-        i += 2;
-    }
-    at
-}
-
 // The resume row of the level at k, less its result register.
 fn main_row(code: &[u16], regs: usize, rows: &[u32], words: usize, k: usize) -> [u32; 32]
     requires { ⌜ Ready 32 32 regs (now code) words (now rows) × (k < count (now code)) ⌝ }
     ensures { λ s. ⌜ Holds 32 s (minus (row (rowsBy 32 words (now (code .entry)) (now (rows .entry))) (resumeOf (now (code .entry)) k)) (resultOf regs (now (code .entry)) k)) ⌝ }
 {
     let a = steps::after(code, k);
-    let whole = rows32::join_row([0u32; 32], rows, a.at * words, words);
-    rows32::without_reg(whole, true, regs, a.result)
+    let whole = sets32::join_row([0u32; 32], rows, a.at * words, words);
+    sets32::without_reg(whole, true, regs, a.result)
 }
 
 // How many registers the level at k keeps.
@@ -214,8 +57,8 @@ fn count_level(
     ensures { λ r. ⌜ (r ≡ length (keptOf regs (row (rowsBy 32 words (now (code .entry)) (now (rows .entry)))) (levelOf regs (now (code .entry)) (now (tries .entry)) k))) × (r ≤ 1024) ⌝ }
 {
     let main = main_row(code, regs, rows, words, k);
-    let all = join_tries(main, rows, code.len() / 6, words, k, tries);
-    count_set(all, words)
+    let all = lists32::join_tries(main, rows, code.len() / 6, words, k, tries);
+    lists32::count_set(all, words)
 }
 
 // The registers that the level at k keeps, from m on: the place past the last.
@@ -233,8 +76,8 @@ fn keep_level(
     ensures { λ r. ⌜ Listing (keptOf regs (row (rowsBy 32 words (now (code .entry)) (now (rows .entry)))) (levelOf regs (now (code .entry)) (now (tries .entry)) k)) (now (out .entry)) m (now (out .exit)) r ⌝ }
 {
     let main = main_row(code, regs, rows, words, k);
-    let at = list_set(main, words, out, m);
-    list_tries(main, rows, code.len() / 6, words, k, tries, out, at)
+    let at = lists32::list_set(main, words, out, m);
+    lists32::list_tries(main, rows, code.len() / 6, words, k, tries, out, at)
 }
 
 // How many registers are kept at k.

@@ -21,7 +21,7 @@ use Rattle.flow.proofs.Answer.{found-regs}
 use Rattle.steps.specs.Code.{usedAt}
 use Rattle.rows.specs.Route.{wordsFor, firstOf, rowsIn}
 use Rattle.rows.proofs.Routes.{words-few, words-enough}
-use Rattle.rows.proofs.Sets.{set-lt}
+use Rattle.sets.proofs.Sets.{set-lt}
 use Rattle.kept.specs.Lists.{listsTo, Width, Ready, Filled}
 use Rattle.kept.specs.Answers.{stagesOf}
 use Rattle.kept.specs.declared.KeptAnswer.the-variants.{Is, No}

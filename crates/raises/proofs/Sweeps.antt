@@ -29,8 +29,8 @@ use Rattle.steps.specs.Code.{afterAt}
 use Rattle.steps.specs.Step.{usedOf, StepAt, goesBefore, stepFlow}
 use Rattle.steps.specs.declared.Step.{Step}
 use Rattle.steps.proofs.Follows.{below-step}
-use Rattle.rows.proofs.Sets.{or-assoc, joined-append, set-lt}
-use Rattle.rows.proofs.Words.{one}
+use Rattle.sets.proofs.Sets.{or-assoc, joined-append, set-lt}
+use Rattle.sets.proofs.Words.{one}
 use Rattle.nested.specs.Raising.{stranded, raisesAt, raising, mays}
 use Rattle.raises.specs.Step.{raisingStep}
 

@@ -39,8 +39,8 @@ fn after_wide(s: Step, rows: &[u64], n: usize, words: usize, k: usize) -> [u64; 
     requires { ⌜ (words ≤ 16) × (k < n) × (s .target ≤ n) × (suc n * words ≤ length (now rows)) × Small 64 (now rows) ⌝ }
     ensures { λ r. ⌜ Holds 64 r (joined (row (rowsOf 64 words (suc n) (now (rows .entry)))) (afterOf s k)) ⌝ }
 {
-    let next = rows::join_if(s.on, [0u64; 16], rows, k + 1, words);
-    rows::join_if(s.to, next, rows, s.target, words)
+    let next = sets::join_if(s.on, [0u64; 16], rows, k + 1, words);
+    sets::join_if(s.to, next, rows, s.target, words)
 }
 
 // A set with a register, if, and if there is such a register.
@@ -74,9 +74,9 @@ fn without_named(set: [u64; 16], regs: usize, mask: u8, a: u16, b: u16, c: u16) 
     requires { ⌜ (regs ≤ 1024) × Small 64 set ⌝ }
     ensures { λ s. ⌜ Holds 64 s (minus (value 64 set) (setOf regs (named mask a b c))) ⌝ }
 {
-    let p = rows::without_reg(set, mask / 2 % 2 == 1, regs, a as usize);
-    let q = rows::without_reg(p, mask / 4 % 2 == 1, regs, b as usize);
-    rows::without_reg(q, mask / 8 % 2 == 1, regs, c as usize)
+    let p = sets::without_reg(set, mask / 2 % 2 == 1, regs, a as usize);
+    let q = sets::without_reg(p, mask / 4 % 2 == 1, regs, b as usize);
+    sets::without_reg(q, mask / 8 % 2 == 1, regs, c as usize)
 }
 
 // A set without the `run` registers from b on.
@@ -87,7 +87,7 @@ fn without_run(set: [u64; 16], regs: usize, b: usize, run: u8) -> [u64; 16]
     if run == 0 {
         return set;
     }
-    let rest = rows::without_reg(set, true, regs, b);
+    let rest = sets::without_reg(set, true, regs, b);
     without_run(rest, regs, b + 1, run - 1)
 }
 
@@ -133,9 +133,9 @@ fn row_raising(
     ensures { λ r. ⌜ Holds 64 r (rowAt (raisingStep may past n regs (now (tries .entry)) s) (row (rowsOf 64 words (suc n) (now (rows .entry)))) k) ⌝ }
 {
     let plain = row_wide(s, regs, rows, n, words, k);
-    let next = rows::join_if(past, plain, rows, k + 1, words);
+    let next = sets::join_if(past, plain, rows, k + 1, words);
     if may {
-        return kept::join_tries(next, rows, n, words, k, tries);
+        return lists::join_tries(next, rows, n, words, k, tries);
     }
     next
 }

@@ -12,7 +12,7 @@ use Rattle.flow.proofs.Answer.{found-one, found-least, found-below, found-regs,
 use Rattle.steps.specs.Level.{firstLevel}
 use Rattle.steps.specs.Code.{usedAt, flow}
 use Rattle.rows.specs.Route.{firstOf, rowsIn, Rows}
-use Rattle.rows.proofs.Sets.{set-lt}
+use Rattle.sets.proofs.Sets.{set-lt}
 use Rattle.rows.proofs.Sweeps.{level-le}
 
 module _ (bits : ℕ) (wide : Bool) (regs : ℕ) (w buf : List ℕ) (full lost : ℕ) (found : Rows bits wide regs w buf full lost) where

@@ -1,5 +1,3 @@
-pub mod Sets
-pub mod Words
 pub mod Sweeps
 pub mod Routes
 pub mod Least

@@ -1,19 +1,16 @@
 // The live registers before each instruction, in rows of 32 bits: the code of `rows` with other numbers.
 ghost use mathlib.Core.Path.{_≡_};
-ghost use mathlib.Core.Bool.{cond};
-ghost use Prim.Native.Nat.{suc, _+_, _*_, _/_, _%_, _<_, _≤_};
-ghost use lib.ListN.{length, replicate, take, drop};
-ghost use lib.Bits.{bitOr};
+ghost use Prim.Native.Nat.{suc, _+_, _*_, _<_, _≤_};
+ghost use lib.ListN.{length, replicate};
 ghost use Rattle.code.specs.Ins.{count};
 ghost use Rattle.code.specs.Check.{Valid};
-ghost use Rattle.roles.specs.Sets.{only, from};
-ghost use Rattle.flow.specs.Set.{minus};
+ghost use Rattle.roles.specs.Sets.{only};
 ghost use Rattle.flow.specs.Flow.{joined, rowAt};
 ghost use Rattle.flow.specs.Sweep.{row, Put, Found};
-ghost use Rattle.flow.specs.Words.{value, window, rowsOf, Small, Holds, Stored};
+ghost use Rattle.flow.specs.Words.{rowsOf, Small, Holds};
 ghost use Rattle.steps.specs.Level.{firstLevel};
 ghost use Rattle.steps.specs.Code.{setOf, flow};
-ghost use Rattle.steps.specs.Step.{named, usedOf, givenOf, afterOf, stepFlow};
+ghost use Rattle.steps.specs.Step.{givenOf, afterOf, stepFlow};
 ghost use Rattle.steps.specs.Calm.{calmOf, calmStep};
 ghost use Rattle.rows.specs.Route.{wordsFor, Rows};
 use code::Ins;
@@ -48,48 +45,12 @@ fn after_word(s: Step, rows: &[u32], k: usize) -> u32
     row_if(s.on, rows, k + 1) | row_if(s.to, rows, s.target)
 }
 
-// Register r, if, and if there is such a register.
-fn reg_word(t: bool, regs: usize, r: usize) -> u32
-    requires { ⌜ regs ≤ 32 ⌝ }
-    ensures { λ x. ⌜ x ≡ setOf regs (only t r) ⌝ }
-{
-    if t {
-        if r < regs {
-            return 1u32 << r;
-        }
-        return 0;
-    }
-    0
-}
-
-// Those of three registers that a mask names.
-fn named_word(regs: usize, mask: u8, a: u16, b: u16, c: u16) -> u32
-    requires { ⌜ regs ≤ 32 ⌝ }
-    ensures { λ x. ⌜ x ≡ setOf regs (named mask a b c) ⌝ }
-{
-    let p = reg_word(mask / 2 % 2 == 1, regs, a as usize);
-    let q = reg_word(mask / 4 % 2 == 1, regs, b as usize);
-    let r = reg_word(mask / 8 % 2 == 1, regs, c as usize);
-    p | q | r
-}
-
-// The `run` registers from b on.
-fn run_word(regs: usize, b: usize, run: u8) -> u32
-    requires { ⌜ (regs ≤ 32) × (b + run ≤ 65790) ⌝ }
-    ensures { λ x. ⌜ x ≡ setOf regs (from b run) ⌝ }
-{
-    if run == 0 {
-        return 0;
-    }
-    reg_word(true, regs, b) | run_word(regs, b + 1, run - 1)
-}
-
 // What a step gives up.
 fn given_word(s: Step, regs: usize) -> u32
     requires { ⌜ regs ≤ 32 ⌝ }
     ensures { λ x. ⌜ x ≡ setOf regs (givenOf s) ⌝ }
 {
-    named_word(regs, s.given, s.a, s.b, s.c) | run_word(regs, s.b as usize, s.run)
+    sets32::named_word(regs, s.given, s.a, s.b, s.c) | sets32::run_word(regs, s.b as usize, s.run)
 }
 
 // Row k, found from the rows as they are.
@@ -99,7 +60,7 @@ fn row_word(s: Step, regs: usize, rows: &[u32], k: usize) -> u32
 {
     let set = after_word(s, rows, k);
     let gone = given_word(s, regs);
-    let used = named_word(regs, s.used, s.a, s.b, s.c);
+    let used = sets32::named_word(regs, s.used, s.a, s.b, s.c);
     used | (set & !gone)
 }
 
@@ -235,103 +196,13 @@ pub fn live_word(code: &[u16], regs: usize, rows: &mut [u32]) -> Counts
     }
 }
 
-// A set and the row that starts at `at`, together.
-pub fn join_row(set: [u32; 32], rows: &[u32], at: usize, words: usize) -> [u32; 32]
-    requires { ⌜ (words ≤ 32) × (at + words ≤ length (now rows)) × Small 32 set × Small 32 (now rows) ⌝ }
-    ensures { λ s. ⌜ Holds 32 s (bitOr (value 32 set) (value 32 (take words (drop at (now (rows .entry)))))) ⌝ }
-{
-    let mut out = set;
-    let mut j = 0;
-    while j < words {
-        out[j] = out[j] | rows[at + j];
-        j += 1;
-    }
-    out
-}
-
-// A set and row k, if, together.
-pub fn join_if(t: bool, set: [u32; 32], rows: &[u32], k: usize, words: usize) -> [u32; 32]
-    requires { ⌜ (words ≤ 32) × (k * words + words ≤ length (now rows)) × Small 32 set × Small 32 (now rows) ⌝ }
-    ensures { λ s. ⌜ Holds 32 s (bitOr (value 32 set) (cond t (value 32 (window words k (now (rows .entry)))) 0)) ⌝ }
-{
-    if t {
-        return join_row(set, rows, k * words, words);
-    }
-    set
-}
-
 // The rows after a step at k, together.
 fn after_wide(s: Step, rows: &[u32], n: usize, words: usize, k: usize) -> [u32; 32]
     requires { ⌜ (words ≤ 32) × (k < n) × (s .target ≤ n) × (suc n * words ≤ length (now rows)) × Small 32 (now rows) ⌝ }
     ensures { λ r. ⌜ Holds 32 r (joined (row (rowsOf 32 words (suc n) (now (rows .entry)))) (afterOf s k)) ⌝ }
 {
-    let next = join_if(s.on, [0u32; 32], rows, k + 1, words);
-    join_if(s.to, next, rows, s.target, words)
-}
-
-// A set with a register, if, and if there is such a register.
-fn with_reg(set: [u32; 32], t: bool, regs: usize, reg: usize) -> [u32; 32]
-    requires { ⌜ (regs ≤ 1024) × Small 32 set ⌝ }
-    ensures { λ s. ⌜ Holds 32 s (bitOr (value 32 set) (setOf regs (only t reg))) ⌝ }
-{
-    if t {
-        if reg < regs {
-            let mut out = set;
-            out[reg / 32] = out[reg / 32] | (1u32 << (reg % 32));
-            return out;
-        }
-        return set;
-    }
-    set
-}
-
-// A set without a register, if, and if there is such a register.
-pub fn without_reg(set: [u32; 32], t: bool, regs: usize, reg: usize) -> [u32; 32]
-    requires { ⌜ (regs ≤ 1024) × Small 32 set ⌝ }
-    ensures { λ s. ⌜ Holds 32 s (minus (value 32 set) (setOf regs (only t reg))) ⌝ }
-{
-    if t {
-        if reg < regs {
-            let mut out = set;
-            let word = out[reg / 32];
-            out[reg / 32] = word ^ (word & (1u32 << (reg % 32)));
-            return out;
-        }
-        return set;
-    }
-    set
-}
-
-// A set with those of three registers that a mask names.
-fn with_named(set: [u32; 32], regs: usize, mask: u8, a: u16, b: u16, c: u16) -> [u32; 32]
-    requires { ⌜ (regs ≤ 1024) × Small 32 set ⌝ }
-    ensures { λ s. ⌜ Holds 32 s (bitOr (value 32 set) (setOf regs (named mask a b c))) ⌝ }
-{
-    let p = with_reg(set, mask / 2 % 2 == 1, regs, a as usize);
-    let q = with_reg(p, mask / 4 % 2 == 1, regs, b as usize);
-    with_reg(q, mask / 8 % 2 == 1, regs, c as usize)
-}
-
-// A set without those of three registers that a mask names.
-fn without_named(set: [u32; 32], regs: usize, mask: u8, a: u16, b: u16, c: u16) -> [u32; 32]
-    requires { ⌜ (regs ≤ 1024) × Small 32 set ⌝ }
-    ensures { λ s. ⌜ Holds 32 s (minus (value 32 set) (setOf regs (named mask a b c))) ⌝ }
-{
-    let p = without_reg(set, mask / 2 % 2 == 1, regs, a as usize);
-    let q = without_reg(p, mask / 4 % 2 == 1, regs, b as usize);
-    without_reg(q, mask / 8 % 2 == 1, regs, c as usize)
-}
-
-// A set without the `run` registers from b on.
-fn without_run(set: [u32; 32], regs: usize, b: usize, run: u8) -> [u32; 32]
-    requires { ⌜ (regs ≤ 1024) × (b + run ≤ 65790) × Small 32 set ⌝ }
-    ensures { λ s. ⌜ Holds 32 s (minus (value 32 set) (setOf regs (from b run))) ⌝ }
-{
-    if run == 0 {
-        return set;
-    }
-    let rest = without_reg(set, true, regs, b);
-    without_run(rest, regs, b + 1, run - 1)
+    let next = sets32::join_if(s.on, [0u32; 32], rows, k + 1, words);
+    sets32::join_if(s.to, next, rows, s.target, words)
 }
 
 // Row k, found from the rows as they are.
@@ -340,24 +211,9 @@ pub fn row_wide(s: Step, regs: usize, rows: &[u32], n: usize, words: usize, k: u
     ensures { λ r. ⌜ Holds 32 r (rowAt (stepFlow regs s) (row (rowsOf 32 words (suc n) (now (rows .entry)))) k) ⌝ }
 {
     let after = after_wide(s, rows, n, words, k);
-    let rest = without_named(after, regs, s.given, s.a, s.b, s.c);
-    let left = without_run(rest, regs, s.b as usize, s.run);
-    with_named(left, regs, s.used, s.a, s.b, s.c)
-}
-
-// The words of a set are stored in the row that starts at `at`: whether that changed one.
-pub fn store_row(rows: &mut [u32], at: usize, words: usize, set: [u32; 32]) -> bool
-    requires { ⌜ (words ≤ 32) × (at + words ≤ length (now rows)) ⌝ }
-    ensures { λ r. ⌜ Stored (now (rows .entry)) at words set (now (rows .exit)) r ⌝ }
-{
-    let mut changed = false;
-    let mut j = 0;
-    while j < words {
-        changed = (rows[at + j] != set[j]) | changed;
-        rows[at + j] = set[j];
-        j += 1;
-    }
-    changed
+    let rest = sets32::without_named(after, regs, s.given, s.a, s.b, s.c);
+    let left = sets32::without_run(rest, regs, s.b as usize, s.run);
+    sets32::with_named(left, regs, s.used, s.a, s.b, s.c)
 }
 
 // Row k is found and stored: whether that changed it.
@@ -366,7 +222,7 @@ fn put_wide(s: Step, regs: usize, rows: &mut [u32], n: usize, words: usize, k: u
     ensures { λ r. ⌜ Put (stepFlow regs s) (rowsOf 32 words (suc n) (now (rows .entry))) k (rowsOf 32 words (suc n) (now (rows .exit))) r ⌝ }
 {
     let set = row_wide(s, regs, rows, n, words, k);
-    store_row(rows, k * words, words, set)
+    sets32::store_row(rows, k * words, words, set)
 }
 
 // `live_across`: the rows from 0 on, in as many words each as the registers need.

@@ -1,6 +1,6 @@
 -- `kept::main_row` meets its contract. Assumes nothing.
 use borrow.Author.Needs.{needs}
-use Rattle.rows.proofs.Words.{zeros-small}
+use Rattle.sets.proofs.Words.{zeros-small}
 use Rattle.kept.proofs.Levels.{mains}
 use Rattle.kept.proofs.main_row.Statement.{statement}
 use Rattle.kept.proofs.main_row.Tie as tie

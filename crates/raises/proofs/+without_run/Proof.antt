@@ -1,13 +1,13 @@
 -- `raises::without_run` meets its contract: the run falls. Assumes nothing.
 use borrow.Author.Needs.{needs}
-use Rattle.rows.proofs.Words.{none-off, one-off}
+use Rattle.sets.proofs.Words.{none-off, one-off}
 use Prim.Native.Nat.{ℕ, _<_}
 use borrow.Fn.Kinds.{In}
 use borrow.Fn.PlainCycle.{Measures, is, falls, and}
 use Rattle.raises.proofs.without_run.Reads as without-run
 use Rattle.raises.proofs.without_run.Kinds as without-run-kinds
 use Rattle.raises.proofs.+without_run.Lts-without_run as without-run-lts
-use Rattle.rows.proofs.without_reg.Reads as without-reg-reads
+use Rattle.sets.proofs.without_reg.Reads as without-reg-reads
 use Rattle.raises.proofs.+without_run.{statement}
 use Rattle.raises.proofs.+without_run.Tie.{close}
 

@@ -1,6 +1,6 @@
 -- `raises::after_wide` meets its contract. Assumes nothing.
 use borrow.Author.Needs.{needs}
-use Rattle.rows.proofs.Words.{zeros-small, fits, after-holds}
+use Rattle.sets.proofs.Words.{zeros-small, fits, after-holds}
 use Rattle.raises.proofs.after_wide.Statement.{statement}
 use Rattle.raises.proofs.after_wide.Tie as tie
 

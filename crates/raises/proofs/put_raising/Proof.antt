@@ -3,7 +3,7 @@ use borrow.Author.Needs.{needs}
 use native.Mathlib.Omega.{arith}
 use denote.Ref.{now}
 use Rattle.flow.specs.Words.{Small}
-use Rattle.rows.proofs.Words.{fits, row-fits-here}
+use Rattle.sets.proofs.Words.{fits, row-fits-here}
 use Rattle.raises.proofs.Sweeps.{put-is}
 use Rattle.raises.proofs.put_raising.Statement.{statement}
 use Rattle.raises.proofs.put_raising.Tie as tie

@@ -1,6 +1,6 @@
 -- `raises::row_raising` meets its contract. Assumes nothing.
 use borrow.Author.Needs.{needs}
-use Rattle.rows.proofs.Words.{fits}
+use Rattle.sets.proofs.Words.{fits}
 use Rattle.raises.proofs.Sweeps.{holds-level, holds-plain}
 use Rattle.raises.proofs.row_raising.Statement.{statement}
 use Rattle.raises.proofs.row_raising.Tie as tie

@@ -1,6 +1,6 @@
 -- `raises::with_named` meets its contract. Assumes nothing.
 use borrow.Author.Needs.{needs}
-use Rattle.rows.proofs.Words.{more}
+use Rattle.sets.proofs.Words.{more}
 use Rattle.raises.proofs.with_named.Statement.{statement}
 use Rattle.raises.proofs.with_named.Tie as tie
 

@@ -1,6 +1,6 @@
 -- `raises::with_reg` meets its contract. Assumes nothing.
 use borrow.Author.Needs.{needs}
-use Rattle.rows.proofs.Words.{regs-of}
+use Rattle.sets.proofs.Words.{regs-of}
 use Rattle.raises.proofs.with_reg.Statement.{statement}
 use Rattle.raises.proofs.with_reg.Tie as tie
 

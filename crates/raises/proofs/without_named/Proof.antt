@@ -1,6 +1,6 @@
 -- `raises::without_named` meets its contract. Assumes nothing.
 use borrow.Author.Needs.{needs}
-use Rattle.rows.proofs.Words.{fewer}
+use Rattle.sets.proofs.Words.{fewer}
 use Rattle.raises.proofs.without_named.Statement.{statement}
 use Rattle.raises.proofs.without_named.Tie as tie
 

@@ -1,6 +1,6 @@
 -- `rows::given_word` meets its contract. Assumes nothing.
 use borrow.Author.Needs.{needs}
-use Rattle.rows.proofs.Sets.{both}
+use Rattle.sets.proofs.Sets.{both}
 use Rattle.rows.proofs.given_word.Statement.{statement}
 use Rattle.rows.proofs.given_word.Tie as tie
 

@@ -1,6 +1,6 @@
 -- `rows::row_if` meets its contract. Assumes nothing.
 use borrow.Author.Needs.{needs}
-use Rattle.rows.proofs.Sets.{row-in, row-out}
+use Rattle.sets.proofs.Sets.{row-in, row-out}
 use Rattle.rows.proofs.row_if.Statement.{statement}
 use Rattle.rows.proofs.row_if.Tie as tie
 

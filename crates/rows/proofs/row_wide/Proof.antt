@@ -1,6 +1,6 @@
 -- `rows::row_wide` meets its contract. Assumes nothing.
 use borrow.Author.Needs.{needs}
-use Rattle.rows.proofs.Words.{row-holds}
+use Rattle.sets.proofs.Words.{row-holds}
 use Rattle.rows.proofs.row_wide.Statement.{statement}
 use Rattle.rows.proofs.row_wide.Tie as tie
 

@@ -1,6 +1,6 @@
 -- `rows32::after_wide` meets its contract. Assumes nothing.
 use borrow.Author.Needs.{needs}
-use Rattle.rows.proofs.Words.{zeros-small, fits, after-holds}
+use Rattle.sets.proofs.Words.{zeros-small, fits, after-holds}
 use Rattle.rows32.proofs.after_wide.Statement.{statement}
 use Rattle.rows32.proofs.after_wide.Tie as tie
 

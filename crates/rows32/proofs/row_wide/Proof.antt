@@ -1,6 +1,6 @@
 -- `rows32::row_wide` meets its contract. Assumes nothing.
 use borrow.Author.Needs.{needs}
-use Rattle.rows.proofs.Words.{row-holds}
+use Rattle.sets.proofs.Words.{row-holds}
 use Rattle.rows32.proofs.row_wide.Statement.{statement}
 use Rattle.rows32.proofs.row_wide.Tie as tie
 

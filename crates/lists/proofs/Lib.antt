@@ -1,0 +1,4 @@
+pub mod Less
+pub mod Walks
+pub mod Tries
+pub mod Handlers

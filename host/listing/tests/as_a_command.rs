@@ -105,8 +105,12 @@ fn a_closed_pipe() {
 #[test]
 fn a_full_disk() {
     let full = || fs::OpenOptions::new().write(true).open("/dev/full").unwrap();
-    let output = Command::new(LISTING).arg(sample("K.txt")).stdout(full()).output().unwrap();
-    assert_eq!((output.status.code(), err(&output).as_str()), (Some(2), "listing: the standard output can't be written: No space left on device\n"));
+    for words in ["", "--kept", "--json", "--figures", "--html=-", "--why 1 0", "--diff -", "--help", "--version"] {
+        let mut listing = Command::new(LISTING);
+        let output = listing.args(words.split_whitespace()).arg(sample("K.txt")).stdin(fs::File::open(sample("K.txt")).unwrap()).stdout(full()).output().unwrap();
+        let due = "listing: the standard output can't be written: No space left on device\n";
+        assert_eq!((output.status.code(), err(&output).as_str()), (Some(2), due), "{words}");
+    }
     let output = run(&[&sample("K.txt"), "--html=/dev/full"]);
     assert_eq!((output.status.code(), err(&output).as_str()), (Some(2), "listing: /dev/full can't be written: No space left on device\n"));
     let output = run(&[&sample("K.txt"), "--html", "/gone/page.html"]);
@@ -143,6 +147,7 @@ fn files_and_folders() {
     let warned = printed(&["--html=-", &sample("exposed.txt"), &sample("K.txt")]);
     for due in ["exposed.txt</a>: 10 instructions, 6 registers, 1 try; 1 warning</li>", "K.txt</a>: 6 instructions, 4 registers, no try</li>"] { assert!(warned.contains(due)) }
     assert!(page.contains("not listed") && page.contains("wrong.txt: line 1: ") && page.matches("<table").count() == 3);
+    assert!(page.matches("<section").count() == 4 && !err(&output).contains("other.md"), "{}", err(&output));
     let none = folder.join("empty");
     fs::create_dir(&none).unwrap();
     assert_eq!(err(&run(&[none.to_str().unwrap()])), format!("{}: there is no .txt file in this folder\n", none.display()));
@@ -188,8 +193,8 @@ fn string(text: &str) -> Result<&str, String> {
 #[test]
 fn json() {
     let folder = folder("json");
-    let wrong = file(&folder, "wrong \"q\".txt", "registers");
-    let output = run(&["--json", &sample("jacket.txt"), &sample("exposed.txt"), &sample("handler.txt"), &wrong]);
+    let (wrong, odd) = (file(&folder, "wrong \"q\".txt", "registers"), file(&folder, "odd.txt", "registers 1\nReturnR b0 # a\ttab and a \\"));
+    let output = run(&["--json", &sample("jacket.txt"), &sample("exposed.txt"), &sample("handler.txt"), &wrong, &odd]);
     let text = out(&output);
     assert_eq!(value(&text, 0).map(str::trim), Ok(""), "{text}");
     assert_eq!(output.status.code(), Some(2));
@@ -197,8 +202,8 @@ fn json() {
         "\"level\":{\"resumes\":9,\"result\":6,\"calls\":\"calls binding \
             9\",\"store_missing\":false,\"keeps\":[1,3,5],\"for_handlers\":[{\"handler\":13,\"keeps\":[5]}],\"exposed\":[]}",
         "{\"register\":5,\"not_kept_at\":[2],", "\"row\":null,", "\"row\":[0,3],", "\"comment\":\"r1: the part's own reading\"",
-            "\"kind\":\"chunk\"", "\"ships\":\"chunk\\nstrict\\n",
-        "\"file\":\"", "wrong \\\"q\\\".txt", "\"error\":", turniploom::ARCHIVE_SHA256,
+            "\"kind\":\"chunk\"", "\"ships\":\"chunk\\nstrict\\n", "{\"at\":6,\"instruction\":\"Add\",\"after\":{\"at\":4,\"instruction\":\"Add\",\"was\":6},",
+        "\"file\":\"", "wrong \\\"q\\\".txt", "\"error\":", "\"comment\":\"a\\u0009tab and a \\\\\"", turniploom::ARCHIVE_SHA256, &format!("\"kit\":\"{}\"", turniploom::KIT),
     ] { assert!(text.contains(due), "{due}\n{text}") }
 }
 
@@ -220,7 +225,9 @@ fn what_differs() {
     assert!(text.contains("+ 1 Move a3 b0\n") && text.contains("- 4 AddR a3 b0 c2\n+ 5 AddR a3 b3 c2\n"), "{text}");
     assert!(text.contains("  2, now 3 CallR a1 x0\n      row    + r3  - r0\n      keeps  + r3  - r0\n") && text
         .contains("\n1 instruction gone, 2 instructions new, rows or lists changed at 2 others.\n"), "{text}");
-    assert!(printed(&["--diff", &old, &old]).contains("\nNothing differs: the same instructions, rows and lists.\n"));
+    // Rows that one of the two has not looked for are no difference.
+    let wide = file(&folder, "wide.txt", &(fs::read_to_string(sample("K.txt")).unwrap() + "\nroute wide"));
+    for same in [&old, &wide] { assert!(printed(&["--diff", &old, same]).contains("\nNothing differs: the same instructions, rows and lists.\n")) }
     assert!(printed(&["--diff", &sample("P13.txt"), &sample("ships.txt")]).contains("- Jump 1\n") && run(&["--diff", &old, &sample("P13.txt")]).status
         .code() == Some(2));
 }
@@ -229,7 +236,9 @@ fn what_differs() {
 #[test]
 fn colour() {
     assert!(printed(&["--colour=always", &sample("K.txt")]).contains("\x1b[36m●●\x1b[0m") && !printed(&[&sample("K.txt")]).contains('\x1b'));
-    assert!(!printed(&["--colour=always", "--json", &sample("K.txt")]).contains('\x1b'));
+    let marked = file(&folder("colour"), "marked.txt", "registers 1\nReturnR b0 # ● is no mark here");
+    assert!(!printed(&["--colour=always", "--json", &marked]).contains('\x1b') && printed(&["--colour=always", &marked]).contains("\x1b[36m●\x1b[0m is no"));
+    assert!(printed(&["--colour=always", &sample("exposed.txt")]).contains("\n\x1b[31;1mWARNING: "));
     let on_a_terminal = |no_color: Option<&str>, more: &str| {
         let mut script = Command::new("script");
         script.args(["-qec", &format!("{LISTING} {} {more}", sample("K.txt")), "/dev/null"]).env_remove("NO_COLOR").stdin(Stdio::null());

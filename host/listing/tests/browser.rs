@@ -33,13 +33,15 @@ addEventListener('load', () => {
   say('what is exposed is seen, with a border of its own', own.length > 0 && own.every((b) => b.startsWith('dashed ') && !others.includes(b))
       && all('.legend .cell.exposed').length === 1 && all('.warning').length >= 2 && all('.warning').every((e) => box(e).width > 50));
   say('head cells and captions', all('table').every((t) => t.caption && [...t.tHead.rows[0].cells].every((c) => c.scope === 'col'
-      || c.getAttribute('aria-hidden')) && [...t.tBodies[0].rows].every((r) => r.querySelector('th[scope=row], td.ins'))));
+      || c.getAttribute('aria-hidden')) && [...t.tBodies[0].rows].every((r) => r.querySelector('th[scope=row]'))));
+  say('nothing is cut', all('.chart').every((c) => c.scrollHeight <= c.clientHeight + 1));
+  say('nothing is sticky', all('th, td').every((c) => getComputedStyle(c).position === 'static'));
   const chart = one('.chart'), before = box(chart), left = box(chart.querySelector('tbody th') || chart).left;
   chart.scrollLeft = 150; chart.scrollTop = 300;
   const row = all('.chart tbody tr').find((r) => box(r).top > before.top + 80), first = row && row.querySelector('th');
   if (first) say('first columns stay', chart.scrollLeft < 20 || Math.abs(box(first).left - left) < 1 && Math
       .abs(box(row.querySelector('td.ins')).left - box(first).right) < 1);
-  say('the head stays', chart.scrollTop < 100 || Math.abs(box(chart.querySelector('thead th')).top - before.top) < 2);
+  say('the head stays', chart.scrollTop < 100 || [...chart.querySelectorAll('thead th')].every((h) => Math.abs(box(h).top - before.top) < 2));
   say('scrolled', chart.scrollLeft + ' ' + chart.scrollTop);
   parent.postMessage(told.join('\n'), '*');
 });
@@ -83,15 +85,14 @@ fn folder() -> PathBuf {
 
 fn sample(name: &str) -> PathBuf { Path::new(env!("CARGO_MANIFEST_DIR")).join("../../samples").join(name) }
 
-/// The page of a text, with the script in it and without.
-fn pages(source: &Path) -> (PathBuf, PathBuf) {
+/// The page of a text, without the script and with it, and with the script as it is laid out for paper.
+fn pages(source: &Path) -> [PathBuf; 3] {
     let out = Command::new(LISTING).args(["--html=-"]).arg(source).output().unwrap();
     let page = String::from_utf8(out.stdout).unwrap();
     let name = source.file_stem().unwrap().to_string_lossy().into_owned();
-    let (plain, asked) = (folder().join(format!("{name}.html")), folder().join(format!("{name}-asked.html")));
-    fs::write(&plain, &page).unwrap();
-    fs::write(&asked, page.replace("</head>", &format!("{SCRIPT}</head>"))).unwrap();
-    (plain, asked)
+    let asked = page.replace("</head>", &format!("{SCRIPT}</head>"));
+    let texts = [("", &page), ("-asked", &asked), ("-paper", &asked.replace("@media print", "@media screen"))];
+    texts.map(|(what, text)| { let to = folder().join(format!("{name}{what}.html")); fs::write(&to, text).unwrap(); to })
 }
 
 const MUST: [&str; 4] = ["contrast at least 4.5", "the page is no wider than the window", "cells say it by a mark too", "head cells and captions"];
@@ -101,7 +102,7 @@ fn holds(told: &str, names: &[&str]) { for name in names { assert!(told.contains
 #[test]
 fn as_a_browser_shows_them() {
     let Some(chromium) = chromium() else { return println!("LEFT OUT: there is no chromium; .ci/pages installs it and looks at the pages") };
-    let (jacket, asked) = pages(&sample("jacket.txt"));
+    let [jacket, asked, jacket_on_paper] = pages(&sample("jacket.txt"));
     for (width, dark) in [(1280, false), (390, false), (1280, true), (390, true)] {
         let told = told(chromium, &asked, width, dark);
         holds(&told, &MUST);
@@ -114,19 +115,23 @@ fn as_a_browser_shows_them() {
     for k in 0..300 { body += &format!("AddR a{} b{} c{}\n", k * 7 % 200, k * 13 % 200, k * 29 % 200) }
     let large = folder().join("large.txt");
     fs::write(&large, body).unwrap();
+    let [_, large, paper] = pages(&large);
     for width in [1280, 390] {
-        let told = told(chromium, &pages(&large).1, width, false);
+        let told = told(chromium, &large, width, false);
         holds(&told, &["first columns stay", "the head stays"]);
         holds(&told, &MUST[..3]);
         assert!(told.contains("scrolled: 150 300\n"), "{told}");
     }
-    holds(&told(chromium, &pages(&sample("ships.txt")).1, 390, true), &MUST);
-    let (exposed, asked) = pages(&sample("exposed.txt"));
+    holds(&told(chromium, &paper, 1280, false), &["nothing is cut", "nothing is sticky"]);
+    holds(&told(chromium, &jacket_on_paper, 1280, false), &MUST[..1]);
+    holds(&told(chromium, &pages(&sample("ships.txt"))[1], 390, true), &MUST);
+    let [exposed, asked, exposed_on_paper] = pages(&sample("exposed.txt"));
     for (width, dark) in [(1280, false), (390, false), (1280, true), (390, true)] {
         let told = told(chromium, &asked, width, dark);
         holds(&told, &MUST);
         holds(&told, &["position, instruction and list in sight", "what is exposed is seen, with a border of its own"]);
     }
+    holds(&told(chromium, &exposed_on_paper, 1280, false), &[MUST[0], "what is exposed is seen, with a border of its own"]);
     assert!((1..=3).contains(&papers(chromium, &exposed)));
     printed(chromium, &jacket);
     if let Some(pictures) = env::var_os("TURNIPLOOM_PICTURES") { pictured(chromium, Path::new(&pictures)) }
@@ -148,7 +153,7 @@ fn printed(chromium: &str, page: &Path) {
 
 /// The pictures of docs/pages.
 fn pictured(chromium: &str, to: &Path) {
-    let (page, _) = pages(&sample("jacket.txt"));
+    let [page, ..] = pages(&sample("jacket.txt"));
     for (width, dark) in [(1280, false), (390, false), (1280, true), (390, true)] {
         let picture = to.join(format!("jacket-{width}-{}.png", if dark { "dark" } else { "light" }));
         browse(chromium, &page, width, dark, &[format!("--screenshot={}", picture.display())]);

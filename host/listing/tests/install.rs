@@ -48,7 +48,7 @@ fn installed_for_a_system() {
     assert_eq!(fs::read_to_string(at.join("lib/libturniploom.kit")).unwrap().trim(), KIT);
     let pc = fs::read_to_string(at.join("lib/pkgconfig/turniploom.pc")).unwrap();
     assert!(pc.starts_with("prefix=/usr/local\n") && pc.contains(&format!("\nVersion: {VERSION}\n")) && pc
-        .contains(&format!("\nsha256={ARCHIVE_SHA256}\n")) && pc.contains("-lturniploom"), "{pc}");
+        .contains(&format!("\nsha256={ARCHIVE_SHA256}\nkit={KIT}\n")) && pc.contains("-lturniploom"), "{pc}");
     // A host in C from what is installed.
     let gcc = Command::new("gcc").args(["-std=c11", "-Wall", "-Werror", "-I"]).arg(at.join("include")).arg(at
         .join("share/doc/turniploom/samples/host.c")).arg("-L").arg(at.join("lib")).arg("-lturniploom").arg("-o").arg(to.join("host")).output();

@@ -77,6 +77,7 @@ fn bad_text_is_named_by_line() {
     for (text, line, says) in [
         ("registers 4\n0 Move a0 b1\n2 Move a0 b1", 3, "position 2 stands where 1 is due"),
         ("registers 4\n\nLoadGlobal a0", 3, "no opcode and no setting is called `LoadGlobal`; is `LoadGlobalR` meant?"),
+        ("registers 4\nXy a0", 2, "no opcode and no setting is called `Xy`"),
         ("registers 4\nMove a0 q3", 2, "Move: `q3` is no field (a, b, c, x, m with a number) and no mark"),
         ("registers 4\nMove a0 a1", 2, "Move: `a` is given twice"),
         ("registers 4\nMove a65536", 2, "Move: 65536 is too large"),

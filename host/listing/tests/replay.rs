@@ -19,7 +19,7 @@ fn a_register_that_is_needed_and_never_read() {
     assert!(text.contains("visited once") && text.contains("2 Move a2 b0          r0    r2        ○··  never visited"), "{text}");
     assert!(text.contains("\nReplayed: 3 steps, 1 level met. Read: r1 2.\nNeeded by a row and never read on that day: r0 and r2.\n"), "{text}");
     assert!(text.contains("○ needed and never read on that day"), "{text}");
-    assert!(page.contains("never read on that day") && page.contains(" unread"), "{page}");
+    assert!(page.contains("never read on that day") && page.contains("<td class=\"cell row unread\"") && page.contains(">○u</td>"), "{page}");
 }
 
 #[test]

@@ -253,6 +253,31 @@ fn rows_that_were_not_looked_for() {
     assert!(wide.contains("\n1 LoadGlobalR a1 b9         r1        ●···\n"), "{wide}");
 }
 
+/// The writer's comment stands beside its instruction, on the page of a body and in both forms of a chunk.
+#[test]
+fn comments_stand_beside_their_instructions() {
+    let jacket = listed("jacket.txt").1;
+    let row = jacket.split("<tr").find(|r| r.contains("<th scope=\"row\">8</th>")).unwrap();
+    assert!(row.contains("<div class=\"comment\"># the rule calls itself</div>"), "{row}");
+    let (text, page) = shown("chunk; constants 7 2; LoadConst 0; LoadConst 1\nDiv # it stays");
+    assert!(text.contains("  not folded: int / int stays  # it stays\n"), "{text}");
+    assert!(page.contains("<td class=\"note\">not folded: int / int stays<div class=\"comment\"># it stays</div></td></tr>"), "{page}");
+}
+
+/// The page of a chunk has what the text has: where each instruction is now, why it stays, and what ships.
+#[test]
+fn the_page_of_a_chunk() {
+    let (text, page) = listed("handler.txt");
+    let row = |cells: &str| assert!(page.contains(&format!("<th scope=\"row\">{cells}</td></tr>\n")), "{cells}\n{page}");
+    row("1</th><td class=\"ins dead\">LoadConst 1 (5)</td><td class=\"arrow\">↗</td><td></td><td class=\"code\">into 0</td><td class=\"note\">");
+    row("6</th><td class=\"ins\">Add</td><td class=\"arrow\">→</td><td class=\"at\">4</td><td class=\"code\">Add was 6</td><td class=\"note\">not folded: the \
+        handler of the try at 0 is at 5");
+    row("7</th><td class=\"ins\">Jump 4</td><td class=\"arrow\">→</td><td class=\"at\">5</td><td class=\"code\">Jump 2 was 7</td><td class=\"note\">to 4, now 2");
+    assert!(page.contains("<table class=\"chunk\">\n<caption><span>Instructions before and after folding"), "{page}");
+    let ships = text.split_once("\nAs it ships, folded and cleared:\n\n").unwrap().1;
+    assert!(page.ends_with(&format!("<h2>As it ships, folded and cleared</h2>\n<pre>{ships}</pre>\n")), "{page}");
+}
+
 /// Who says what is told.
 #[test]
 fn the_archives_word_and_the_listings() {
@@ -279,13 +304,23 @@ fn callees_near_and_far() {
                 _ => "Move a3 b2\n".into(),
             };
         }
-        let Text::Body(b) = read(&text).unwrap() else { panic!("a chunk") };
-        let view = body::View::of(&b).unwrap();
-        for (k, line) in view.lines.iter().enumerate() {
-            let Some(told) = line.level.as_ref().and_then(|v| v.callee.as_ref()) else { continue };
-            let due = if b.code[k].op.is_call() { turniploom::global_of(&b.code, k).unwrap().map(|g| format!("calls binding {g}")) }
-                else { turniploom::stack_callee(&b.code, k, b.code[k].a).unwrap().map(|(p, r)| format!("calls r{r}, pushed at {p}")) };
-            assert_eq!(*told, due.unwrap_or("calls a function not known here".into()), "{k}");
-        }
+        callees_of_the_whole(&text);
+    }
+    // A register that comes back from a push, with the place where the near part begins before, in and after it.
+    for far in (56..68).chain(2_040..2_052) {
+        let more = "Move a3 b2\n".repeat(far);
+        callees_of_the_whole(&format!("registers 4\nLoadGlobalR a0 b7\nPushRegs a0 x1\nCallR a1 x0\nStoreTopR a3\nStoreTopR a0\n{more}CallR a0 x0"));
+    }
+}
+
+/// Holds every callee that is told to the archive's word on the whole code.
+fn callees_of_the_whole(text: &str) {
+    let Text::Body(b) = read(text).unwrap() else { panic!("a chunk") };
+    let view = body::View::of(&b).unwrap();
+    for (k, line) in view.lines.iter().enumerate() {
+        let Some(told) = line.level.as_ref().and_then(|v| v.callee.as_ref()) else { continue };
+        let due = if b.code[k].op.is_call() { turniploom::global_of(&b.code, k).unwrap().map(|g| format!("calls binding {g}")) }
+            else { turniploom::stack_callee(&b.code, k, b.code[k].a).unwrap().map(|(p, r)| format!("calls r{r}, pushed at {p}")) };
+        assert_eq!(*told, due.unwrap_or("calls a function not known here".into()), "{k}");
     }
 }

@@ -10,7 +10,7 @@ FILE has a body or a chunk in the notation of docs/NOTATION.md; - is the standar
 
   --html=PAGE     writes one self-contained page too; - writes it in place of the text
   --json          writes what is known as JSON
-  --kept          lists the levels alone, with what each keeps
+  --kept          lists the levels alone, with what each keeps and what is exposed
   --rows=32       has rows of 32 bits, where more than 32 registers take the wide route
   --wide          takes the wide route, which looks for rows from 0 on
   --strict        folds a chunk in strict mode

@@ -125,12 +125,13 @@ fn as_a_browser_shows_them() {
     holds(&told(chromium, &paper, 1280, false), &["nothing is cut", "nothing is sticky"]);
     holds(&told(chromium, &jacket_on_paper, 1280, false), &MUST[..1]);
     holds(&told(chromium, &pages(&sample("ships.txt"))[1], 390, true), &MUST);
-    let [exposed, asked, _] = pages(&sample("exposed.txt"));
+    let [exposed, asked, exposed_on_paper] = pages(&sample("exposed.txt"));
     for (width, dark) in [(1280, false), (390, false), (1280, true), (390, true)] {
         let told = told(chromium, &asked, width, dark);
         holds(&told, &MUST);
         holds(&told, &["position, instruction and list in sight", "what is exposed is seen, with a border of its own"]);
     }
+    holds(&told(chromium, &exposed_on_paper, 1280, false), &[MUST[0], "what is exposed is seen, with a border of its own"]);
     assert!((1..=3).contains(&papers(chromium, &exposed)));
     printed(chromium, &jacket);
     if let Some(pictures) = env::var_os("TURNIPLOOM_PICTURES") { pictured(chromium, Path::new(&pictures)) }

@@ -1,7 +1,7 @@
 //! Registers that are exposed: a level does not keep them, and a later exception may need them. Which they are is the archive's word; the listing marks
 //! them, and warns with the way by which each goes wrong.
 
-use listing::{body::View, diff, exposed::{Exposed, Leave}, notation::{Body, Text, read}, page, paint, text};
+use listing::{body::View, command::{Listed, Of}, diff, exposed::{Exposed, Leave}, json, notation::{Body, Text, read}, page, paint, text};
 use std::{collections::BTreeSet, fs, path::{Path, PathBuf}, process::Command};
 
 fn root() -> PathBuf { Path::new(env!("CARGO_MANIFEST_DIR")).join("../..").canonicalize().unwrap() }
@@ -81,7 +81,7 @@ fn the_page_of_the_sample() {
         "<div class=\"keeps\">keeps nothing</div><div class=\"warning\">r5 is exposed</div>",
         "<p class=\"warning\">WARNING: level 2 does not keep r5: its callee may overwrite it; if 6 raises, the handler at 9 reads it at 9.</p>",
     ] { assert!(page.contains(due), "{due}\n{page}") }
-    assert!(page::STYLE.contains(".cell.exposed { outline: 2px dashed var(--warn);"));
+    assert!(page::STYLE.contains(".cell.exposed, tr.level td.cell.exposed { outline: 2px dashed var(--warn);"));
 }
 
 /// Where nothing is exposed nothing is said, and code with no try is not asked about.
@@ -229,6 +229,8 @@ fn too_much_to_ask() {
     let due = "WARNING: too much is inside tries to ask here what is exposed.";
     assert!(view.unasked && view.warnings() == [due] && !self::view(&few).unasked);
     for told in [text::body(&view), text::levels(&view), page::body(&view), diff::bodies(&self::view(&few), &view)] { assert!(told.contains(due), "{told}") }
+    let json = json::files(&[Listed { file: "many".into(), of: Ok(Of::Body(Box::new((body(&text), view)))) }]);
+    for due in ["\"exposed\":null}", "\"warnings\":[{\"says\":\"too much is inside tries to ask here what is exposed\"}],"] { assert!(json.contains(due)) }
 }
 
 /// A body in blocks, each with a try at its end: its handler alone reads every second register, so that each level of the block exposes them all.

@@ -27,7 +27,7 @@ fn archive(name: &str, fault: Option<&Path>) -> PathBuf {
 /// Builds the comparison over an archive, by itself.
 fn built(archive: &Path) -> Output {
     Command::new(env!("CARGO")).args(["build", "--offline", "--quiet", "--bin", "oracle", "--manifest-path"]).arg(here().join("Cargo.toml"))
-        .env("CARGO_PROFILE_DEV_OPT_LEVEL", "0").env("CARGO_PROFILE_DEV_DEBUG", "0")
+        .env("CARGO_PROFILE_DEV_OPT_LEVEL", "0").env("CARGO_PROFILE_DEV_DEBUG", "0").env("CARGO_INCREMENTAL", "0")
         .env("TURNIPLOOM_LIB", archive).env("CARGO_TARGET_DIR", archive.with_extension("built")).output().unwrap()
 }
 

@@ -54,6 +54,8 @@ fn cargo(folder: &Folder, place: &Path, words: &[&str], lib: Option<&str>) -> Ou
     let mut command = Command::new(env!("CARGO"));
     command.args(words).args(["--offline", "--quiet"]).current_dir(place).env("PATH", without_rt(folder));
     command.env("CARGO_TARGET_DIR", folder.join("built")).env_remove("TURNIPLOOM_LIB");
+    // Each is built once and thrown away.
+    command.env("CARGO_INCREMENTAL", "0").env("CARGO_PROFILE_DEV_DEBUG", "0");
     if let Some(lib) = lib { command.env("TURNIPLOOM_LIB", lib); }
     command.output().unwrap()
 }

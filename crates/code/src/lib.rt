@@ -39,12 +39,6 @@ pub enum Checked {
     No(Refusal),
 }
 
-// A truth, or the refusal.
-pub enum Told {
-    Is(bool),
-    No(Refusal),
-}
-
 // What an exported call answers: 0 and its values, or a refusal's number and what it also returns.
 #[repr(C)]
 pub struct Answer {

@@ -14,7 +14,8 @@ enum-told : tie.Need-enum-told
 enum-told c = search needs
 
 clear-unused-requires : tie.Need-clear-unused-requires
-clear-unused-requires c κs = held-of _ _ _ (c .before .before .before .before .before .before .ready .ensures) _ (c .before .before .before .before .enum-told .given .1)
+clear-unused-requires c κs = held-of _ _ _ (c .before .before .before .before .before .before .ready .ensures) _
+    (c .before .before .before .before .enum-told .given .1)
 
 same-length : tie.Need-same-length
 same-length c = search needs
@@ -44,7 +45,9 @@ same-length-8 : tie.Need-same-length-8
 same-length-8 c = search needs
 
 returns-2 : tie.Need-returns-2
-returns-2 c = told-by _ _ _ (c .before .before .before .before .before .before .before .before .before .before .before .before .before .before .before .ready .ensures) _ _ (c .before .before .before .before .before .before .before .before .before .before .before .before .before .enum-told .given .1) (c .before .before .before .before .before .before .before .before .clear-unused .ensures)
+returns-2 c = told-by _ _ _ (c .before .before .before .before .before .before .before .before .before .before .before .before .before .before .before .ready
+    .ensures) _ _ (c .before .before .before .before .before .before .before .before .before .before .before .before .before .enum-told .given .1)
+    (c .before .before .before .before .before .before .before .before .clear-unused .ensures)
 
 pub clear-spec : {M : Type 1} → statement M
 clear-spec =

@@ -83,8 +83,10 @@ module _ (n : ℕ) (w tries kinds words : List ℕ) (c : Counts) (l : Lens) wher
       let t₁ = table-met n (triedOf (checkOf w) tries) 1 (constantsKept kinds words m) (sym (t₂ .0)) in
       let p = and-true (within m (length kinds) (length words)) (every (constantKept kinds words) m) (t₁ .1) in
       let long = whole-of w (check-met n w (sym (tried-met n (checkOf w) tries (t₁ .0)))) in
-      let k = constants-same w kinds words m (kinds-there m (length kinds) (length words) (p .0)) (words-there m (length kinds) (length words) (p .0)) (few m (length kinds) (length words) (p .0)) (p .1) in
-      let s₁ = table-on n (triedOf (checkOf w′) tries) 1 (constantsKept kinds′ words′ (before w m)) (ap (λ (v : Checked). triedOf v tries) (check-same (before w) m w long) ∙ t₁ .0) k in
+      let k = constants-same w kinds words m (kinds-there m (length kinds) (length words) (p .0)) (words-there m (length kinds) (length words) (p .0))
+      (few m (length kinds) (length words) (p .0)) (p .1) in
+      let s₁ = table-on n (triedOf (checkOf w′) tries) 1 (constantsKept kinds′ words′ (before w m))
+      (ap (λ (v : Checked). triedOf v tries) (check-same (before w) m w long) ∙ t₁ .0) k in
       let s₂ = table-on n _ 2 (mapKept (count w′) (c .map) (l .map)) s₁ (rw (recoded-count (before w) m w) (t₂ .1)) in
       let s₃ = table-on n _ 3 (pairsKept (c .sources) (l .sources)) s₂ (t₃ .1) in
       let s₄ = table-on n _ 4 (pairsKept (c .stmts) (l .stmts)) s₃ (t₄ .1) in
@@ -109,12 +111,15 @@ module _ (n : ℕ) (w tries kinds words : List ℕ) (c : Counts) (l : Lens) wher
       let s₅ = room-on n _ 5 (l .dead) (count w) s₄ (r₅ .1) in
       rw (g, recoded-count (before w) m w) (room-on n _ 6 (l .remap) (count w + 1) s₅ (r₆ .1))
 
-  pub accepted-after : (landings : ℕ) → readyOf w tries kinds words c l landings ≡ Count n → readyOf w′ tries kinds′ words′ (countsAfter w c) l landings ≡ Count n
+  pub accepted-after : (landings : ℕ) → readyOf w tries kinds words c l landings ≡ Count n
+      → readyOf w′ tries kinds′ words′ (countsAfter w c) l landings ≡ Count n
   unfolding readyOf
   accepted-after landings e =
       let r₇ = room-met n (roomsOf (tablesOf (triedOf (checkOf w) tries) (count w) kinds words c l) w c l) 7 landings (count w + 1) e in
       let s₆ =
-      rooms-again (tablesOf (triedOf (checkOf w) tries) (count w) kinds words c l) (tablesOf (triedOf (checkOf w′) tries) (count w′) kinds′ words′ (countsAfter w c) l) tables-again (r₇ .0)
+      rooms-again (tablesOf (triedOf (checkOf w) tries) (count w) kinds words c l) (tablesOf (triedOf (checkOf w′) tries) (count w′) kinds′ words′
+      (countsAfter w c) l) tables-again (r₇ .0)
       in
-      room-on n (roomsOf (tablesOf (triedOf (checkOf w′) tries) (count w′) kinds′ words′ (countsAfter w c) l) w′ (countsAfter w c) l) 7 landings (count w′ + 1) s₆
+      room-on n (roomsOf (tablesOf (triedOf (checkOf w′) tries) (count w′) kinds′ words′ (countsAfter w c) l) w′ (countsAfter w c) l) 7 landings
+      (count w′ + 1) s₆
       (rw (recoded-count (before w) m w) (r₇ .1))

@@ -83,7 +83,8 @@ module _ {limit : ℕ} {s t : Chunk} (a : Alike limit s t) where
       past : (v n : ℕ) → limit ≤ v → n ≤ limit → ltb v n ≡ false
       past v n h k = le-ltb v n (omega arith)
 
-      go : (b : Bool) → eqb (opAt (s .code) p) LoadConst ≡ b → operandOf (s .code) (s .kinds) (s .words) (s .constants) p ≡ operandOf (t .code) (t .kinds) (t .words) (t .constants) p
+      go : (b : Bool) → eqb (opAt (s .code) p) LoadConst ≡ b → operandOf (s .code) (s .kinds) (s .words) (s .constants) p
+          ≡ operandOf (t .code) (t .kinds) (t .words) (t .constants) p
       go false e =
           let f : eqb (opAt (t .code) p) LoadConst ≡ false = sym (ap (λ (o : ℕ). eqb o LoadConst) (a .ops p)) ∙ e in
           rw (e, f)
@@ -92,7 +93,8 @@ module _ {limit : ℕ} {s t : Chunk} (a : Alike limit s t) where
           ⊎-elim
           (λ l. rw (e, f, lt-ltb (operandAt (s .code) p) (s .constants) (l .there), lt-ltb (operandAt (t .code) p) (t .constants) (l .here), l .kind, l .word))
           (λ l.
-          rw (e, f, past (operandAt (s .code) p) (s .constants) (l .past) low, past (operandAt (t .code) p) (t .constants) (rw (l .same) at (l .past)) low′)) (a .loads p (a .consts p e))
+          rw (e, f, past (operandAt (s .code) p) (s .constants) (l .past) low, past (operandAt (t .code) p) (t .constants) (rw (l .same) at (l .past)) low′))
+          (a .loads p (a .consts p e))
 
   lands-same : (p i k : ℕ) → lands (s .code) p i k ≡ lands (t .code) p i k
   unfolding lands

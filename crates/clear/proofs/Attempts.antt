@@ -84,7 +84,8 @@ module _ {limit : ℕ} {s t : Chunk} (a : Alike limit s t) (p q i o x y : ℕ) (
   wrote-loads k e =
       cases k p
       (λ z. rw (z, operand-here (s .code) p o x h, operand-here (t .code) p o y h′) (inl (con (sym names-here ∙ (rw z at e)))))
-      (λ z. rw (operand-other (s .code) p o x k z, operand-other (t .code) p o y k z) (loads-grew {s = s} {t = t} gs gt (a .loads k (sym (names-other k z) ∙ e))))
+      (λ z. rw (operand-other (s .code) p o x k z, operand-other (t .code) p o y k z) (loads-grew {s = s} {t = t} gs gt
+      (a .loads k (sym (names-other k z) ∙ e))))
 
   put-alike : Alike limit (wrote s p q i o x ks ws n) (wrote t p q i o y kt wt m)
   put-alike =
@@ -129,7 +130,8 @@ settled-at r x n ks ws p q i s e = rw (← e)
 module _ {limit : ℕ} {s t : Chunk} (z : Sim limit s t) (p q i : ℕ) (h : p < count (s .code)) where
   module _ (few : s .constants < 65535) (a : s .constants < length (s .kinds)) (b : s .constants < length (s .words)) (c : t .constants < length (t .kinds))
       (d : t .constants < length (t .words)) where
-    pool-sim : (k w : ℕ) → Sim limit (settled (findOrPush (s .kinds) (s .words) (s .constants) k w) p q i s) (settled (findOrPush (t .kinds) (t .words) (t .constants) k w) p q i t)
+    pool-sim : (k w : ℕ) → Sim limit (settled (findOrPush (s .kinds) (s .words) (s .constants) k w) p q i s)
+        (settled (findOrPush (t .kinds) (t .words) (t .constants) k w) p q i t)
     pool-sim k w =
         let r = stepped (s .kinds) (s .words) (s .constants) (t .kinds) (t .words) (t .constants) k w (z .pools) few a b c d in
         rw (settled-at _ (r .x) (r .n′) (r .ks′) (r .ws′) p q i s (r .in-s), settled-at _ (r .y) (r .m′) (r .kt′) (r .wt′) p q i t (r .in-t))
@@ -140,16 +142,19 @@ module _ {limit : ℕ} {s t : Chunk} (z : Sim limit s t) (p q i : ℕ) (h : p < 
           pools = r .pools;
         })
 
-  truth-sim : (o : ℕ) → eqb o LoadConst ≡ false → Sim limit (wrote s p q i o 0 (s .kinds) (s .words) (s .constants)) (wrote t p q i o 0 (t .kinds) (t .words) (t .constants))
+  truth-sim : (o : ℕ) → eqb o LoadConst ≡ false → Sim limit (wrote s p q i o 0 (s .kinds) (s .words) (s .constants))
+      (wrote t p q i o 0 (t .kinds) (t .words) (t .constants))
   truth-sim o e =
       record {
         alike =
-            put-alike (z .alike) p q i o 0 0 h (s .kinds) (s .words) (s .constants) (t .kinds) (t .words) (t .constants) (grew-none (s .kinds) (s .words) (s .constants))
+            put-alike (z .alike) p q i o 0 0 h (s .kinds) (s .words) (s .constants) (t .kinds) (t .words) (t .constants)
+            (grew-none (s .kinds) (s .words) (s .constants))
             (grew-none (t .kinds) (t .words) (t .constants)) (λ f. absurd (false≢true (sym e ∙ f))) (λ f. refl);
         pools = z .pools;
       }
 
-  put-sim : (v : Val) → s .constants < 65535 → s .constants < length (s .kinds) → s .constants < length (s .words) → t .constants < length (t .kinds) → t .constants < length (t .words)
+  put-sim : (v : Val) → s .constants < 65535 → s .constants < length (s .kinds) → s .constants < length (s .words) → t .constants < length (t .kinds)
+      → t .constants < length (t .words)
       → Sim limit (applied (Put p q v) i s) (applied (Put p q v) i t)
   unfolding applied landed constLoad findOrPushConst
   put-sim (Int x) few a b c d = pool-sim few a b c d 1 (ofZ w64 x)
@@ -167,7 +172,8 @@ module _ (bars : ℕ → Bool) (i : ℕ) (s : Chunk) where
   unfolding tryFold
   try-dead e = rw e
 
-applied-sim : {limit : ℕ} (bars : ℕ → Bool) (i : ℕ) (s t : Chunk) → Sim limit s t → s .constants < 65535 → Ready s i → Ready t i → (plan : Plan) → planAt bars i s ≡ plan → planAt bars i t ≡ plan
+applied-sim : {limit : ℕ} (bars : ℕ → Bool) (i : ℕ) (s t : Chunk) → Sim limit s t → s .constants < 65535 → Ready s i → Ready t i → (plan : Plan)
+    → planAt bars i s ≡ plan → planAt bars i t ≡ plan
     → Sim limit (applied plan i s) (applied plan i t)
 unfolding applied
 applied-sim bars i s t z few r r′ Stay e f = z
@@ -177,7 +183,8 @@ applied-sim bars i s t z few r r′ (Put p q v) e f =
     let m = r .room (x .operator) in
     let m′ = r′ .room (y .operator) in
     let w = fewer (z .pools) in
-    put-sim z p q i (omega (arith, x .first, r .readable .here)) v few (m .kinds-more few) (m .words-more few) (m′ .kinds-more (omega arith)) (m′ .words-more (omega arith))
+    put-sim z p q i (omega (arith, x .first, r .readable .here)) v few (m .kinds-more few) (m .words-more few) (m′ .kinds-more (omega arith))
+    (m′ .words-more (omega arith))
 
 pub try-sim : {limit : ℕ} (bars : ℕ → Bool) (i : ℕ) (s t : Chunk) → Sim limit s t → s .constants ≤ limit → s .constants < 65535 → Ready s i → Ready t i
     → Sim limit (tryFold bars i s) (tryFold bars i t)

@@ -23,15 +23,19 @@ use Rattle.clear.specs.Clear.{Is, No, buffers, outcome, cleared, readyOf
 use Rattle.clear.proofs.Room.{clearedChunk}
 
 -- LoadConst 2; jump 1, pool 2, 3 and 5: 5 alone is left, and loaded
-pub p13-cleared : clearCall (buffers (LoadConst ∷ 2 ∷ 2 ∷ 5 ∷ Jump ∷ 1 ∷ 1 ∷ 6 ∷ 0 ∷ 0 ∷ 0 ∷ 0 ∷ 0 ∷ 0 ∷ 0 ∷ 0 ∷ []) (1 ∷ 1 ∷ 1 ∷ 9 ∷ []) (2 ∷ 3 ∷ 5 ∷ 9 ∷ []) (9 ∷ 9 ∷ 9 ∷ 9 ∷ [])) 3
-    ≡ outcome (Is 1) (buffers (LoadConst ∷ 2 ∷ 0 ∷ 5 ∷ Jump ∷ 1 ∷ 1 ∷ 6 ∷ 0 ∷ 0 ∷ 0 ∷ 0 ∷ 0 ∷ 0 ∷ 0 ∷ 0 ∷ []) (1 ∷ 0 ∷ 0 ∷ 9 ∷ []) (5 ∷ 0 ∷ 0 ∷ 9 ∷ []) (0 ∷ 0 ∷ 0 ∷ 9 ∷ []))
+pub p13-cleared : clearCall (buffers (LoadConst ∷ 2 ∷ 2 ∷ 5 ∷ Jump ∷ 1 ∷ 1 ∷ 6 ∷ 0 ∷ 0 ∷ 0 ∷ 0 ∷ 0 ∷ 0 ∷ 0 ∷ 0 ∷ []) (1 ∷ 1 ∷ 1 ∷ 9 ∷ []) (2 ∷ 3 ∷ 5 ∷ 9 ∷ [])
+    (9 ∷ 9 ∷ 9 ∷ 9 ∷ [])) 3
+    ≡ outcome (Is 1) (buffers (LoadConst ∷ 2 ∷ 0 ∷ 5 ∷ Jump ∷ 1 ∷ 1 ∷ 6 ∷ 0 ∷ 0 ∷ 0 ∷ 0 ∷ 0 ∷ 0 ∷ 0 ∷ 0 ∷ []) (1 ∷ 0 ∷ 0 ∷ 9 ∷ []) (5 ∷ 0 ∷ 0 ∷ 9 ∷ [])
+    (0 ∷ 0 ∷ 0 ∷ 9 ∷ []))
 unfolding clearCall cleared readyOf checkOf rules folds every many each first some named kept pooled renumbered operandOf recoded numbered
 p13-cleared = refl
 
 -- operands 7, 2, 0 and 2 of three constants: the second goes, and 7 stays
-pub past-the-count : clearCall (buffers (LoadConst ∷ 2 ∷ 7 ∷ 5 ∷ LoadConst ∷ 2 ∷ 2 ∷ 6 ∷ LoadConst ∷ 2 ∷ 0 ∷ 7 ∷ LoadConst ∷ 2 ∷ 2 ∷ 8 ∷ []) (1 ∷ 2 ∷ 3 ∷ 9 ∷ []) (4 ∷ 5 ∷ 1 ∷ 9 ∷ []) (9 ∷ 9 ∷ 9 ∷ 9 ∷ [])) 3
+pub past-the-count : clearCall (buffers (LoadConst ∷ 2 ∷ 7 ∷ 5 ∷ LoadConst ∷ 2 ∷ 2 ∷ 6 ∷ LoadConst ∷ 2 ∷ 0 ∷ 7 ∷ LoadConst ∷ 2 ∷ 2 ∷ 8 ∷ [])
+    (1 ∷ 2 ∷ 3 ∷ 9 ∷ []) (4 ∷ 5 ∷ 1 ∷ 9 ∷ []) (9 ∷ 9 ∷ 9 ∷ 9 ∷ [])) 3
     ≡ outcome (Is 2)
-    (buffers (LoadConst ∷ 2 ∷ 7 ∷ 5 ∷ LoadConst ∷ 2 ∷ 1 ∷ 6 ∷ LoadConst ∷ 2 ∷ 0 ∷ 7 ∷ LoadConst ∷ 2 ∷ 1 ∷ 8 ∷ []) (1 ∷ 3 ∷ 0 ∷ 9 ∷ []) (4 ∷ 1 ∷ 0 ∷ 9 ∷ []) (0 ∷ 1 ∷ 1 ∷ 9 ∷ []))
+    (buffers (LoadConst ∷ 2 ∷ 7 ∷ 5 ∷ LoadConst ∷ 2 ∷ 1 ∷ 6 ∷ LoadConst ∷ 2 ∷ 0 ∷ 7 ∷ LoadConst ∷ 2 ∷ 1 ∷ 8 ∷ []) (1 ∷ 3 ∷ 0 ∷ 9 ∷ []) (4 ∷ 1 ∷ 0 ∷ 9 ∷ [])
+    (0 ∷ 1 ∷ 1 ∷ 9 ∷ []))
 unfolding clearCall cleared readyOf checkOf rules folds every many each first some named kept pooled renumbered operandOf recoded numbered
 past-the-count = refl
 
@@ -43,7 +47,8 @@ short-scratch = refl
 
 -- 2 + 3 with a constant 7 that nobody names, and a LoadConst past the count
 abbrev late : Chunk
-late = chunk (LoadConst ∷ 2 ∷ 1 ∷ 5 ∷ LoadConst ∷ 2 ∷ 2 ∷ 6 ∷ Add ∷ 0 ∷ 0 ∷ 7 ∷ LoadConst ∷ 2 ∷ 3 ∷ 8 ∷ []) (0 ∷ 0 ∷ 0 ∷ 0 ∷ []) (1 ∷ 1 ∷ 1 ∷ 0 ∷ []) (7 ∷ 2 ∷ 3 ∷ 0 ∷ []) 3
+late = chunk (LoadConst ∷ 2 ∷ 1 ∷ 5 ∷ LoadConst ∷ 2 ∷ 2 ∷ 6 ∷ Add ∷ 0 ∷ 0 ∷ 7 ∷ LoadConst ∷ 2 ∷ 3 ∷ 8 ∷ []) (0 ∷ 0 ∷ 0 ∷ 0 ∷ []) (1 ∷ 1 ∷ 1 ∷ 0 ∷ [])
+    (7 ∷ 2 ∷ 3 ∷ 0 ∷ []) 3
 
 -- uncleared, the sum is pushed to 3, where the last LoadConst loads it
 pub late-load : loaded (foldAll (byScan false []) late .words) (foldAll (byScan false []) late .constants) 3 ≡ 5 ∷ []

@@ -133,12 +133,18 @@ module _ (f : ℕ → Bool) where
         ∙ getD-replicate (m - many f m) (j - many f m) 0 0 (omega arith)
 
     front-length : length (kept f m l ++ replicate (m - many f m) 0) ≡ m
-    front-length = length-append (kept f m l) (replicate (m - many f m) 0) ∙ omega (arith, kept-length m l, length-replicate {A = ℕ} (m - many f m) 0, many-few f m)
+    front-length = length-append (kept f m l) (replicate (m - many f m) 0) ∙ omega (
+      arith,
+      kept-length m l,
+      length-replicate {A = ℕ} (m - many f m) 0,
+      many-few f m,
+    )
 
     -- past the old count nothing changes
     pub pooled-past : drop m (pooled f m l) ≡ drop m l
     unfolding pooled
-    pooled-past = ap (drop m) (sym (append-assoc (kept f m l) (replicate (m - many f m) 0) (drop m l))) ∙ drop-at (kept f m l ++ replicate (m - many f m) 0) (drop m l) m front-length
+    pooled-past = ap (drop m) (sym (append-assoc (kept f m l) (replicate (m - many f m) 0) (drop m l)))
+        ∙ drop-at (kept f m l ++ replicate (m - many f m) 0) (drop m l) m front-length
 
     pub pooled-length : m ≤ length l → length (pooled f m l) ≡ length l
     unfolding pooled

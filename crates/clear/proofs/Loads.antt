@@ -43,7 +43,8 @@ module _ (number : ℕ → ℕ) (m : ℕ) (w : List ℕ) where
   module _ (k : ℕ) (h : k < count w) where
     pub recoded-op : opAt (recoded number m w) k ≡ opAt w k
     unfolding recoded
-    recoded-op = let e : stride * k ≡ stride * k + 0 = omega arith in ap (λ (x : ℕ). getD (each (insOf number m w) (count w)) x 0) e ∙ word-at (insOf number m w) (λ i. refl) (count w) k 0 h (omega arith)
+    recoded-op = let e : stride * k ≡ stride * k + 0 = omega arith in ap (λ (x : ℕ). getD (each (insOf number m w) (count w)) x 0) e
+        ∙ word-at (insOf number m w) (λ i. refl) (count w) k 0 h (omega arith)
 
     pub recoded-mark : markAt (recoded number m w) k ≡ markAt w k
     unfolding recoded

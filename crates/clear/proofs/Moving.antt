@@ -62,13 +62,19 @@ pub record Going (kinds kinds₀ words words₀ scratch scratch₀ : List ℕ) (
 
 pub going-none : (kinds words scratch : List ℕ) → Going kinds kinds words words scratch scratch 0 0
 unfolding each many
-going-none kinds words scratch = record { in-kinds = keeping-none (marked scratch) kinds; in-words = keeping-none (marked scratch) words; numbers = walk-none scratch; counts = refl }
+going-none kinds words scratch = record {
+  in-kinds = keeping-none (marked scratch) kinds;
+  in-words = keeping-none (marked scratch) words;
+  numbers = walk-none scratch;
+  counts = refl;
+}
 
 module _ {kinds kinds₀ words words₀ scratch scratch₀ : List ℕ} {to i : ℕ} (g : Going kinds kinds₀ words words₀ scratch scratch₀ to i) where
   read-mark : (b : Bool) → eqb (getD scratch i 0) 0 ≡ b → marked scratch₀ i ≡ not b
   read-mark b e = let r = walk-read (g .numbers) i (le-refl i) in rw (← r, e)
 
-  pub going-skip : (m : ℕ) → eqb (getD scratch i 0) 0 ≡ true → i < m → m ≤ length scratch₀ → Going kinds kinds₀ words words₀ (set scratch i to) scratch₀ to (i + 1)
+  pub going-skip : (m : ℕ) → eqb (getD scratch i 0) 0 ≡ true → i < m → m ≤ length scratch₀
+      → Going kinds kinds₀ words words₀ (set scratch i to) scratch₀ to (i + 1)
   going-skip m e b l =
       let u = read-mark true e in
       let h : i < length scratch₀ = omega arith in

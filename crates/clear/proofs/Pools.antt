@@ -53,9 +53,15 @@ grew-push kinds words n k w =
       word = λ v h. getD-set-other words n v w 0 (λ e. omega arith);
     }
 
-has-grew : {kinds words : List ℕ} {n : ℕ} {kinds′ words′ : List ℕ} {n′ k w k′ w′ : ℕ} → Grew kinds words n kinds′ words′ n′ → k ≡ k′ → w ≡ w′ → Has kinds words n k w → Has kinds′ words′ n′ k′ w′
+has-grew : {kinds words : List ℕ} {n : ℕ} {kinds′ words′ : List ℕ} {n′ k w k′ w′ : ℕ} → Grew kinds words n kinds′ words′ n′ → k ≡ k′ → w ≡ w′
+    → Has kinds words n k w → Has kinds′ words′ n′ k′ w′
 has-grew g e f h =
-    record { at = h .at; inside = omega (arith, h .inside, g .more); kind = g .kind (h .at) (h .inside) ∙ h .kind ∙ e; word = g .word (h .at) (h .inside) ∙ h .word ∙ f }
+    record {
+      at = h .at;
+      inside = omega (arith, h .inside, g .more);
+      kind = g .kind (h .at) (h .inside) ∙ h .kind ∙ e;
+      word = g .word (h .at) (h .inside) ∙ h .word ∙ f;
+    }
 
 first-passes : (f : ℕ → Bool) (m k : ℕ) → first f k m < k + m → f (first f k m) ≡ true
 unfolding first
@@ -124,7 +130,8 @@ module _ {ks ws : List ℕ} {n : ℕ} {kt wt : List ℕ} {m : ℕ} (x : Pools ks
 
   -- a value at i of the n, and new among the m
   pools-more : (ks′ ws′ : List ℕ) (n′ : ℕ) (kt′ wt′ : List ℕ) (i k w : ℕ) → Grew ks ws n ks′ ws′ n′ → Grew kt wt m kt′ wt′ (m + 1) → i < n′
-      → ((j : ℕ) → j < n′ → (j < n) ⊎ (j ≡ i)) → m + 1 ≡ many (with-it (x .used) i) n′ → getD ks′ i 0 ≡ k → getD ws′ i 0 ≡ w → getD kt′ m 0 ≡ k → getD wt′ m 0 ≡ w
+      → ((j : ℕ) → j < n′ → (j < n) ⊎ (j ≡ i)) → m + 1 ≡ many (with-it (x .used) i) n′ → getD ks′ i 0 ≡ k → getD ws′ i 0 ≡ w → getD kt′ m 0 ≡ k
+      → getD wt′ m 0 ≡ w
       → Pools ks′ ws′ n′ kt′ wt′ (m + 1)
   pools-more ks′ ws′ n′ kt′ wt′ i k w gs gt h new c a b d e =
       record {
@@ -132,13 +139,23 @@ module _ {ks ws : List ℕ} {n : ℕ} {kt wt : List ℕ} {m : ℕ} (x : Pools ks
         count = c;
         forth = λ j l u.
             cases j i
-            (λ q. record { at = m; inside = omega arith; kind = d ∙ sym a ∙ ap (λ (z : ℕ). getD ks′ z 0) (sym q); word = e ∙ sym b ∙ ap (λ (z : ℕ). getD ws′ z 0) (sym q) })
+            (λ q. record {
+              at = m;
+              inside = omega arith;
+              kind = d ∙ sym a ∙ ap (λ (z : ℕ). getD ks′ z 0) (sym q);
+              word = e ∙ sym b ∙ ap (λ (z : ℕ). getD ws′ z 0) (sym q);
+            })
             (λ q.
             let v : j < n = ⊎-elim (λ z. z) (λ z. absurd (q z)) (new j l) in
             has-grew gt (sym (gs .kind j v)) (sym (gs .word j v)) (x .forth j v (sym (with-other (x .used) i j q) ∙ u)));
         back = λ j l.
             cases j m
-            (λ q. record { at = i; inside = h; kind = a ∙ sym d ∙ ap (λ (z : ℕ). getD kt′ z 0) (sym q); word = b ∙ sym e ∙ ap (λ (z : ℕ). getD wt′ z 0) (sym q) })
+            (λ q. record {
+              at = i;
+              inside = h;
+              kind = a ∙ sym d ∙ ap (λ (z : ℕ). getD kt′ z 0) (sym q);
+              word = b ∙ sym e ∙ ap (λ (z : ℕ). getD wt′ z 0) (sym q);
+            })
             (λ q.
             let v : j < m = omega arith in
             has-grew gs (sym (gt .kind j v)) (sym (gt .word j v)) (x .back j v));
@@ -270,4 +287,9 @@ module _ (ks ws : List ℕ) (n : ℕ) (kt wt : List ℕ) (m k w : ℕ) (pools : 
           let l = ltb-true (position kt wt m k w) m f in
           let a = found-is kt wt m k w l in
           let z = pools .back (position kt wt m k w) l in
-          absurd (none-has ks ws n k w (ltb-false (position ks ws n k w) n e) (record { at = z .at; inside = z .inside; kind = z .kind ∙ a .0; word = z .word ∙ a .1 }))
+          absurd (none-has ks ws n k w (ltb-false (position ks ws n k w) n e) (record {
+            at = z .at;
+            inside = z .inside;
+            kind = z .kind ∙ a .0;
+            word = z .word ∙ a .1;
+          }))

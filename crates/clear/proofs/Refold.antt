@@ -72,7 +72,8 @@ module _ (p q i : ℕ) (s : Chunk) where
           (cond b (stored (At n (n + 1)) (set (s .kinds) n k) (set (s .words) n w)) (stored Full (s .kinds) (s .words))))
           p q i s)
       go true b = long-wrote LoadConst (position (s .kinds) (s .words) n k w) (s .kinds) (s .words) n refl refl (omega arith)
-      go false true = long-wrote LoadConst n (set (s .kinds) n k) (set (s .words) n w) (n + 1) (length-set (s .kinds) n k) (length-set (s .words) n w) (omega arith)
+      go false true = long-wrote LoadConst n (set (s .kinds) n k) (set (s .words) n w) (n + 1) (length-set (s .kinds) n k) (length-set (s .words) n w)
+          (omega arith)
       go false false = long-same s
 
   long-put : (v : Val) → Long s (applied (Put p q v) i s)
@@ -143,7 +144,8 @@ within-limit : (a b limit : ℕ) → a ≤ b → b ≤ limit → a ≤ limit
 within-limit a b limit h l = omega arith
 
 module _ (strict : Bool) (tries : List ℕ) (s t : Chunk) (n : ℕ) (c : n ≡ count (s .code)) (c′ : n ≡ count (t .code)) (x : Lent s) (y : Lent t)
-    (few : folded (byScan strict tries) n s .constants < 65535) (limit : ℕ) (low : folded (byScan strict tries) n s .constants ≤ limit) (z : Sim limit s t) where
+    (few : folded (byScan strict tries) n s .constants < 65535) (limit : ℕ) (low : folded (byScan strict tries) n s .constants ≤ limit)
+    (z : Sim limit s t) where
   abbrev scan : Bars
   scan = byScan strict tries
 
@@ -156,7 +158,8 @@ module _ (strict : Bool) (tries : List ℕ) (s t : Chunk) (n : ℕ) (c : n ≡ c
       let l = below-limit (folded scan k s .constants) (folded scan n s .constants) up few in
       let i = sim-at k (before-it k n h) in
       sim-to (folded-next scan s k ∙ ap (λ (q : ℕ → Bool). tryFold q k (folded scan k s)) (bars-same (i .alike) strict tries k)) (folded-next scan t k)
-      (try-sim (scan (folded scan k t .code) k) k (folded scan k s) (folded scan k t) i (within-limit (folded scan k s .constants) (folded scan n s .constants) limit up low) l (held-ready a c h x) (held-ready b c′ h y))
+      (try-sim (scan (folded scan k t .code) k) k (folded scan k s) (folded scan k t) i (within-limit (folded scan k s .constants) (folded scan n s .constants)
+      limit up low) l (held-ready a c h x) (held-ready b c′ h y))
 
   sim-all : Sim limit (foldAll scan s) (foldAll scan t)
   sim-all = sim-to (all-is scan s n c) (all-is scan t n c′) (sim-at n (le-refl n))
@@ -198,7 +201,8 @@ module _ (o marks : ℕ) (e : rules o marks ≡ true) where
 
   pub rule-both : naming ≡ true → (jump ≡ false) × (eqb o Phi ≡ false)
   rule-both h =
-      let d = or-left naming (not (jump || eqb o Phi || folds o)) (and-true (not (eqb o LoadConst) || naming) (not naming || not (jump || eqb o Phi || folds o)) kept .1) h in
+      let d = or-left naming (not (jump || eqb o Phi || folds o)) (and-true (not (eqb o LoadConst) || naming)
+      (not naming || not (jump || eqb o Phi || folds o)) kept .1) h in
       or-false jump (eqb o Phi) (not-or (jump || eqb o Phi) (folds o) d)
 
 -- ---- a chunk and the cleared one
@@ -290,18 +294,26 @@ module _ (n : ℕ) (s : Chunk) (ok : checkOf (s .code) ≡ Count n) (limit : ℕ
       record {
         used = named w;
         count = refl;
-        forth = λ i h e. record { at = before w i; inside = in-order (named w) i m h e; kind = pooled-kept (named w) m (s .kinds) i h e; word = pooled-kept (named w) m (s .words) i h e };
+        forth = λ i h e. record {
+          at = before w i;
+          inside = in-order (named w) i m h e;
+          kind = pooled-kept (named w) m (s .kinds) i h e;
+          word = pooled-kept (named w) m (s .words) i h e;
+        };
         back = λ j h.
             let p = onto (named w) m j h in
             record {
               at = p .place;
               inside = p .below;
-              kind = sym (pooled-kept (named w) m (s .kinds) (p .place) (p .below) (p .passes)) ∙ ap (λ (x : ℕ). getD (pooled (named w) m (s .kinds)) x 0) (p .number);
-              word = sym (pooled-kept (named w) m (s .words) (p .place) (p .below) (p .passes)) ∙ ap (λ (x : ℕ). getD (pooled (named w) m (s .words)) x 0) (p .number);
+              kind = sym (pooled-kept (named w) m (s .kinds) (p .place) (p .below) (p .passes))
+                  ∙ ap (λ (x : ℕ). getD (pooled (named w) m (s .kinds)) x 0) (p .number);
+              word = sym (pooled-kept (named w) m (s .words) (p .place) (p .below) (p .passes))
+                  ∙ ap (λ (x : ℕ). getD (pooled (named w) m (s .words)) x 0) (p .number);
             };
       }
 
-  sim-refold : (strict : Bool) (tries : List ℕ) → Lent s → foldAll (byScan strict tries) s .constants < 65535 → foldAll (byScan strict tries) s .constants ≤ limit
+  sim-refold : (strict : Bool) (tries : List ℕ) → Lent s → foldAll (byScan strict tries) s .constants < 65535
+      → foldAll (byScan strict tries) s .constants ≤ limit
       → Sim limit (foldAll (byScan strict tries) s) (foldAll (byScan strict tries) (clearedChunk s))
   sim-refold strict tries x few low =
       let e = all-is (byScan strict tries) s (count w) refl in
@@ -316,10 +328,12 @@ more-all bars s =
     rw (folded-none bars s) at h)
 
 -- folding before and after: asked is that each operand with the mark is below the count, or at or past the count that the uncleared fold ends with
-module _ (n : ℕ) (s : Chunk) (ok : checkOf (s .code) ≡ Count n) (strict : Bool) (tries : List ℕ) (near : AllNear (s .code) (s .constants) (foldAll (byScan strict tries) s .constants))
+module _ (n : ℕ) (s : Chunk) (ok : checkOf (s .code) ≡ Count n) (strict : Bool) (tries : List ℕ)
+    (near : AllNear (s .code) (s .constants) (foldAll (byScan strict tries) s .constants))
     (x : Lent s) (few : foldAll (byScan strict tries) s .constants < 65535) where
   both : Sim (foldAll (byScan strict tries) s .constants) (foldAll (byScan strict tries) s) (foldAll (byScan strict tries) (clearedChunk s))
-  both = sim-refold n s ok (foldAll (byScan strict tries) s .constants) (more-all (byScan strict tries) s) near strict tries x few (le-refl (foldAll (byScan strict tries) s .constants))
+  both = sim-refold n s ok (foldAll (byScan strict tries) s .constants) (more-all (byScan strict tries) s) near strict tries x few
+      (le-refl (foldAll (byScan strict tries) s .constants))
 
   pub refold : Alike (foldAll (byScan strict tries) s .constants) (foldAll (byScan strict tries) s) (foldAll (byScan strict tries) (clearedChunk s))
   refold = both .alike

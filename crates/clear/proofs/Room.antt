@@ -23,7 +23,8 @@ no-more w m = many-few (named w) m
 abbrev pub clearedChunk : Chunk → Chunk
 clearedChunk s =
     let w = s .code in
-    chunk (recoded (before w) (s .constants) w) (s .dead) (pooled (named w) (s .constants) (s .kinds)) (pooled (named w) (s .constants) (s .words)) (before w (s .constants))
+    chunk (recoded (before w) (s .constants) w) (s .dead) (pooled (named w) (s .constants) (s .kinds)) (pooled (named w) (s .constants) (s .words))
+    (before w (s .constants))
 
 pub operators-same : (number : ℕ → ℕ) (m : ℕ) (w : List ℕ)
     → many (λ k. folds (opAt (recoded number m w) k)) (count (recoded number m w)) ≡ many (λ k. folds (opAt w k)) (count w)

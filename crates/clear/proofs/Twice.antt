@@ -1,10 +1,9 @@
 -- Running the clearing call twice changes nothing more. Assumes nothing.
 use Prim.Native.Nat.{ℕ, zero, suc, _+_, _*_, _≤_, _<_}
-use native.Mathlib.Nat.{sub-self, le-refl, eq-or-lt-of-le}
+use native.Mathlib.Nat.{sub-self, le-refl}
 use native.Mathlib.Numerals.{add-one}
 use native.Mathlib.Omega.{arith}
 use mathlib.Core.Path.{_≡_, refl, sym, ap, _∙_}
-use mathlib.Core.Logic.{⊎-elim}
 use mathlib.Core.Bool.{Bool, true, false, not}
 use mathlib.Core.List.{List, [], _∷_}
 use lib.Dec.{ltb}
@@ -24,6 +23,7 @@ use Rattle.code.proofs.Stages.{room-before}
 use Rattle.lent.specs.Chunk.{stride, count, operandAt, names, breaksAt}
 use Rattle.lent.specs.Tables.{constantKept, within, constantsKept, tableOf}
 use Rattle.lent.specs.Check.{firstBad, checkOf}
+use Rattle.lent.proofs.Counting.{every-at}
 use Rattle.named.specs.Unused.{named, before, kept, pooled, operandOf, recoded, numbered}
 use Rattle.clear.specs.Clear.{Is, No, Buffers, Outcome, outcome, cleared, readyOf, clearCall, Held}
 use Rattle.clear.proofs.Answers.{refused-call, answered-call}
@@ -49,7 +49,8 @@ pooled-all : (f : ℕ → Bool) (n : ℕ) (l : List ℕ) → ((j : ℕ) → j < 
 unfolding pooled
 pooled-all f n l h b = rw (kept-all f n l h b, many-all f n h, sub-self n) (take-append-drop n l)
 
-module _ (number : ℕ → ℕ) (m : ℕ) (w : List ℕ) (long : length w ≡ stride * count w) (same : (k : ℕ) → k < count w → operandOf number m w k ≡ operandAt w k) where
+module _ (number : ℕ → ℕ) (m : ℕ) (w : List ℕ) (long : length w ≡ stride * count w) (same : (k : ℕ) → k < count w → operandOf number m w k
+    ≡ operandAt w k) where
   still : (k : ℕ) → k ≤ count w → Recoding number m w w k
   still zero h = recoding-none number m w
   still (suc k) h =
@@ -77,7 +78,8 @@ module _ (w : List ℕ) (m : ℕ) where
   same-operand : (k : ℕ) → operandOf (before after) (before w m) after k ≡ operandAt after k
   same-operand k = go (names after k) refl (ltb (operandAt after k) (before w m)) refl
     where
-      go : (n : Bool) → names after k ≡ n → (t : Bool) → ltb (operandAt after k) (before w m) ≡ t → operandOf (before after) (before w m) after k ≡ operandAt after k
+      go : (n : Bool) → names after k ≡ n → (t : Bool) → ltb (operandAt after k) (before w m) ≡ t → operandOf (before after) (before w m) after k
+          ≡ operandAt after k
       go false n t e = operand-unmarked (before after) (before w m) after k n
       go true n false e = operand-far (before after) (before w m) after k (ltb-false (operandAt after k) (before w m) e)
       go true n true e =
@@ -122,17 +124,7 @@ unfolding first
 first-ext f g zero k h = refl
 first-ext f g (suc n) k h = rw (h k (omega arith), first-ext f g n (suc k) (λ i l. h i (omega arith)))
 
-every-at : (f : ℕ → Bool) (n k : ℕ) → every f n ≡ true → k < n → f k ≡ true
-unfolding every
-every-at f zero k e h = absurd (omega arith)
-every-at f (suc n) k e h =
-    let p = and-true (every f n) (f n) e in
-    ⊎-elim (λ q. rw q (p .1)) (λ q. every-at f n k (p .0) q) (eq-or-lt-of-le (below k n h))
-  where
-    below : (k n : ℕ) → k < suc n → k ≤ n
-    below k n h = omega arith
-
-every-of : (f : ℕ → Bool) (n : ℕ) → ((k : ℕ) → k < n → f k ≡ true) → every f n ≡ true
+pub every-of : (f : ℕ → Bool) (n : ℕ) → ((k : ℕ) → k < n → f k ≡ true) → every f n ≡ true
 unfolding every
 every-of f zero h = refl
 every-of f (suc n) h = rw (every-of f n (λ k l. h k (omega arith)), h n (omega arith))
@@ -151,11 +143,14 @@ module _ (number : ℕ → ℕ) (m : ℕ) (w : List ℕ) (long : length w ≡ st
   check-same = let e : length (recoded number m w) ≡ length w = recoded-length number m w ∙ sym long in rw (first-same, e)
 
 module _ (w kinds words : List ℕ) (m : ℕ) (hk : m ≤ length kinds) (hw : m ≤ length words) (few : m ≤ 65536) where
-  entry-kept : every (constantKept kinds words) m ≡ true → (j : ℕ) → j < before w m → constantKept (pooled (named w) m kinds) (pooled (named w) m words) j ≡ true
+  entry-kept : every (constantKept kinds words) m ≡ true → (j : ℕ) → j < before w m → constantKept (pooled (named w) m kinds)
+      (pooled (named w) m words) j ≡ true
   entry-kept e j h =
       let p = onto (named w) m j h in
-      let k : getD (pooled (named w) m kinds) j 0 ≡ getD kinds (p .place) 0 = ap (λ (x : ℕ). getD (pooled (named w) m kinds) x 0) (sym (p .number)) ∙ pooled-kept (named w) m kinds (p .place) (p .below) (p .passes) in
-      let v : getD (pooled (named w) m words) j 0 ≡ getD words (p .place) 0 = ap (λ (x : ℕ). getD (pooled (named w) m words) x 0) (sym (p .number)) ∙ pooled-kept (named w) m words (p .place) (p .below) (p .passes) in
+      let k : getD (pooled (named w) m kinds) j 0 ≡ getD kinds (p .place) 0 = ap (λ (x : ℕ). getD (pooled (named w) m kinds) x 0) (sym (p .number))
+      ∙ pooled-kept (named w) m kinds (p .place) (p .below) (p .passes) in
+      let v : getD (pooled (named w) m words) j 0 ≡ getD words (p .place) 0 = ap (λ (x : ℕ). getD (pooled (named w) m words) x 0) (sym (p .number))
+      ∙ pooled-kept (named w) m words (p .place) (p .below) (p .passes) in
       rw (k, v) (every-at (constantKept kinds words) m (p .place) e (p .below))
 
   pub constants-same : every (constantKept kinds words) m ≡ true → constantsKept (pooled (named w) m kinds) (pooled (named w) m words) (before w m) ≡ true
@@ -185,7 +180,8 @@ module _ (b : Buffers) (m n : ℕ) (ready : readyOf b m ≡ Count n) where
       let v = tableOf (checkOf (b .code)) 1 (constantsKept (b .kinds) (b .words) m) in
       let t = table-met n (checkOf (b .code)) 1 (constantsKept (b .kinds) (b .words) m) (sym (room-before n v 1 (length (b .scratch)) m (sym ready))) in
       let e = and-true (within m (length (b .kinds)) (length (b .words))) (every (constantKept (b .kinds) (b .words)) m) (t .1) .1 in
-      let s : before (b .code) m ≤ length (numbered (before (b .code)) m (b .scratch)) = omega (arith, numbered-length (before (b .code)) m (b .scratch) (held .scratch), many-few (named (b .code)) m, held .scratch) in
+      let s : before (b .code) m ≤ length (numbered (before (b .code)) m (b .scratch)) = omega
+      (arith, numbered-length (before (b .code)) m (b .scratch) (held .scratch), many-few (named (b .code)) m, held .scratch) in
       rw (
         check-same (before (b .code)) m (b .code) (held .whole),
         t .0,

@@ -97,16 +97,21 @@ all-of-it code kinds words scratch m r code′ kinds′ words′ scratch′ kind
     let t = marked-named x in
     let below : (i : ℕ) → i < m → many (marked marks) i ≡ before code i = λ i h. many-ext (marked marks) (named code) i (λ j q. t j (omega arith)) in
     let a : r ≡ before code m = d .count ∙ many-ext (marked marks) (named code) m t in
-    let k : kinds″ ≡ pooled (named code) m kinds = moved-pool (marked marks) m r kinds kinds′ kinds″ (d .count) (d .kinds-moved) e ∙ pooled-ext (marked marks) (named code) m t kinds in
-    let v : words″ ≡ pooled (named code) m words = moved-pool (marked marks) m r words words′ words″ (d .count) (d .words-moved) f ∙ pooled-ext (marked marks) (named code) m t words in
-    let n : (i : ℕ) → i < m → numberIn scratch′ i ≡ before code i = λ i h. ap (λ (l : List ℕ). getD l i 0) (d .numbers) ∙ number-at (many (marked marks)) m marks i h ∙ below i h in
+    let k : kinds″ ≡ pooled (named code) m kinds = moved-pool (marked marks) m r kinds kinds′ kinds″ (d .count) (d .kinds-moved) e
+    ∙ pooled-ext (marked marks) (named code) m t kinds in
+    let v : words″ ≡ pooled (named code) m words = moved-pool (marked marks) m r words words′ words″ (d .count) (d .words-moved) f
+    ∙ pooled-ext (marked marks) (named code) m t words in
+    let n : (i : ℕ) → i < m → numberIn scratch′ i ≡ before code i = λ i h. ap (λ (l : List ℕ). getD l i 0) (d .numbers)
+    ∙ number-at (many (marked marks)) m marks i h ∙ below i h in
     let c : code′ ≡ recoded (before code) m code = g ∙ recoded-ext (numberIn scratch′) (before code) m n code in
-    let s : scratch′ ≡ numbered (before code) m scratch = d .numbers ∙ numbered-ext (many (marked marks)) (before code) m below marks ∙ numbered-rest (before code) m marks scratch (x .held .tail) in
+    let s : scratch′ ≡ numbered (before code) m scratch = d .numbers ∙ numbered-ext (many (marked marks)) (before code) m below marks
+    ∙ numbered-rest (before code) m marks scratch (x .held .tail) in
     rw (a, k, v, c, s)
 
 -- ---- the tests
 
-pub ready-of : (code kinds words scratch : List ℕ) (m : ℕ) (v v′ r : Checked) (t : Bool) → v ≡ checkOf code → t ≡ constantsKept kinds words m → v′ ≡ tableOf v 1 t
+pub ready-of : (code kinds words scratch : List ℕ) (m : ℕ) (v v′ r : Checked) (t : Bool) → v ≡ checkOf code → t ≡ constantsKept kinds words m → v′
+    ≡ tableOf v 1 t
     → r ≡ roomOf v′ 1 (length scratch) m → r ≡ readyOf (buffers code kinds words scratch) m
 unfolding readyOf
 ready-of code kinds words scratch m v v′ r t a b d e = rw (e, d, b, a)

@@ -41,7 +41,8 @@ unfoldable pub cleared : Buffers → ℕ → Outcome
 unfolding pooled recoded numbered
 cleared b m =
     let w = b .code in
-    outcome (Is (before w m)) (buffers (recoded (before w) m w) (pooled (named w) m (b .kinds)) (pooled (named w) m (b .words)) (numbered (before w) m (b .scratch)))
+    outcome (Is (before w m)) (buffers (recoded (before w) m w) (pooled (named w) m (b .kinds)) (pooled (named w) m (b .words))
+    (numbered (before w) m (b .scratch)))
 
 -- 1, 2, then 7 for the constants, then 5 for scratch, the call's buffer 1
 unfoldable pub readyOf : Buffers → ℕ → Checked

@@ -11,7 +11,8 @@ use code::Checked;
 // Each marked constant moves down in place, and scratch takes its new number. Answers how many there are.
 fn keep(kinds: &mut [u8], words: &mut [u64], scratch: &mut [u32], m: usize) -> usize
     requires { ⌜ (m ≤ 65536) × (m ≤ length (now kinds)) × (m ≤ length (now words)) × (m ≤ length (now scratch)) ⌝ }
-    ensures { λ r. ⌜ Down (marked (now (scratch .entry))) m r (now (kinds .entry)) (now (kinds .exit)) (now (words .entry)) (now (words .exit)) (now (scratch .entry)) (now (scratch .exit)) ⌝ }
+    ensures { λ r. ⌜ Down (marked (now (scratch .entry))) m r (now (kinds .entry)) (now (kinds .exit)) (now (words .entry)) (now (words .exit))
+        (now (scratch .entry)) (now (scratch .exit)) ⌝ }
 {
     let mut to: usize = 0;
     let mut i: usize = 0;
@@ -52,7 +53,8 @@ fn clear_unused(
     m: usize,
 ) -> usize
     requires { ⌜ Held (buffers (now code) (now kinds) (now words) (now scratch)) m ⌝ }
-    ensures { λ r. ⌜ outcome (Is r) (buffers (now (code .exit)) (now (kinds .exit)) (now (words .exit)) (now (scratch .exit))) ≡ cleared (buffers (now (code .entry)) (now (kinds .entry)) (now (words .entry)) (now (scratch .entry))) m ⌝ }
+    ensures { λ r. ⌜ outcome (Is r) (buffers (now (code .exit)) (now (kinds .exit)) (now (words .exit)) (now (scratch .exit)))
+        ≡ cleared (buffers (now (code .entry)) (now (kinds .entry)) (now (words .entry)) (now (scratch .entry))) m ⌝ }
 {
     named::mark_named(code, scratch, m);
     let r = keep(kinds, words, scratch, m);

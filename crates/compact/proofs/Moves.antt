@@ -63,13 +63,15 @@ module _ {dead xs old : List ℕ} {to i : ℕ} (k : Kept dead xs old to i) where
   pub kept-skip : (getD dead i 0 ≡ 0 → ⊥) → Kept dead xs old to (i + 1)
   kept-skip h =
       record {
-        walked = walk-at (walk-as (walk-pass (k .walked) stride) (each (leftAt dead old) (i + 1)) (sym (left-off dead old i h))) (stride * to) (stride * (i + 1)) refl (omega arith);
+        walked = walk-at (walk-as (walk-pass (k .walked) stride) (each (leftAt dead old) (i + 1)) (sym (left-off dead old i h))) (stride * to)
+            (stride * (i + 1)) refl (omega arith);
         counts = k .counts ∙ sym (live-off dead i h);
       }
 
   pub kept-move : (ys : List ℕ) → getD dead i 0 ≡ 0 → i < length dead → length old ≡ stride * length dead
       → ys
-      ≡ set (set (set (set xs (stride * to) (opAt xs i)) (stride * to + 1) (markAt xs i)) (stride * to + 2) (operandOf dead xs i)) (stride * to + 3) (originAt xs i)
+      ≡ set (set (set (set xs (stride * to) (opAt xs i)) (stride * to + 1) (markAt xs i)) (stride * to + 2) (operandOf dead xs i)) (stride * to + 3)
+      (originAt xs i)
       → Kept dead ys old (to + 1) (i + 1)
   kept-move ys e h l z =
       let w = k .walked in

@@ -22,7 +22,9 @@ fn operand_of(code: &[u16], dead: &[u8], remap: &[u32], i: usize) -> u16
 // Instruction i moves down to `to`.
 fn shift(code: &mut [u16], dead: &[u8], remap: &[u32], i: usize, to: usize)
     requires { ⌜ (i < count (now code)) × (to ≤ i) × Remap (now dead) (now remap) ⌝ }
-    ensures { λ _. ⌜ now (code .exit) ≡ set (set (set (set (now (code .entry)) (stride * to) (opAt (now (code .entry)) i)) (stride * to + 1) (markAt (now (code .entry)) i)) (stride * to + 2) (operandOf (now (dead .entry)) (now (code .entry)) i)) (stride * to + 3) (originAt (now (code .entry)) i) ⌝ }
+    ensures { λ _. ⌜ now (code .exit) ≡ set (set (set (set (now (code .entry)) (stride * to) (opAt (now (code .entry)) i)) (stride * to + 1)
+        (markAt (now (code .entry)) i)) (stride * to + 2) (operandOf (now (dead .entry)) (now (code .entry)) i)) (stride * to + 3)
+        (originAt (now (code .entry)) i) ⌝ }
 {
     let op = lent::op_at(code, i);
     let marks = lent::mark_at(code, i);
@@ -63,8 +65,10 @@ pub fn compact_with_jump_remap(
     stmt_pos: &mut [u32],
     call_byte_pos: &mut [u32],
 ) -> usize
-    requires { ⌜ (length (now code) ≡ stride * length (now dead)) × (length (now dead) ≤ 65535) × (length (now remap) ≡ length (now dead) + 1) × (length (now «stmt_pos») % 2 ≡ 0) × (length (now «call_byte_pos») % 2 ≡ 0) ⌝ }
-    ensures { λ r. ⌜ Compacted (now (dead .entry)) (now (code .entry)) (now («stmt_pos» .entry)) (now («call_byte_pos» .entry)) r (now (code .exit)) (now (remap .exit)) (now («stmt_pos» .exit)) (now («call_byte_pos» .exit)) ⌝ }
+    requires { ⌜ (length (now code) ≡ stride * length (now dead)) × (length (now dead) ≤ 65535) × (length (now remap) ≡ length (now dead) + 1)
+        × (length (now «stmt_pos») % 2 ≡ 0) × (length (now «call_byte_pos») % 2 ≡ 0) ⌝ }
+    ensures { λ r. ⌜ Compacted (now (dead .entry)) (now (code .entry)) (now («stmt_pos» .entry)) (now («call_byte_pos» .entry)) r (now (code .exit))
+        (now (remap .exit)) (now («stmt_pos» .exit)) (now («call_byte_pos» .exit)) ⌝ }
 {
     positions::fill_remap(dead, remap);
     positions::place(stmt_pos, dead, remap);

@@ -23,9 +23,13 @@ fn renew_sources(
     remap: &mut [u32],
     left: Left,
 ) -> usize
-    requires { ⌜ (length (now code) ≡ stride * length (now dead)) × (length (now dead) ≤ length (now remap)) × (2 * many (isPhi (now code)) (length (now dead)) ≤ length (now «phi_sources»)) ⌝ }
+    requires { ⌜ (length (now code) ≡ stride * length (now dead)) × (length (now dead) ≤ length (now remap))
+        × (2 * many (isPhi (now code)) (length (now dead)) ≤ length (now «phi_sources»)) ⌝ }
     requires { ⌜ (left .map ≤ length (now «phi_map»)) × (left .sources ≤ length (now «phi_sources»)) ⌝ }
-    ensures { λ r. ⌜ (r ≡ length (sourcesLeft (now (code .entry)) (take (left .map) (now («phi_map» .entry))) (take (left .sources) (now («phi_sources» .entry))) (now (dead .entry)))) × (now («phi_sources» .exit) ≡ sourcesAfter (now (code .entry)) (take (left .map) (now («phi_map» .entry))) (take (left .sources) (now («phi_sources» .entry))) (now (dead .entry)) (length (now («phi_sources» .entry)))) ⌝ }
+    ensures { λ r. ⌜ (r ≡ length (sourcesLeft (now (code .entry)) (take (left .map) (now («phi_map» .entry)))
+        (take (left .sources) (now («phi_sources» .entry))) (now (dead .entry)))) × (now («phi_sources» .exit)
+        ≡ sourcesAfter (now (code .entry)) (take (left .map) (now («phi_map» .entry))) (take (left .sources) (now («phi_sources» .entry))) (now (dead .entry))
+        (length (now («phi_sources» .entry)))) ⌝ }
 {
     let p = left.map;
     let s = left.sources;
@@ -56,7 +60,9 @@ fn renew(
     left: Left,
 ) -> Left
     requires { ⌜ Fit (tables (now code) (now «phi_map») (now «phi_sources») (now «stmt_pos») (now «call_byte_pos») (now dead) (now remap) left) ⌝ }
-    ensures { λ r. ⌜ tables (now (code .exit)) (now («phi_map» .exit)) (now («phi_sources» .exit)) (now («stmt_pos» .exit)) (now («call_byte_pos» .exit)) (now (dead .entry)) (now (remap .exit)) r ≡ renewed (tables (now (code .entry)) (now («phi_map» .entry)) (now («phi_sources» .entry)) (now («stmt_pos» .entry)) (now («call_byte_pos» .entry)) (now (dead .entry)) (now (remap .entry)) left) ⌝ }
+    ensures { λ r. ⌜ tables (now (code .exit)) (now («phi_map» .exit)) (now («phi_sources» .exit)) (now («stmt_pos» .exit)) (now («call_byte_pos» .exit))
+        (now (dead .entry)) (now (remap .exit)) r ≡ renewed (tables (now (code .entry)) (now («phi_map» .entry)) (now («phi_sources» .entry))
+        (now («stmt_pos» .entry)) (now («call_byte_pos» .entry)) (now (dead .entry)) (now (remap .entry)) left) ⌝ }
 {
     let sources = renew_sources(code, dead, phi_map, phi_sources, remap, left);
     let instructions = compact::compact_with_jump_remap(code, dead, remap, stmt_pos, call_byte_pos);
@@ -71,7 +77,8 @@ fn renew(
 // Marks the Phis that die.
 fn mark_phis(code: &[u16], phi_map: &[u32], phi_sources: &[u16], dead: &mut [u8], left: Left)
     requires { ⌜ (length (now dead) ≡ count (now code)) × (left .map ≤ length (now «phi_map»)) × (left .sources ≤ length (now «phi_sources»)) ⌝ }
-    ensures { λ _. ⌜ now (dead .exit) ≡ marked (now (code .entry)) (take (left .map) (now («phi_map» .entry))) (take (left .sources) (now («phi_sources» .entry))) (now (dead .entry)) ⌝ }
+    ensures { λ _. ⌜ now (dead .exit) ≡ marked (now (code .entry)) (take (left .map) (now («phi_map» .entry)))
+        (take (left .sources) (now («phi_sources» .entry))) (now (dead .entry)) ⌝ }
 {
     let p = left.map;
     let s = left.sources;
@@ -90,7 +97,9 @@ pub fn finish(
     left: Left,
 ) -> Left
     requires { ⌜ Fit (tables (now code) (now «phi_map») (now «phi_sources») (now «stmt_pos») (now «call_byte_pos») (now dead) (now remap) left) ⌝ }
-    ensures { λ r. ⌜ tables (now (code .exit)) (now («phi_map» .exit)) (now («phi_sources» .exit)) (now («stmt_pos» .exit)) (now («call_byte_pos» .exit)) (now (dead .exit)) (now (remap .exit)) r ≡ finished (tables (now (code .entry)) (now («phi_map» .entry)) (now («phi_sources» .entry)) (now («stmt_pos» .entry)) (now («call_byte_pos» .entry)) (now (dead .entry)) (now (remap .entry)) left) ⌝ }
+    ensures { λ r. ⌜ tables (now (code .exit)) (now («phi_map» .exit)) (now («phi_sources» .exit)) (now («stmt_pos» .exit)) (now («call_byte_pos» .exit))
+        (now (dead .exit)) (now (remap .exit)) r ≡ finished (tables (now (code .entry)) (now («phi_map» .entry)) (now («phi_sources» .entry))
+        (now («stmt_pos» .entry)) (now («call_byte_pos» .entry)) (now (dead .entry)) (now (remap .entry)) left) ⌝ }
 {
     mark_phis(code, phi_map, phi_sources, dead, left);
     if phi_pass::all_alive(dead) {

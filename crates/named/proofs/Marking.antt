@@ -2,7 +2,7 @@
 use Prim.Native.Nat.{ℕ, _+_, _≤_, _<_}
 use native.Mathlib.Omega.{arith}
 use mathlib.Core.Path.{_≡_, refl, sym, ap, _∙_}
-use mathlib.Core.Bool.{Bool, true, false, _&&_, _||_}
+use mathlib.Core.Bool.{Bool, true, false, _&&_, _||_, and-false}
 use mathlib.Core.List.{List}
 use lib.Dec.{eqb, ltb}
 use lib.ListN.{length, getD, set, drop, length-set}
@@ -17,10 +17,6 @@ use Rattle.lent.specs.Chunk.{count, operandAt, names}
 use Rattle.named.specs.Unused.{namesIt, named}
 use Rattle.named.specs.Marks.{noted, Marks}
 
-and-no : (b : Bool) → b && false ≡ false
-and-no true = refl
-and-no false = refl
-
 module _ (w : List ℕ) (m k : ℕ) (s : List ℕ) where
   noted-on : names w k ≡ true → ltb (operandAt w k) m ≡ true → noted w m k s ≡ set s (operandAt w k) 1
   unfolding noted
@@ -28,7 +24,7 @@ module _ (w : List ℕ) (m k : ℕ) (s : List ℕ) where
 
   noted-far : ltb (operandAt w k) m ≡ false → noted w m k s ≡ s
   unfolding noted
-  noted-far h = rw (h, and-no (names w k))
+  noted-far h = rw (h, and-false (names w k))
 
   noted-off : names w k ≡ false → noted w m k s ≡ s
   unfolding noted

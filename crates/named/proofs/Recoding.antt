@@ -57,7 +57,8 @@ append-four : (l : List ℕ) (a b d f : ℕ) → (((l ++ (a ∷ [])) ++ (b ∷ [
 append-four l a b d f = simp append-assoc
 
 module _ {number : ℕ → ℕ} {m : ℕ} {xs old : List ℕ} {k : ℕ} (r : Recoding number m xs old k) where
-  pub recoding-more : (v : ℕ) → v ≡ operandOf number m xs k → k < count old → length old ≡ stride * count old → Recoding number m (set xs (stride * k + 2) v) old (k + 1)
+  pub recoding-more : (v : ℕ) → v ≡ operandOf number m xs k → k < count old → length old ≡ stride * count old
+      → Recoding number m (set xs (stride * k + 2) v) old (k + 1)
   recoding-more v e h l =
       let w = r .walked in
       let o : opAt xs k ≡ opAt old k = walk-read w (stride * k) (omega arith) in
@@ -68,7 +69,8 @@ module _ {number : ℕ → ℕ} {m : ℕ} {xs old : List ℕ} {k : ℕ} (r : Rec
       let three = walk-put (walk-at two (stride * k + 2) (stride * k + 2) (omega arith) (omega arith)) v (omega arith) in
       let ys = set xs (stride * k + 2) v in
       let u : originAt ys k ≡ originAt old k = walk-read three (stride * k + 3) (omega arith) in
-      let four = rw (set-getD ys (stride * k + 3) 0) at (walk-put (walk-at three (stride * k + 3) (stride * k + 3) (omega arith) (omega arith)) (originAt ys k) (omega arith)) in
+      let four = rw (set-getD ys (stride * k + 3) 0) at (walk-put (walk-at three (stride * k + 3) (stride * k + 3) (omega arith) (omega arith)) (originAt ys k)
+      (omega arith)) in
       let j = each (insOf number m old) k in
       let done : (((j ++ (opAt xs k ∷ [])) ++ (markAt xs k ∷ [])) ++ (v ∷ [])) ++ (originAt ys k ∷ []) ≡ each (insOf number m old) (k + 1) =
       append-four j (opAt xs k) (markAt xs k) v (originAt ys k) ∙ rw (u, o, n, x) (sym (each-more (insOf number m old) k)) in

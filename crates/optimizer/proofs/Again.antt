@@ -164,14 +164,16 @@ module _ (dead w : List ℕ) where
   left-ruled : Ruled w → (k : ℕ) → Ruled (each (leftAt dead w) k)
   unfolding each
   left-ruled r zero = λ j. no-words
-  left-ruled r (suc k) = append-ruled (each (leftAt dead w) k) (leftAt dead w k) (live dead k) (left-long dead w k) (left-ruled r k) (at-ruled r k (alive dead k))
+  left-ruled r (suc k) = append-ruled (each (leftAt dead w) k) (leftAt dead w k) (live dead k) (left-long dead w k) (left-ruled r k)
+      (at-ruled r k (alive dead k))
 
   compacted-keeps : stride * length dead ≤ length w → Keeps w (compacted dead w)
   unfolding compacted left
   compacted-keeps h =
       let l = each (leftAt dead w) (length dead) in
       record {
-        ruled = λ r. append-ruled l (replicate (length w - length l) 0) (live dead (length dead)) (left-long dead w (length dead)) (left-ruled r (length dead)) (zero-ruled (length w - length l));
+        ruled = λ r. append-ruled l (replicate (length w - length l) 0) (live dead (length dead)) (left-long dead w (length dead)) (left-ruled r (length dead))
+            (zero-ruled (length w - length l));
         long =
             length-append l (replicate (length w - length l) 0)
             ∙ omega (arith, length-replicate {A = ℕ} (length w - length l) 0, left-long dead w (length dead), many-few (alive dead) (length dead));
@@ -203,7 +205,8 @@ fold-keeps bars b c h l =
     let z : length (f .dead) ≡ length (b .dead) = pass-kept bars s f h refl .dead-long ∙ length-replicate (length (b .dead)) 0 in
     both k
     (finished-keeps
-    (tables (f .code) (b .map) (b .sources) (b .stmts) (b .calls) (f .dead) (b .remap) (record { instructions = length (b .dead); map = c .map; sources = c .sources }))
+    (tables (f .code) (b .map) (b .sources) (b .stmts) (b .calls) (f .dead) (b .remap)
+    (record { instructions = length (b .dead); map = c .map; sources = c .sources }))
     (rw (z, k .long) l))
 
 never : {A : Type 0} (n : ℕ) (r : Refusal) → Refused r ≡ Count n → A
@@ -237,9 +240,11 @@ unfolding foldCall rejoined joined foldLent
 again strict b tries landings c n e = go (readyOf (b .code) tries (b .kinds) (b .words) c (lensOf b) (length landings)) refl
   where
     go : (v : Checked) → v ≡ readyOf (b .code) tries (b .kinds) (b .words) c (lensOf b) (length landings)
-        → checkOf (asked v (λ r. called (outcome (No r) b) tries landings) (rejoined b landings c (foldLent strict tries (needed b c) c)) .result .after .code) ≡ Count n
+        → checkOf (asked v (λ r. called (outcome (No r) b) tries landings) (rejoined b landings c
+        (foldLent strict tries (needed b c) c)) .result .after .code) ≡ Count n
     go (Refused r) q = e
     go (Count m) q =
         let h = held-of b tries c (length landings) m (Count m) q refl in
         let d : length (take (count (b .code)) (b .dead)) ≡ count (b .code) = length-take-le (count (b .code)) (b .dead) (h .dead) in
-        checks (b .code) (constantFold (byScan strict tries) (needed b c) c .after .code) n (fold-keeps (byScan strict tries) (needed b c) c (omega arith) (omega (arith, h .whole))) e
+        checks (b .code) (constantFold (byScan strict tries) (needed b c) c .after .code) n
+        (fold-keeps (byScan strict tries) (needed b c) c (omega arith) (omega (arith, h .whole))) e

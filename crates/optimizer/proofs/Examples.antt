@@ -28,35 +28,41 @@ use Rattle.optimizer.specs.Fold.{Is}
 
 -- 2 < 3: LoadTrue without a mark is left; each buffer has one word more than is needed, which stays
 pub truth : foldCall false
-    (buffers (LoadConst ∷ 2 ∷ 0 ∷ 5 ∷ LoadConst ∷ 2 ∷ 1 ∷ 6 ∷ Lt ∷ 0 ∷ 0 ∷ 7 ∷ []) (1 ∷ 1 ∷ 9 ∷ 8 ∷ []) (2 ∷ 3 ∷ 9 ∷ 8 ∷ []) (9 ∷ 9 ∷ 9 ∷ 8 ∷ []) (8 ∷ []) (3 ∷ 7 ∷ 8 ∷ []) (8 ∷ []) (9 ∷ 9 ∷ 9 ∷ 8 ∷ [])
+    (buffers (LoadConst ∷ 2 ∷ 0 ∷ 5 ∷ LoadConst ∷ 2 ∷ 1 ∷ 6 ∷ Lt ∷ 0 ∷ 0 ∷ 7 ∷ []) (1 ∷ 1 ∷ 9 ∷ 8 ∷ []) (2 ∷ 3 ∷ 9 ∷ 8 ∷ []) (9 ∷ 9 ∷ 9 ∷ 8 ∷ []) (8 ∷ [])
+    (3 ∷ 7 ∷ 8 ∷ []) (8 ∷ []) (9 ∷ 9 ∷ 9 ∷ 8 ∷ [])
     (9 ∷ 9 ∷ 9 ∷ 9 ∷ 8 ∷ []))
     (0 ∷ 3 ∷ []) (9 ∷ 9 ∷ 9 ∷ 9 ∷ 8 ∷ [])
     (record { constants = 2; map = 0; sources = 0; stmts = 2; calls = 0 })
     ≡ called (outcome (Is (record { instructions = 1; constants = 2; map = 0; sources = 0 }))
-    (buffers (LoadTrue ∷ 0 ∷ 0 ∷ 5 ∷ replicate 8 0) (1 ∷ 1 ∷ 9 ∷ 8 ∷ []) (2 ∷ 3 ∷ 9 ∷ 8 ∷ []) (0 ∷ 0 ∷ 0 ∷ 8 ∷ []) (8 ∷ []) (1 ∷ 7 ∷ 8 ∷ []) (8 ∷ []) (0 ∷ 1 ∷ 1 ∷ 8 ∷ [])
+    (buffers (LoadTrue ∷ 0 ∷ 0 ∷ 5 ∷ replicate 8 0) (1 ∷ 1 ∷ 9 ∷ 8 ∷ []) (2 ∷ 3 ∷ 9 ∷ 8 ∷ []) (0 ∷ 0 ∷ 0 ∷ 8 ∷ []) (8 ∷ []) (1 ∷ 7 ∷ 8 ∷ []) (8 ∷ [])
+    (0 ∷ 1 ∷ 1 ∷ 8 ∷ [])
     (0 ∷ 1 ∷ 1 ∷ 1 ∷ 8 ∷ []))) (0 ∷ 1 ∷ []) (0 ∷ 1 ∷ 0 ∷ 0 ∷ 8 ∷ [])
 unfolding foldCall rejoined foldLent landingsOf landingsAt movedAll barred landsAny handlesAny firstBadTry tryKept joined constantFold foldPass finished renewed sourcesAfter readyOf tablesOf roomsOf tallyOf checkOf rules folds every many each first some remapOf mapped operandOf left compacted placed paired noop markAt marked pairsLeft indexed foldAll folded tryFold applied landed put constLoad planAt planFor kindOf page tryFoldBinop prevLive plan.operandOf blocked lands skipsInto constToVal toVal foldBinop ints inRange findOrPushConst findOrPush
 truth = refl
 
 -- -((2 + 3) * 2): one load is left, of -10
 pub chain : foldCall false
-    (buffers (LoadConst ∷ 2 ∷ 0 ∷ 5 ∷ LoadConst ∷ 2 ∷ 1 ∷ 6 ∷ Add ∷ 0 ∷ 0 ∷ 7 ∷ LoadConst ∷ 2 ∷ 0 ∷ 8 ∷ Mul ∷ 0 ∷ 0 ∷ 9 ∷ Minus ∷ 0 ∷ 0 ∷ 10 ∷ []) (1 ∷ 1 ∷ 9 ∷ 9 ∷ 9 ∷ []) (2 ∷ 3 ∷ 9 ∷ 9 ∷ 9 ∷ []) (replicate 6 9) []
+    (buffers (LoadConst ∷ 2 ∷ 0 ∷ 5 ∷ LoadConst ∷ 2 ∷ 1 ∷ 6 ∷ Add ∷ 0 ∷ 0 ∷ 7 ∷ LoadConst ∷ 2 ∷ 0 ∷ 8 ∷ Mul ∷ 0 ∷ 0 ∷ 9 ∷ Minus ∷ 0 ∷ 0 ∷ 10 ∷ [])
+    (1 ∷ 1 ∷ 9 ∷ 9 ∷ 9 ∷ []) (2 ∷ 3 ∷ 9 ∷ 9 ∷ 9 ∷ []) (replicate 6 9) []
     [] [] (replicate 6 9) (replicate 7 9))
     [] (replicate 7 9)
     (record { constants = 2; map = 0; sources = 0; stmts = 0; calls = 0 })
     ≡ called (outcome (Is (record { instructions = 1; constants = 5; map = 0; sources = 0 }))
-    (buffers (LoadConst ∷ 2 ∷ 4 ∷ 5 ∷ replicate 20 0) (1 ∷ 1 ∷ 1 ∷ 1 ∷ 1 ∷ []) (2 ∷ 3 ∷ 5 ∷ 10 ∷ 18446744073709551606 ∷ []) (replicate 6 0) [] [] [] (0 ∷ replicate 5 1)
+    (buffers (LoadConst ∷ 2 ∷ 4 ∷ 5 ∷ replicate 20 0) (1 ∷ 1 ∷ 1 ∷ 1 ∷ 1 ∷ []) (2 ∷ 3 ∷ 5 ∷ 10 ∷ 18446744073709551606 ∷ []) (replicate 6 0) [] [] []
+    (0 ∷ replicate 5 1)
     (0 ∷ replicate 6 1))) [] (replicate 7 0)
 unfolding foldCall rejoined foldLent landingsOf landingsAt movedAll barred landsAny handlesAny firstBadTry tryKept joined constantFold foldPass finished renewed sourcesAfter readyOf tablesOf roomsOf tallyOf checkOf rules folds every many each first some remapOf mapped operandOf left compacted placed paired noop markAt marked pairsLeft indexed foldAll folded tryFold applied landed put constLoad planAt planFor kindOf page tryFoldBinop tryFoldUnary foldUnary prevLive plan.operandOf blocked lands skipsInto constToVal toVal foldBinop foldNeg ints inRange findOrPushConst findOrPush
 chain = refl
 
 -- the last Phi dies; the pairs of the others stand in the order of the Phis, though phi_map had them the other way round
 pub pairs-crossed : foldCall false
-    (buffers (Phi ∷ 0 ∷ 7 ∷ 5 ∷ Phi ∷ 0 ∷ 8 ∷ 6 ∷ Phi ∷ 0 ∷ 5 ∷ 7 ∷ []) [] [] (1 ∷ 0 ∷ 2 ∷ []) (1 ∷ 2 ∷ 3 ∷ 4 ∷ 5 ∷ 5 ∷ []) [] [] (9 ∷ 9 ∷ 9 ∷ []) (9 ∷ 9 ∷ 9 ∷ 9 ∷ []))
+    (buffers (Phi ∷ 0 ∷ 7 ∷ 5 ∷ Phi ∷ 0 ∷ 8 ∷ 6 ∷ Phi ∷ 0 ∷ 5 ∷ 7 ∷ []) [] [] (1 ∷ 0 ∷ 2 ∷ []) (1 ∷ 2 ∷ 3 ∷ 4 ∷ 5 ∷ 5 ∷ []) [] [] (9 ∷ 9 ∷ 9 ∷ [])
+    (9 ∷ 9 ∷ 9 ∷ 9 ∷ []))
     [] (replicate 4 9)
     (record { constants = 0; map = 3; sources = 6; stmts = 0; calls = 0 })
     ≡ called (outcome (Is (record { instructions = 2; constants = 0; map = 2; sources = 4 }))
-    (buffers (Phi ∷ 0 ∷ 7 ∷ 5 ∷ Phi ∷ 0 ∷ 8 ∷ 6 ∷ 0 ∷ 0 ∷ 0 ∷ 0 ∷ []) [] [] (0 ∷ 1 ∷ 0 ∷ []) (3 ∷ 4 ∷ 1 ∷ 2 ∷ 0 ∷ 0 ∷ []) [] [] (0 ∷ 0 ∷ 1 ∷ []) (0 ∷ 1 ∷ 2 ∷ 2 ∷ []))) [] (replicate 4 0)
+    (buffers (Phi ∷ 0 ∷ 7 ∷ 5 ∷ Phi ∷ 0 ∷ 8 ∷ 6 ∷ 0 ∷ 0 ∷ 0 ∷ 0 ∷ []) [] [] (0 ∷ 1 ∷ 0 ∷ []) (3 ∷ 4 ∷ 1 ∷ 2 ∷ 0 ∷ 0 ∷ []) [] [] (0 ∷ 0 ∷ 1 ∷ [])
+    (0 ∷ 1 ∷ 2 ∷ 2 ∷ []))) [] (replicate 4 0)
 unfolding foldCall rejoined foldLent landingsOf landingsAt movedAll barred landsAny handlesAny firstBadTry tryKept joined constantFold foldPass finished renewed sourcesAfter readyOf tablesOf roomsOf tallyOf checkOf rules folds every many each first some remapOf mapped operandOf left compacted placed paired noop markAt marked pairsLeft indexed foldAll folded tryFold applied landed put constLoad planAt planFor kindOf page tryFoldBinop tryFoldUnary foldUnary prevLive plan.operandOf blocked lands skipsInto constToVal toVal foldBinop foldNeg ints inRange findOrPushConst findOrPush
 pairs-crossed = refl
 

@@ -69,8 +69,10 @@ module _ (t : Tables) where
       let l : length d ≡ length (t .dead) = marked-length (t .code) (mapOf t) (sourcesOf t) (t .dead) in
       let h : k < length (t .dead) = in-list (t .dead) k o in
       let z : getD d k 0 ≡ 0 = eqb-true (getD d k 0) 0 (every-at (alive d) (length d) k e (rw l h)) in
-      let y : getD d k 0 ≡ markAt (t .code) (mapOf t) (sourcesOf t) (t .dead) k = each-at (markAt (t .code) (mapOf t) (sourcesOf t) (t .dead)) (length (t .dead)) k h in
-      let x : getD (t .dead) k 0 ≡ markAt (t .code) (mapOf t) (sourcesOf t) (t .dead) k = dead-stays (t .code) (mapOf t) (sourcesOf t) k (t .dead) (λ q. let b : _≡_ {A = ℕ} 1 0 = sym o ∙ q in omega arith) in
+      let y : getD d k 0 ≡ markAt (t .code) (mapOf t) (sourcesOf t) (t .dead) k = each-at (markAt (t .code) (mapOf t) (sourcesOf t) (t .dead))
+      (length (t .dead)) k h in
+      let x : getD (t .dead) k 0 ≡ markAt (t .code) (mapOf t) (sourcesOf t) (t .dead) k = dead-stays (t .code) (mapOf t) (sourcesOf t) k (t .dead)
+      (λ q. let b : _≡_ {A = ℕ} 1 0 = sym o ∙ q in omega arith) in
       let w : _≡_ {A = ℕ} 1 0 = sym o ∙ x ∙ sym y ∙ z in
       omega arith
 
@@ -83,10 +85,12 @@ module _ (bars : Bars) (b : Buffers) (c : Counts) (h : count (b .code) ≤ lengt
   as-lent e =
       let s = chunk (b .code) (b .dead) (b .kinds) (b .words) (c .constants) in
       let f = foldPass bars s in
-      let t = tables (f .code) (b .map) (b .sources) (b .stmts) (b .calls) (f .dead) (b .remap) (record { instructions = length (b .dead); map = c .map; sources = c .sources }) in
+      let t = tables (f .code) (b .map) (b .sources) (b .stmts) (b .calls) (f .dead) (b .remap)
+      (record { instructions = length (b .dead); map = c .map; sources = c .sources }) in
       let d = marked (t .code) (mapOf t) (sourcesOf t) (t .dead) in
       let p = pass-kept bars s f h refl in
       let z : every (alive d) (length d) ≡ true = rw (finished-dead t) at e in
-      let q : f ≡ chunk (b .code) (replicate (length (b .dead)) 0) (b .kinds) (b .words) (c .constants) = ⊎-elim (λ i. i) (λ i. absurd (none-one t z (i .place) (i .mark))) (p .idle) in
+      let q : f ≡ chunk (b .code) (replicate (length (b .dead)) 0) (b .kinds) (b .words) (c .constants) = ⊎-elim (λ i. i)
+      (λ i. absurd (none-one t z (i .place) (i .mark))) (p .idle) in
       let l : length d ≡ length (b .dead) = marked-length (t .code) (mapOf t) (sourcesOf t) (t .dead) ∙ p .dead-long ∙ length-replicate (length (b .dead)) 0 in
       rw (finished-idle t z, all-zero d (length (b .dead)) l z, q)

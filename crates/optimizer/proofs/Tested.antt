@@ -110,15 +110,18 @@ unmarked-of w n m k o =
     let r : rules (opAt w k) (markAt w k) ≡ true = ruled-of w (omega (arith, m .even)) (m .good) k in
     load-calm (markAt w k) (rw o at r)
 
-module _ (b : Buffers) (tries : List ℕ) (c : Counts) (landings n : ℕ) (v : Checked) (e : v ≡ readyOf (b .code) tries (b .kinds) (b .words) c (lensOf b) landings) (f : v ≡ Count n) where
+module _ (b : Buffers) (tries : List ℕ) (c : Counts) (landings n : ℕ) (v : Checked) (e : v
+    ≡ readyOf (b .code) tries (b .kinds) (b .words) c (lensOf b) landings) (f : v ≡ Count n) where
   pub table-there : count (b .code) + 1 ≤ landings
   unfolding readyOf
-  table-there = room-met n (roomsOf (tablesOf (triedOf (checkOf (b .code)) tries) (count (b .code)) (b .kinds) (b .words) c (lensOf b)) (b .code) c (lensOf b)) 7 landings (count (b .code) + 1) (sym f ∙ e) .1
+  table-there = room-met n (roomsOf (tablesOf (triedOf (checkOf (b .code)) tries) (count (b .code)) (b .kinds) (b .words) c (lensOf b)) (b .code) c (lensOf b))
+      7 landings (count (b .code) + 1) (sym f ∙ e) .1
 
   passed : Held b c × ((j : ℕ) → j < pairs tries → tryKept tries (count (b .code)) j ≡ true)
   unfolding readyOf roomsOf tablesOf
   passed =
-      let r₇ = room-met n (roomsOf (tablesOf (triedOf (checkOf (b .code)) tries) (count (b .code)) (b .kinds) (b .words) c (lensOf b)) (b .code) c (lensOf b)) 7 landings (count (b .code) + 1) (sym f ∙ e) in
+      let r₇ = room-met n (roomsOf (tablesOf (triedOf (checkOf (b .code)) tries) (count (b .code)) (b .kinds) (b .words) c (lensOf b)) (b .code) c (lensOf b))
+      7 landings (count (b .code) + 1) (sym f ∙ e) in
       let r₆ = room-met n _ 6 _ _ (sym (r₇ .0)) in
       let r₅ = room-met n _ 5 _ _ (sym (r₆ .0)) in
       let r₄ = room-met n _ 4 _ _ (sym (r₅ .0)) in
@@ -135,7 +138,8 @@ module _ (b : Buffers) (tries : List ℕ) (c : Counts) (landings n : ℕ) (v : C
       let s = pairs-whole (c .sources) (length (b .sources)) (t₃ .1) in
       let p = pairs-whole (c .stmts) (length (b .stmts)) (t₄ .1) in
       let q = pairs-whole (c .calls) (length (b .calls)) (t₅ .1) in
-      let i = and-true (within (c .constants) (length (b .kinds)) (length (b .words))) (every (constantKept (b .kinds) (b .words)) (c .constants)) (t₁ .1) .0 in (
+      let i = and-true (within (c .constants) (length (b .kinds)) (length (b .words))) (every (constantKept (b .kinds) (b .words)) (c .constants))
+      (t₁ .1) .0 in (
         record {
           whole = whole-of (b .code) (k .even);
           few = k .few;

@@ -86,7 +86,8 @@ module _ (t : Tables) where
       m : Tables
       m = tables (t .code) (t .map) (t .sources) (t .stmts) (t .calls) d (t .remap) (t .left)
 
-      go : (u : Bool) → every (alive d) (length d) ≡ u → cond u m (renewed m) .left .instructions ≡ live (cond u m (renewed m) .dead) (length (cond u m (renewed m) .dead))
+      go : (u : Bool) → every (alive d) (length d) ≡ u → cond u m (renewed m) .left .instructions
+          ≡ live (cond u m (renewed m) .dead) (length (cond u m (renewed m) .dead))
       go true q = e ∙ sym (marked-length (t .code) (mapOf t) (sourcesOf t) (t .dead)) ∙ sym (many-all (alive d) (length d) q)
       go false q = refl
 
@@ -116,7 +117,8 @@ module _ (bars : Bars) (b : Buffers) (c : Counts) (x : Exact b c) where
   fold-long =
       let s = chunk (b .code) (b .dead) (b .kinds) (b .words) (c .constants) in
       let f = foldPass bars s in
-      let t = tables (f .code) (b .map) (b .sources) (b .stmts) (b .calls) (f .dead) (b .remap) (record { instructions = length (b .dead); map = c .map; sources = c .sources }) in
+      let t = tables (f .code) (b .map) (b .sources) (b .stmts) (b .calls) (f .dead) (b .remap)
+      (record { instructions = length (b .dead); map = c .map; sources = c .sources }) in
       ap length (finished-dead t) ∙ marked-length (t .code) (mapOf t) (sourcesOf t) (t .dead) ∙ pass-kept bars s f (omega (arith, x .whole)) refl .dead-long
       ∙ length-replicate (length (b .dead)) 0
 
@@ -126,7 +128,8 @@ module _ (bars : Bars) (b : Buffers) (c : Counts) (x : Exact b c) where
       let s = chunk (b .code) (b .dead) (b .kinds) (b .words) (c .constants) in
       finished-left _ (sym (pass-kept bars s (foldPass bars s) (omega (arith, x .whole)) refl .dead-long ∙ length-replicate (length (b .dead)) 0))
 
-  fold-past : (tries : List ℕ) (k : ℕ) → live marks (length marks) < k → k ≤ length marks → landingsAt (constantFold bars b c .after .code) (movedAll marks tries) k ≡ 0
+  fold-past : (tries : List ℕ) (k : ℕ) → live marks (length marks) < k → k ≤ length marks
+      → landingsAt (constantFold bars b c .after .code) (movedAll marks tries) k ≡ 0
   unfolding constantFold
   fold-past tries k = finished-past _ tries k
 

@@ -55,7 +55,8 @@ pass-kept bars s t h e =
     let l : length {A = ℕ} (replicate (length (s .dead)) 0) ≡ length (s .dead) = length-replicate (length (s .dead)) 0 in
     rw e (all-passed bars (chunk (s .code) (replicate (length (s .dead)) 0) (s .kinds) (s .words) (s .constants)) (rw l h))
 
-pub lent-cleared : (code dead kinds words marks : List ℕ) (k : ℕ) → Lent (chunk code dead kinds words k) → marks ≡ replicate (length dead) 0 → Lent (chunk code marks kinds words k)
+pub lent-cleared : (code dead kinds words marks : List ℕ) (k : ℕ) → Lent (chunk code dead kinds words k) → marks ≡ replicate (length dead) 0
+    → Lent (chunk code marks kinds words k)
 lent-cleared code dead kinds words marks k x e =
     let l : length marks ≡ length dead = ap length e ∙ length-replicate (length dead) 0 in
     record { few = x .few; marks = rw l (x .marks); kinds-room = x .kinds-room; words-room = x .words-room }
@@ -106,7 +107,8 @@ module _ (code kinds words map sources stmts calls dead remap : List ℕ) (c : C
 
   -- each buffer as far as it is needed
   pub exact-of : (r : ℕ) → r ≡ sourceRoom (c .sources) (tallyOf code .phis) → Held (buffers code kinds words map sources stmts calls dead remap) c
-      → Exact (buffers code kinds words (take (count code) map) (take r sources) (take (c .stmts) stmts) (take (c .calls) calls) (take (count code) dead) (take (count code + 1) remap)) c
+      → Exact (buffers code kinds words (take (count code) map) (take r sources) (take (c .stmts) stmts) (take (c .calls) calls) (take (count code) dead)
+      (take (count code + 1) remap)) c
   unfolding tallyOf
   exact-of r e h =
       let n = count code in
@@ -142,28 +144,34 @@ module _ (code kinds words map sources stmts calls dead remap : List ℕ) (c : C
     pub lends : (l₁ : List ℕ) (a : Folded) (code′ kinds′ words′ map′ sources′ stmts′ calls′ dead′ remap′ tries′ l₂ : List ℕ)
         → Exact (buffers code kinds words map sources stmts calls dead remap) c
         → l₁ ≡ landingsOf code tries
-        → outcome a (buffers code′ kinds′ words′ map′ sources′ stmts′ calls′ dead′ remap′) ≡ constantFold (byTable strict l₁) (buffers code kinds words map sources stmts calls dead remap) c
+        → outcome a (buffers code′ kinds′ words′ map′ sources′ stmts′ calls′ dead′ remap′)
+        ≡ constantFold (byTable strict l₁) (buffers code kinds words map sources stmts calls dead remap) c
         → tries′ ≡ movedAll dead′ tries
         → l₂ ≡ landingsOf code′ tries′
         → settled (outcome a (buffers code′ kinds′ words′ map′ sources′ stmts′ calls′ dead′ remap′)) tries′ l₂
         ≡ foldLent strict tries (buffers code kinds words map sources stmts calls dead remap) c
     unfolding foldLent
     lends l₁ a code′ kinds′ words′ map′ sources′ stmts′ calls′ dead′ remap′ tries′ l₂ x e f g h =
-        let z : outcome a (buffers code′ kinds′ words′ map′ sources′ stmts′ calls′ dead′ remap′) ≡ constantFold (byScan strict tries) (buffers code kinds words map sources stmts calls dead remap) c =
+        let z : outcome a (buffers code′ kinds′ words′ map′ sources′ stmts′ calls′ dead′ remap′)
+        ≡ constantFold (byScan strict tries) (buffers code kinds words map sources stmts calls dead remap) c =
         f ∙ ap (λ (l : List ℕ). constantFold (byTable strict l) (buffers code kinds words map sources stmts calls dead remap) c) e ∙ by-scan (x .unmarked) in
         rw (← z, h, g) refl
 
-  pub joins : (strict : Bool) (tries landings : List ℕ) (r : ℕ) (a : Folded) (code′ kinds′ words′ map′ sources′ stmts′ calls′ dead′ remap′ tries′ landings′ : List ℕ)
+  pub joins : (strict : Bool) (tries landings : List ℕ) (r : ℕ) (a : Folded) (code′ kinds′ words′ map′ sources′ stmts′ calls′ dead′ remap′ tries′
+      landings′ : List ℕ)
       → r ≡ sourceRoom (c .sources) (tallyOf code .phis)
       → settled (outcome a (buffers code′ kinds′ words′ map′ sources′ stmts′ calls′ dead′ remap′)) tries′ landings′
       ≡ foldLent strict tries
-      (buffers code kinds words (take (count code) map) (take r sources) (take (c .stmts) stmts) (take (c .calls) calls) (take (count code) dead) (take (count code + 1) remap)) c
+      (buffers code kinds words (take (count code) map) (take r sources) (take (c .stmts) stmts) (take (c .calls) calls) (take (count code) dead)
+      (take (count code + 1) remap)) c
       → called
       (outcome (Is a)
-      (buffers code′ kinds′ words′ (map′ ++ drop (count code) map) (sources′ ++ drop r sources) (stmts′ ++ drop (c .stmts) stmts) (calls′ ++ drop (c .calls) calls)
+      (buffers code′ kinds′ words′ (map′ ++ drop (count code) map) (sources′ ++ drop r sources) (stmts′ ++ drop (c .stmts) stmts)
+      (calls′ ++ drop (c .calls) calls)
       (dead′ ++ drop (count code) dead) (remap′ ++ drop (count code + 1) remap)))
       tries′ (landings′ ++ drop (count code + 1) landings)
-      ≡ rejoined (buffers code kinds words map sources stmts calls dead remap) landings c (foldLent strict tries (needed (buffers code kinds words map sources stmts calls dead remap) c) c)
+      ≡ rejoined (buffers code kinds words map sources stmts calls dead remap) landings c
+      (foldLent strict tries (needed (buffers code kinds words map sources stmts calls dead remap) c) c)
   unfolding rejoined joined
   joins strict tries landings r a code′ kinds′ words′ map′ sources′ stmts′ calls′ dead′ remap′ tries′ landings′ e f = rw (← e, ← f)
 
@@ -194,7 +202,8 @@ module _ (dead : List ℕ) (t : Bool) (e : t ≡ every (alive dead) (length dead
   tries-stay tries f = none-moved dead tries (sym e ∙ f)
 
 -- the call: a refusal leaves all that is lent as it is
-module _ (strict : Bool) (b : Buffers) (tries landings : List ℕ) (c : Counts) (v : Checked) (e : v ≡ readyOf (b .code) tries (b .kinds) (b .words) c (lensOf b) (length landings)) where
+module _ (strict : Bool) (b : Buffers) (tries landings : List ℕ) (c : Counts) (v : Checked)
+    (e : v ≡ readyOf (b .code) tries (b .kinds) (b .words) c (lensOf b) (length landings)) where
   pub refused-by : (r : Refusal) → v ≡ Refused r → called (outcome (No r) b) tries landings ≡ foldCall strict b tries landings c
   unfolding foldCall
   refused-by r h =

@@ -60,7 +60,8 @@ sourcesNeeded b c = sourceRoom (c .sources) (tallyOf (b .code) .phis)
 -- the buffers, each as far as it is needed; the constants are whole
 abbrev pub needed : Buffers → Counts → Buffers
 needed b c =
-    buffers (b .code) (b .kinds) (b .words) (take (count (b .code)) (b .map)) (take (sourcesNeeded b c) (b .sources)) (take (c .stmts) (b .stmts)) (take (c .calls) (b .calls))
+    buffers (b .code) (b .kinds) (b .words) (take (count (b .code)) (b .map)) (take (sourcesNeeded b c) (b .sources)) (take (c .stmts) (b .stmts))
+    (take (c .calls) (b .calls))
     (take (count (b .code)) (b .dead)) (take (count (b .code) + 1) (b .remap))
 
 -- an answer's counts with what the buffers hold
@@ -82,7 +83,8 @@ constantFold bars b c =
     let f = foldPass bars (chunk (b .code) (b .dead) (b .kinds) (b .words) (c .constants)) in
     let t =
     finished
-    (tables (f .code) (b .map) (b .sources) (b .stmts) (b .calls) (f .dead) (b .remap) (record { instructions = length (b .dead); map = c .map; sources = c .sources }))
+    (tables (f .code) (b .map) (b .sources) (b .stmts) (b .calls) (f .dead) (b .remap)
+    (record { instructions = length (b .dead); map = c .map; sources = c .sources }))
     in
     outcome
     (record { instructions = t .left .instructions; constants = f .constants; map = t .left .map; sources = t .left .sources })

@@ -40,7 +40,9 @@ fn fold_pass(
     strict: bool,
 ) -> usize
     requires { ⌜ Lent (chunk (now code) (now dead) (now kinds) (now words) constants) × (count (now code) ≤ length (now landings)) ⌝ }
-    ensures { λ r. ⌜ chunk (now (code .exit)) (now (dead .exit)) (now (kinds .exit)) (now (words .exit)) r ≡ foldPass (byTable strict (now (landings .entry))) (chunk (now (code .entry)) (now (dead .entry)) (now (kinds .entry)) (now (words .entry)) constants) ⌝ }
+    ensures { λ r. ⌜ chunk (now (code .exit)) (now (dead .exit)) (now (kinds .exit)) (now (words .exit)) r
+        ≡ foldPass (byTable strict (now (landings .entry))) (chunk (now (code .entry)) (now (dead .entry)) (now (kinds .entry)) (now (words .entry))
+        constants) ⌝ }
 {
     clear_marks(dead);
     pass::fold_all(code, dead, kinds, words, constants, landings, strict)
@@ -74,8 +76,12 @@ pub fn constant_fold(
     counts: Counts,
     strict: bool,
 ) -> Folded
-    requires { ⌜ Exact (buffers (now code) (now kinds) (now words) (now «phi_map») (now «phi_sources») (now «stmt_pos») (now «call_byte_pos») (now dead) (now remap)) counts × (length (now landings) ≡ count (now code) + 1) ⌝ }
-    ensures { λ r. ⌜ settled (outcome r (buffers (now (code .exit)) (now (kinds .exit)) (now (words .exit)) (now («phi_map» .exit)) (now («phi_sources» .exit)) (now («stmt_pos» .exit)) (now («call_byte_pos» .exit)) (now (dead .exit)) (now (remap .exit)))) (now (tries .exit)) (now (landings .exit)) ≡ foldLent strict (now (tries .entry)) (buffers (now (code .entry)) (now (kinds .entry)) (now (words .entry)) (now («phi_map» .entry)) (now («phi_sources» .entry)) (now («stmt_pos» .entry)) (now («call_byte_pos» .entry)) (now (dead .entry)) (now (remap .entry))) counts ⌝ }
+    requires { ⌜ Exact (buffers (now code) (now kinds) (now words) (now «phi_map») (now «phi_sources») (now «stmt_pos») (now «call_byte_pos») (now dead)
+        (now remap)) counts × (length (now landings) ≡ count (now code) + 1) ⌝ }
+    ensures { λ r. ⌜ settled (outcome r (buffers (now (code .exit)) (now (kinds .exit)) (now (words .exit)) (now («phi_map» .exit)) (now («phi_sources» .exit))
+        (now («stmt_pos» .exit)) (now («call_byte_pos» .exit)) (now (dead .exit)) (now (remap .exit)))) (now (tries .exit)) (now (landings .exit))
+        ≡ foldLent strict (now (tries .entry)) (buffers (now (code .entry)) (now (kinds .entry)) (now (words .entry)) (now («phi_map» .entry))
+        (now («phi_sources» .entry)) (now («stmt_pos» .entry)) (now («call_byte_pos» .entry)) (now (dead .entry)) (now (remap .entry))) counts ⌝ }
 {
     landings::fill(code, tries, landings);
     let left = Left {

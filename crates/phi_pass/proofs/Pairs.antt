@@ -76,7 +76,8 @@ module _ (w map sources : List ℕ) (i : ℕ) where
 
 -- a pair read through phi_map, r
 module _ (map sources : List ℕ) (i r : ℕ) (e : r ≡ getD map i 0) where
-  pub pair-tested : (o : ℕ) → eqb (getD sources (2 * r) 0) o && eqb (getD sources (2 * r + 1) 0) o ≡ eqb (firstOf map sources i) o && eqb (secondOf map sources i) o
+  pub pair-tested : (o : ℕ) → eqb (getD sources (2 * r) 0) o && eqb (getD sources (2 * r + 1) 0) o
+      ≡ eqb (firstOf map sources i) o && eqb (secondOf map sources i) o
   pair-tested o = rw e
 
   module _ (a b : ℕ) (f : a ≡ getD sources (2 * r) 0) (g : b ≡ getD sources (2 * r + 1) 0) (h : b < 65536) where
@@ -139,7 +140,8 @@ marks-stay w map sources old e (suc i) l =
     rw (same, add-one i) at m
 
 pub none-marked : (w map sources old : List ℕ) → length map ≡ 0 → old ≡ marked w map sources old
-none-marked w map sources old e = marked-whole (marks-stay w map sources old e (length old) (le-refl (length old))) (le-refl (length old)) (le-refl (length old))
+none-marked w map sources old e = marked-whole (marks-stay w map sources old e (length old) (le-refl (length old))) (le-refl (length old))
+    (le-refl (length old))
 
 -- ---- the surviving pairs
 
@@ -182,7 +184,8 @@ module _ {w map sources dead queue : List ℕ} {to i : ℕ} (g : Gathered w map 
       record { pairs = g .pairs ∙ sym (pair-off w map sources dead i z (sym e ∙ h)); few = omega (arith, g .few, many-more (isPhi w) i) }
 
   pub gathered-put : (t : Bool) (v m : ℕ) → getD dead i 0 ≡ 0 → t ≡ paired w map sources i → t ≡ true → v / 65536 ≡ firstOf map sources i
-      → v % 65536 ≡ secondOf map sources i → length queue ≡ m → length dead ≤ m → to ≤ i → i < length dead → Gathered w map sources dead (set queue to v) (to + 1) (i + 1)
+      → v % 65536 ≡ secondOf map sources i → length queue ≡ m → length dead ≤ m → to ≤ i → i < length dead
+      → Gathered w map sources dead (set queue to v) (to + 1) (i + 1)
   gathered-put t v m z e h a b p o x y =
       let l : to < length queue = omega arith in
       let f : many (isPhi w) (i + 1) ≡ many (isPhi w) i + 1 = many-more (isPhi w) i ∙ rw (a-phi w map sources i t e h) in
@@ -231,7 +234,8 @@ module _ {queue xs old : List ℕ} {j : ℕ} (s : Spread queue xs old j) where
   spread-on a b m e f h l o =
       let w = s .walked in
       let two = walk-two w a b (omega arith) in
-      let done : spread (take j queue) ++ (a ∷ b ∷ []) ≡ spread (take (j + 1) queue) = rw (e, f, add-one j, take-suc queue j 0 (omega arith)) (sym (spread-more (take j queue) (getD queue j 0))) in
+      let done : spread (take j queue) ++ (a ∷ b ∷ []) ≡ spread (take (j + 1) queue) = rw (e, f, add-one j, take-suc queue j 0 (omega arith))
+      (sym (spread-more (take j queue) (getD queue j 0))) in
       record { walked = walk-at (walk-as two (spread (take (j + 1) queue)) done) (2 * (j + 1)) (2 * (j + 1)) (omega arith) (omega arith) }
 
   pub spread-same : length xs ≡ length old

@@ -34,7 +34,8 @@ fn has_pair(code: &[u16], map: &[u32], sources: &[u16], i: usize) -> bool
 // Whether the sources of the Phi at i both equal its operand.
 fn both_are(map: &[u32], sources: &[u16], i: usize, operand: u16) -> bool
     requires { ⌜ (i < length (now map)) × (getD (now map) i 0 < length (now sources) / 2) ⌝ }
-    ensures { λ r. ⌜ r ≡ eqb (firstOf (now (map .entry)) (now (sources .entry)) i) operand && eqb (secondOf (now (map .entry)) (now (sources .entry)) i) operand ⌝ }
+    ensures { λ r. ⌜ r ≡ eqb (firstOf (now (map .entry)) (now (sources .entry)) i) operand && eqb
+        (secondOf (now (map .entry)) (now (sources .entry)) i) operand ⌝ }
 {
     let at = 2 * wide_of(map[i]);
     (sources[at] == operand) & (sources[at + 1] == operand)
@@ -129,7 +130,8 @@ fn pack(map: &[u32], sources: &[u16], i: usize) -> u32
 // Packs the surviving pairs into a queue: phi_sources can't be compacted in place. Answers how many there are.
 pub fn gather(code: &[u16], dead: &[u8], map: &[u32], sources: &[u16], queue: &mut [u32]) -> usize
     requires { ⌜ (length (now dead) ≡ count (now code)) × (length (now dead) ≤ length (now queue)) ⌝ }
-    ensures { λ r. ⌜ (spread (take r (now (queue .exit))) ≡ pairsLeft (now (code .entry)) (now (map .entry)) (now (sources .entry)) (now (dead .entry))) × (r ≤ many (isPhi (now (code .entry))) (length (now (dead .entry)))) × (r ≤ length (now (queue .exit))) ⌝ }
+    ensures { λ r. ⌜ (spread (take r (now (queue .exit))) ≡ pairsLeft (now (code .entry)) (now (map .entry)) (now (sources .entry)) (now (dead .entry)))
+        × (r ≤ many (isPhi (now (code .entry))) (length (now (dead .entry)))) × (r ≤ length (now (queue .exit))) ⌝ }
 {
     if map.len() == 0 {
         return 0;

@@ -27,7 +27,11 @@ module _ (dead : List ℕ) where
 
   pub remap-of : (map : List ℕ) → map ≡ remapOf dead → Remap dead map
   unfolding remapOf
-  remap-of map e = record { whole = e; long = rw e (each-word (live dead) (length dead + 1)); at = λ i h. rw e (each-at (live dead) (length dead + 1) i (omega arith)) }
+  remap-of map e = record {
+    whole = e;
+    long = rw e (each-word (live dead) (length dead + 1));
+    at = λ i h. rw e (each-at (live dead) (length dead + 1) i (omega arith));
+  }
 
   module _ (map : List ℕ) (r : Remap dead map) (v : ℕ) where
     pub moved-in : v ≤ length dead → getD map v 0 ≡ mapped dead v
@@ -52,7 +56,10 @@ counted-none dead old = record { walked = walk-none old; counts = refl }
 
 module _ {dead xs old : List ℕ} {at i : ℕ} (c : Counted dead xs old at i) where
   pub counted-more : (r : ℕ) → r ≡ boolByte (alive dead i) → i < length dead → length old ≡ length dead + 1 → Counted dead (set xs i at) old (at + r) (i + 1)
-  counted-more r e h l = record { walked = word-put (live dead) (c .walked) (omega arith) at (c .counts); counts = counted-on (alive dead) i at r (alive dead i) (c .counts) e refl }
+  counted-more r e h l = record {
+    walked = word-put (live dead) (c .walked) (omega arith) at (c .counts);
+    counts = counted-on (alive dead) i at r (alive dead i) (c .counts) e refl;
+  }
 
   pub counted-same : length xs ≡ length old
   counted-same = c .walked .same
@@ -65,7 +72,8 @@ module _ {dead xs old : List ℕ} {at i : ℕ} (c : Counted dead xs old at i) wh
   unfolding remapOf
   counted-whole h l n =
       let q : i ≡ length dead = omega arith in
-      let done : set xs i at ≡ each (λ k. live dead k ∷ []) (i + 1) = walk-whole (word-put (live dead) (c .walked) (omega arith) at (c .counts)) (omega arith) in
+      let done : set xs i at ≡ each (λ k. live dead k ∷ []) (i + 1) = walk-whole (word-put (live dead) (c .walked) (omega arith) at (c .counts))
+      (omega arith) in
       rw q at done
 
 -- ---- what is cleared from a on, as far as i
@@ -124,7 +132,8 @@ module _ {dead xs old : List ℕ} {k : ℕ} (p : Placed dead xs old k) where
       let a : v ≡ mapped dead (getD old (2 * k) 0) = e ∙ ap (mapped dead) (walk-read w (2 * k) (omega arith)) in
       let b : getD ys (2 * k + 1) 0 ≡ getD old (2 * k + 1) 0 = walk-read one (2 * k + 1) (omega arith) in
       let l = each (pairAt dead old) k in
-      let done : (l ++ (v ∷ [])) ++ (getD ys (2 * k + 1) 0 ∷ []) ≡ each (pairAt dead old) (k + 1) = append-two l v (getD ys (2 * k + 1) 0) ∙ rw (b, a) (sym (each-more (pairAt dead old) k)) in
+      let done : (l ++ (v ∷ [])) ++ (getD ys (2 * k + 1) 0 ∷ []) ≡ each (pairAt dead old) (k + 1) = append-two l v (getD ys (2 * k + 1) 0)
+      ∙ rw (b, a) (sym (each-more (pairAt dead old) k)) in
       record { walked = walk-at (walk-as two (each (pairAt dead old) (k + 1)) done) (2 * (k + 1)) (2 * (k + 1)) (omega arith) (omega arith) }
 
   pub placed-same : length xs ≡ length old
@@ -146,7 +155,10 @@ moving-none dead old = record { walked = walk-none old }
 module _ {dead xs old : List ℕ} {k : ℕ} (p : Moving dead xs old k) where
   pub moving-more : (v : ℕ) → v ≡ mapped dead (getD xs k 0) → k < length xs → Moving dead (set xs k v) old (k + 1)
   moving-more v e h =
-      record { walked = word-put (λ j. mapped dead (getD old j 0)) (p .walked) (omega (arith, p .walked .same)) v (e ∙ ap (mapped dead) (walk-read (p .walked) k (le-refl k))) }
+      record {
+        walked = word-put (λ j. mapped dead (getD old j 0)) (p .walked) (omega (arith, p .walked .same)) v
+            (e ∙ ap (mapped dead) (walk-read (p .walked) k (le-refl k)));
+      }
 
   pub moving-same : length xs ≡ length old
   moving-same = p .walked .same

@@ -19,13 +19,13 @@ use Rattle.lent.specs.Chunk.{stride, count, opAt, markAt, operandAt, jumps, nam
 use Rattle.fold.specs.Plan.{Chunk}
 use Rattle.positions.specs.Remap.{alive, live, remapOf, mapped}
 use Rattle.compact.specs.Tables.{operandOf, wordsOf, leftAt, left, compacted}
+use Rattle.compact.proofs.Left.{left-long}
 use Rattle.positions.specs.Moved.{placed}
 use Rattle.phi_pass.specs.Phi.{paired, noop, markAt as phiMark, marked, pairLeft, pairsLeft, indexed}
 use Rattle.lent.proofs.Counting.{many-ext}
 use Rattle.clear.proofs.Alike.{Loads, Alike}
 use Rattle.finish.specs.Finish.{Tables, tables, sourcesAfter, renewed, finished}
 use Rattle.finish.specs.declared.Left.{Left}
-use Rattle.refold.proofs.Settled.{packed-long}
 
 abbrev nameMark : ℕ → Bool
 nameMark x = eqb (x / 2 % 2) 1
@@ -176,8 +176,8 @@ module _ {limit : ℕ} {s t : Chunk} (a : Alike limit s t) where
     unfolding each
     some-like zero = λ i. like-past limit s t [] [] i (omega arith) (omega arith)
     some-like (suc k) =
-        append-like limit s t (each (leftAt dead w) k) (each (leftAt dead v) k) (leftAt dead w k) (leftAt dead v k) (live dead k) (packed-long dead w k)
-        (packed-long dead v k) (some-like k)
+        append-like limit s t (each (leftAt dead w) k) (each (leftAt dead v) k) (leftAt dead w k) (leftAt dead v k) (live dead k) (left-long dead w k)
+        (left-long dead v k) (some-like k)
         (one-like k (alive dead k))
 
     compacted-like : Like limit s t (compacted dead w) (compacted dead v)
@@ -185,7 +185,7 @@ module _ {limit : ℕ} {s t : Chunk} (a : Alike limit s t) where
     compacted-like =
         append-like limit s t (left dead w) (left dead v) (replicate (length w - length (left dead w)) 0) (replicate (length v - length (left dead v)) 0)
         (live dead (length dead))
-        (packed-long dead w (length dead)) (packed-long dead v (length dead)) (some-like (length dead))
+        (left-long dead w (length dead)) (left-long dead v (length dead)) (some-like (length dead))
         (zeros-like limit s t (length w - length (left dead w)) (length v - length (left dead v)))
 
     compacted-long : length (compacted dead w) ≡ length (compacted dead v)
@@ -198,8 +198,8 @@ module _ {limit : ℕ} {s t : Chunk} (a : Alike limit s t) where
           arith,
           length-replicate {A = ℕ} (length w - length l) 0,
           length-replicate {A = ℕ} (length v - length r) 0,
-          packed-long dead w (length dead),
-          packed-long dead v (length dead),
+          left-long dead w (length dead),
+          left-long dead v (length dead),
           a .long,
         )
         ∙ sym (length-append r (replicate (length v - length r) 0))

@@ -28,6 +28,7 @@ use Rattle.lent.specs.Check.{uneven, firstBad, checkOf, tablesOf, tallyOf, cons
 use Rattle.lent.proofs.Kept.{kinds-there, words-there}
 use Rattle.lent.specs.declared.Counts.{Counts}
 use Rattle.lent.specs.declared.Lens.{Lens}
+use Rattle.lent.proofs.Counting.{every-at}
 use Rattle.fold.specs.Plan.{Chunk, chunk}
 use Rattle.landings.specs.Landings.{landingsOf}
 use Rattle.landings.proofs.Asked.{table-long}
@@ -47,7 +48,8 @@ use Rattle.optimizer.proofs.Idle.{as-lent}
 use Rattle.optimizer.proofs.Tested.{held-of, table-there}
 use Rattle.optimizer.proofs.Tries.{tries-kept}
 use Rattle.clear.proofs.Accepts.{table-on, room-on, room-met}
-use Rattle.refold.proofs.Pushes.{all-pushed, all-held as pool-few, pool-again, every-at, every-of}
+use Rattle.clear.proofs.Twice.{every-of}
+use Rattle.refold.proofs.Pushes.{all-pushed, all-held as pool-few, pool-again}
 use Rattle.refold.proofs.Prefix.{prefix}
 use Rattle.refold.proofs.Spent.{waiting, all-spent}
 use Rattle.refold.proofs.Settled.{Settled, settled}

@@ -17,6 +17,8 @@ use Rattle.code.specs.Op.{LoadConst, LoadTrue, LoadFalse}
 use Rattle.lent.specs.Tables.{constantKept, within, constantsKept}
 use Rattle.lent.specs.Check.{constantRoom}
 use Rattle.lent.specs.Chunk.{count, opAt, folds}
+use Rattle.lent.proofs.Counting.{every-at}
+use Rattle.clear.proofs.Twice.{every-of}
 use Rattle.laws.specs.All.{every, many}
 use Rattle.laws.proofs.Branch.{and-true}
 use borrow.Author.Tests.{le-leb}
@@ -168,21 +170,6 @@ module _ (bars : Bars) (s : Chunk) where
 
 -- ---- and its table rule holds again
 
-pub every-at : (f : ℕ → Bool) (n k : ℕ) → every f n ≡ true → k < n → f k ≡ true
-unfolding every
-every-at f zero k e h = absurd (omega arith)
-every-at f (suc n) k e h =
-    let p = and-true (every f n) (f n) e in
-    ⊎-elim (λ q. rw q (p .1)) (λ q. every-at f n k (p .0) q) (eq-or-lt-of-le (to-le k n h))
-  where
-    to-le : (k n : ℕ) → k < suc n → k ≤ n
-    to-le k n h = omega arith
-
-pub every-of : (f : ℕ → Bool) (n : ℕ) → ((k : ℕ) → k < n → f k ≡ true) → every f n ≡ true
-unfolding every
-every-of f zero h = refl
-every-of f (suc n) h = rw (every-of f n (λ k l. h k (omega arith)), h n (omega arith))
-
 module _ (bars : Bars) (s : Chunk) where
   folded-next : (k : ℕ) → folded bars (suc k) s ≡ tryFold (bars (folded bars k s .code) k) k (folded bars k s)
   unfolding folded
@@ -197,7 +184,8 @@ module _ (bars : Bars) (s : Chunk) where
   held-at x (suc k) h =
       let g = held-at x k (omega arith) in
       let l = try-pushed (bars (folded bars k s .code) k) k (folded bars k s) in
-      let z = held-more g refl h x (tryFold (bars (folded bars k s .code) k) k (folded bars k s)) refl (l .code-long) (l .dead-long) (l .kinds-long) (l .words-long) in
+      let z = held-more g refl h x (tryFold (bars (folded bars k s .code) k) k (folded bars k s)) refl (l .code-long) (l .dead-long) (l .kinds-long)
+      (l .words-long) in
       rw (folded-next k) (rw (add-one k) at z)
 
   pub all-held : Lent s → foldAll bars s .constants ≤ constantRoom (s .constants) (many (λ k. folds (opAt (s .code) k)) (count (s .code)))

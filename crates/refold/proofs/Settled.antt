@@ -5,7 +5,7 @@ use native.Mathlib.Nat.{eq-or-lt-of-le}
 use native.Mathlib.Omega.{arith}
 use mathlib.Core.Path.{_≡_, refl, sym, ap, _∙_}
 use mathlib.Core.Logic.{_⊎_, inl, inr, ⊎-elim}
-use mathlib.Core.Bool.{Bool, true, false, cond, _&&_, false≢true}
+use mathlib.Core.Bool.{Bool, true, false, cond, _&&_, false≢true, and-true as and-yes, and-false}
 use mathlib.Core.List.{List, [], _∷_, _++_}
 use lib.Dec.{eqb, ltb}
 use lib.ListN.{length, getD, take, replicate, length-append, length-replicate, List·getD-append, List·getD-eq-default}
@@ -21,12 +21,12 @@ use Rattle.code.specs.Op.{Phi}
 use Rattle.lent.specs.Chunk.{stride, count, opAt, folds, isPhi}
 use Rattle.positions.specs.Remap.{alive, live, remapOf}
 use Rattle.compact.specs.Tables.{wordsOf, leftAt, left, compacted}
+use Rattle.compact.proofs.Left.{left-long}
 use Rattle.positions.specs.Moved.{pairAt, placed}
 use Rattle.phi_pass.specs.Phi.{paired, firstOf, secondOf, markAt as phiMark, marked, pairLeft, pairsLeft, indexed}
 use Rattle.phi_pass.proofs.Pairs.{marked-length, dead-stays}
-use Rattle.lent.proofs.Counting.{many-ext}
+use Rattle.lent.proofs.Counting.{many-ext, every-at}
 use Rattle.finish.specs.Finish.{Tables, tables, sourcesAfter, mapCount, mapOf, sourcesOf, renewed, finished, Fit}
-use Rattle.refold.proofs.Pushes.{every-at}
 use Rattle.refold.proofs.Spent.{waiting}
 
 -- ---- how many of the live instructions pass a test of their opcode
@@ -35,26 +35,9 @@ module _ (dead w : List ℕ) where
   abbrev packed : ℕ → List ℕ
   packed k = each (leftAt dead w) k
 
-  one-long : (k : ℕ) (t : Bool) → length (cond t (wordsOf dead w k) []) ≡ stride * boolByte t
-  one-long k true = refl
-  one-long k false = refl
-
-  pub packed-long : (k : ℕ) → length (packed k) ≡ stride * live dead k
-  unfolding each many
-  packed-long zero = refl
-  packed-long (suc k) = length-append (packed k) (leftAt dead w k) ∙ omega (arith, packed-long k, one-long k (alive dead k))
-
 module _ (g : ℕ → Bool) (dead w : List ℕ) where
   abbrev lived : ℕ → Bool
   lived j = g (opAt w j) && alive dead j
-
-  and-yes : (b : Bool) → b && true ≡ b
-  and-yes true = refl
-  and-yes false = refl
-
-  and-no : (b : Bool) → b && false ≡ false
-  and-no true = refl
-  and-no false = refl
 
   pub packed-many : (k : ℕ) → many (λ i. g (opAt (packed dead w k) i)) (live dead k) ≡ many lived k
   unfolding each many
@@ -68,14 +51,14 @@ module _ (g : ℕ → Bool) (dead w : List ℕ) where
       r = many (alive dead) k
 
       before : (rest : List ℕ) (i : ℕ) → i < r → g (opAt (p ++ rest) i) ≡ g (opAt p i)
-      before rest i h = ap g (List·getD-append p rest 0 (stride * i) (omega (arith, packed-long dead w k)))
+      before rest i h = ap g (List·getD-append p rest 0 (stride * i) (omega (arith, left-long dead w k)))
 
       same : (rest : List ℕ) → many (λ i. g (opAt p i)) r ≡ many lived k → many (λ i. g (opAt (p ++ rest) i)) r ≡ many lived k
       same rest ih = many-ext (λ i. g (opAt (p ++ rest) i)) (λ i. g (opAt p i)) r (before rest) ∙ ih
 
       at : opAt (p ++ wordsOf dead w k) r ≡ opAt w k
       at =
-          let e : stride * r ≡ length p + 0 = omega (arith, packed-long dead w k) in
+          let e : stride * r ≡ length p + 0 = omega (arith, left-long dead w k) in
           ap (λ (i : ℕ). getD (p ++ wordsOf dead w k) i 0) e ∙ getD-append-add p (wordsOf dead w k) 0 0
 
       go : (t : Bool) → many (λ i. g (opAt p i)) r ≡ many lived k
@@ -83,7 +66,7 @@ module _ (g : ℕ → Bool) (dead w : List ℕ) where
           (g (opAt w k) && t)
       go false ih =
           let z : r + 0 ≡ r = omega arith in
-          ap (many (λ i. g (opAt (p ++ []) i))) z ∙ same [] ih ∙ rw (and-no (g (opAt w k))) (omega arith)
+          ap (many (λ i. g (opAt (p ++ []) i))) z ∙ same [] ih ∙ rw (and-false (g (opAt w k))) (omega arith)
       go true ih =
           let rest = wordsOf dead w k in
           many-more (λ i. g (opAt (p ++ rest) i)) r ∙ rw (same rest ih, at, and-yes (g (opAt w k)))
@@ -217,7 +200,7 @@ module _ (t : Tables) (fit : Fit t) (all : t .left .instructions ≡ length (t .
 
   left-length : length (left d (t .code)) ≡ stride * live d (length d)
   unfolding left
-  left-length = packed-long d (t .code) (length d)
+  left-length = left-long d (t .code) (length d)
 
   new-length : length new ≡ length (t .code)
   unfolding compacted

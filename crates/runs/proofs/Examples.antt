@@ -17,7 +17,8 @@ use Rattle.runs.specs.Machine.{pushOf, plain, read, ins}
 use Rattle.runs.specs.Kept.{Ends, Same}
 
 -- LoadConst 0; LoadConst 1; Add; JumpIfFalse 5; LoadTrue, pool 2 and 3: 5 is true, so true is left
-pub start : Ends (op.LoadConst ∷ 2 ∷ 0 ∷ 0 ∷ op.LoadConst ∷ 2 ∷ 1 ∷ 1 ∷ op.Add ∷ 0 ∷ 0 ∷ 2 ∷ op.JumpIfFalse ∷ 1 ∷ 5 ∷ 3 ∷ op.LoadTrue ∷ 0 ∷ 0 ∷ 4 ∷ []) (1 ∷ 1 ∷ [])
+pub start : Ends (op.LoadConst ∷ 2 ∷ 0 ∷ 0 ∷ op.LoadConst ∷ 2 ∷ 1 ∷ 1 ∷ op.Add ∷ 0 ∷ 0 ∷ 2 ∷ op.JumpIfFalse ∷ 1 ∷ 5 ∷ 3 ∷ op.LoadTrue ∷ 0 ∷ 0 ∷ 4 ∷ [])
+    (1 ∷ 1 ∷ [])
     (2 ∷ 3 ∷ []) 5 (Left (Known (Truth true) ∷ []))
 unfolding act apply answer binopV foldBinop ints inRange test truth ins read plain pushOf kindOf page toVal
 start =
@@ -27,7 +28,8 @@ start =
     (goes {k = 3} {j = 4} {t = []} (omega arith) refl (goes {k = 4} {j = 5} {t = Known (Truth true) ∷ []} (omega arith) refl (ends {k = 5} (omega arith))))))
 
 -- P13: LoadConst 0; LoadConst 1; Add; Jump 2, with room for a constant more. At the second Add the stack is short.
-pub p13 : Ends (op.LoadConst ∷ 2 ∷ 0 ∷ 0 ∷ op.LoadConst ∷ 2 ∷ 1 ∷ 0 ∷ op.Add ∷ 0 ∷ 0 ∷ 0 ∷ op.Jump ∷ 1 ∷ 2 ∷ 0 ∷ []) (1 ∷ 1 ∷ 9 ∷ []) (2 ∷ 3 ∷ 9 ∷ []) 4 (Short (Binop Add) (Known (Int (pos 5)) ∷ []))
+pub p13 : Ends (op.LoadConst ∷ 2 ∷ 0 ∷ 0 ∷ op.LoadConst ∷ 2 ∷ 1 ∷ 0 ∷ op.Add ∷ 0 ∷ 0 ∷ 0 ∷ op.Jump ∷ 1 ∷ 2 ∷ 0 ∷ []) (1 ∷ 1 ∷ 9 ∷ []) (2 ∷ 3 ∷ 9 ∷ []) 4
+    (Short (Binop Add) (Known (Int (pos 5)) ∷ []))
 unfolding act apply answer binopV foldBinop ints inRange ins read plain pushOf kindOf page toVal
 p13 =
     goes {k = 0} {j = 1} {t = Known (Int (pos 2)) ∷ []} (omega arith) refl
@@ -53,7 +55,8 @@ plain-loses (stops {e = e} h q) = let b : At 1 (Known (Int (pos 5)) ∷ []) ≡ 
 plain-loses (goes {j = j} {t = t} h q run) = let b : At 1 (Known (Int (pos 5)) ∷ []) ≡ At j t = q in endless run (let y : j ≡ 1 = cc in y)
 
 -- the plain mode does not keep what `keeps-runs` says of the strict one
-pub plain-breaks : Same (op.LoadConst ∷ 2 ∷ 0 ∷ 0 ∷ op.LoadConst ∷ 2 ∷ 1 ∷ 0 ∷ op.Add ∷ 0 ∷ 0 ∷ 0 ∷ op.Jump ∷ 1 ∷ 2 ∷ 0 ∷ []) (1 ∷ 1 ∷ 9 ∷ []) (2 ∷ 3 ∷ 9 ∷ []) 4
+pub plain-breaks : Same (op.LoadConst ∷ 2 ∷ 0 ∷ 0 ∷ op.LoadConst ∷ 2 ∷ 1 ∷ 0 ∷ op.Add ∷ 0 ∷ 0 ∷ 0 ∷ op.Jump ∷ 1 ∷ 2 ∷ 0 ∷ []) (1 ∷ 1 ∷ 9 ∷ [])
+    (2 ∷ 3 ∷ 9 ∷ []) 4
     (op.LoadConst ∷ 2 ∷ 2 ∷ 0 ∷ op.Jump ∷ 1 ∷ 1 ∷ 0 ∷ 0 ∷ 0 ∷ 0 ∷ 0 ∷ 0 ∷ 0 ∷ 0 ∷ 0 ∷ []) (1 ∷ 1 ∷ 1 ∷ []) (2 ∷ 3 ∷ 5 ∷ []) 2 → ⊥
 plain-breaks same = plain-loses (same .ends _ p13)
 

@@ -17,7 +17,8 @@ enum-told : tie.Need-enum-told
 enum-told c = search needs
 
 clear-unused-requires : tie.Need-clear-unused-requires
-clear-unused-requires c κs = held-of _ _ _ (c .before .before .before .before .before .before .ready .ensures) _ (c .before .before .before .before .enum-told .given .1)
+clear-unused-requires c κs = held-of _ _ _ (c .before .before .before .before .before .before .ready .ensures) _
+    (c .before .before .before .before .enum-told .given .1)
 
 tell-requires : tie.Need-tell-requires
 tell-requires c κs = search needs

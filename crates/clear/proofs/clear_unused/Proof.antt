@@ -14,7 +14,11 @@ free-requires : tie.Need-free-requires
 free-requires c κs = search needs
 
 renumber-requires : tie.Need-renumber-requires
-renumber-requires c κs = (search needs, low-of _ _ _ _ _ _ _ _ _ (search needs) (c .before .before .before .before .before .before .before .before .before .before .before .before .before .before .before .keep .ensures))
+renumber-requires c κs = (
+  search needs,
+  low-of _ _ _ _ _ _ _ _ _ (search needs) (c .before .before .before .before .before .before .before .before .before
+      .before .before .before .before .before .before .keep .ensures),
+)
 
 same-length : tie.Need-same-length
 same-length c = search needs

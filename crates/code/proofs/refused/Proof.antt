@@ -1,5 +1,6 @@
 -- `code::refused` meets its contract: each arm knows the case. Assumes nothing.
 use borrow.Author.Needs.{needs}
+use Rattle.code.proofs.Answers.{refused-as}
 use Rattle.code.proofs.refused.Statement.{statement}
 use Rattle.code.proofs.refused.Tie as tie
 
@@ -52,25 +53,25 @@ refuse-requires-7 : tie.Need-refuse-requires-7
 refuse-requires-7 c κs = search needs
 
 returns : tie.Need-returns
-returns c = cc
+returns c = search refused-as
 
 returns-2 : tie.Need-returns-2
-returns-2 c = cc
+returns-2 c = search refused-as
 
 returns-3 : tie.Need-returns-3
-returns-3 c = cc
+returns-3 c = search refused-as
 
 returns-4 : tie.Need-returns-4
-returns-4 c = cc
+returns-4 c = search refused-as
 
 returns-5 : tie.Need-returns-5
-returns-5 c = cc
+returns-5 c = search refused-as
 
 returns-6 : tie.Need-returns-6
-returns-6 c = cc
+returns-6 c = search refused-as
 
 returns-7 : tie.Need-returns-7
-returns-7 c = cc
+returns-7 c = search refused-as
 
 pub refused-spec : {M : Type 1} → statement M
 refused-spec =

@@ -23,10 +23,12 @@ same-length-4 : tie.Need-same-length-4
 same-length-4 c = search needs
 
 returns : tie.Need-returns
-returns c = let m = c .before .before .before .before .before in none-died _ _ _ _ _ _ _ _ _ (m .mark-phis .ensures) _ (c .before .all-alive .ensures) (c .if1 .taken)
+returns c = let m = c .before .before .before .before .before in none-died _ _ _ _ _ _ _ _ _ (m .mark-phis .ensures) _ (c .before .all-alive .ensures)
+    (c .if1 .taken)
 
 renew-requires : tie.Need-renew-requires
-renew-requires c κs = let m = c .before .before .before .before .before .before .before .before .before .before .before .before in fit-marked _ _ _ _ _ _ _ _ _ (m .mark-phis .ensures) (m .before .before .before .before .before .before .before .before .before .before .before .before .pre)
+renew-requires c κs = let m = c .before .before .before .before .before .before .before .before .before .before .before .before in fit-marked _ _ _ _ _ _ _ _ _
+    (m .mark-phis .ensures) (m .before .before .before .before .before .before .before .before .before .before .before .before .pre)
 
 same-length-5 : tie.Need-same-length-5
 same-length-5 c = search needs

@@ -186,7 +186,7 @@ fn keep_all(
 {
     let words = rows::words_for(regs);
     let need = (code.len() / 6 + 1) * words;
-    let found = rows::find_rows(code, regs, wide, &mut rows[..need]);
+    let found = routes::find_rows(code, regs, wide, &mut rows[..need]);
     let total = count_all(code, regs, tries, rows, words);
     if list.len() < total {
         return KeptAnswer::No(Refusal::Short {

@@ -1,10 +1,10 @@
--- `rows32::live_word` meets its contract: the inner loop is a sweep that has come down to k, the outer a run between two sweeps. Assumes nothing.
+-- `routes::live_word` meets its contract: the inner loop is a sweep that has come down to k, the outer a run between two sweeps. Assumes nothing.
 use borrow.Author.Needs.{needs}
 use Prim.Native.Nat.{_-_}
 use Rattle.steps.specs.Level.{firstLevel}
 use Rattle.rows.proofs.Sweeps.{Between, Turn, toGo, word-starts, sweep-starts, known, calm-turn, word-step, left-few, left-again, left-less, whole-few, whole-found, whole-again, whole-less}
-use Rattle.rows32.proofs.live_word.Statement.{statement}
-use Rattle.rows32.proofs.live_word.Tie as tie
+use Rattle.routes.proofs.live_word.Statement.{statement}
+use Rattle.routes.proofs.live_word.Tie as tie
 
 abbrev Inv-loop : tie.InvT-loop
 Inv-loop code regs rows₀ n start₀ full abandoned₀ changed₀ back₀ k₀ rows start abandoned changed back k =

@@ -1,4 +1,4 @@
--- `rows32::live_wide` meets its contract: the inner loop is a sweep that has come down to k, the outer a run between two sweeps. Assumes nothing.
+-- `routes32::live_wide` meets its contract: the inner loop is a sweep that has come down to k, the outer a run between two sweeps. Assumes nothing.
 use borrow.Author.Needs.{needs}
 use mathlib.Core.Path.{_≡_}
 use Prim.Native.Nat.{suc, _*_}
@@ -6,8 +6,8 @@ use lib.ListN.{length}
 use Rattle.code.specs.Ins.{count}
 use Rattle.flow.specs.Words.{rowsOf}
 use Rattle.rows.proofs.Sweeps.{Between, Turn, toGo, wide-starts, cleared, sweep-starts, wide-step, whole-few, whole-found, whole-again, whole-less}
-use Rattle.rows32.proofs.live_wide.Statement.{statement}
-use Rattle.rows32.proofs.live_wide.Tie as tie
+use Rattle.routes32.proofs.live_wide.Statement.{statement}
+use Rattle.routes32.proofs.live_wide.Tie as tie
 
 abbrev Inv-loop2 : tie.InvT-loop2
 Inv-loop2 code regs rows₀ words n full changed₀ back₀ k₀ rows changed back k =

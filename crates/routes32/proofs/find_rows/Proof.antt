@@ -1,8 +1,8 @@
--- `rows::find_rows` meets its contract. Assumes nothing.
+-- `routes32::find_rows` meets its contract. Assumes nothing.
 use borrow.Author.Needs.{needs}
 use Rattle.rows.proofs.Routes.{words-enough, words-few, words-long, word-few, word-long, by-word, by-wide}
-use Rattle.rows.proofs.find_rows.Statement.{statement}
-use Rattle.rows.proofs.find_rows.Tie as tie
+use Rattle.routes32.proofs.find_rows.Statement.{statement}
+use Rattle.routes32.proofs.find_rows.Tie as tie
 
 words-for-requires : tie.Need-words-for-requires
 words-for-requires c κs = search needs

@@ -244,8 +244,8 @@ turniploom_answer turniploom_needed(const uint16_t *code, size_t code_len, size_
                                     size_t seen_len, uint32_t *todo, size_t todo_len);
 
 /* kept where calls may raise later on: a row has whole the rows of the handlers around its position too, if the position is a level, or
- * whatever it is if all. Buffers as of kept; the rows are found from position 0 on.
- * first: the length of the list; second: full sweeps; third: abandoned sweeps: none. */
+ * whatever it is if all. Buffers, routes and sweeps as of kept.
+ * first: the length of the list; second: full sweeps; third: abandoned sweeps. */
 turniploom_answer turniploom_kept_raising(const uint16_t *code, size_t code_len, size_t regs, const uint32_t *tries, size_t tries_len,
                                           bool all, uint64_t *rows, size_t rows_len, uint32_t *offsets, size_t offsets_len, uint16_t *list,
                                           size_t list_len);

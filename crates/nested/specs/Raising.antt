@@ -47,9 +47,9 @@ levels w k = isLevel (insAt w k)
 abbrev pub mays : Bool → List ℕ → ℕ → Bool
 mays all w k = all || levels w k
 
--- where sweeps with handlers begin: at 0
+-- where sweeps with handlers begin: where document 01's do, at the first level on the word route and at 0 on the wide one
 abbrev pub beginsAt : ℕ → List ℕ → ℕ
-beginsAt regs w = firstOf 64 true regs w
+beginsAt regs w = firstOf 64 false regs w
 
 -- what a call at k reads as it begins: what k uses, and the rest of the arguments if it is wide
 unfoldable pub argsAt : ℕ → List ℕ → ℕ → ℕ

@@ -1,3 +1,4 @@
+pub mod Near
 pub mod Sweeps
 pub mod Calls
 pub mod Exposing

@@ -56,22 +56,22 @@ module _ (w : List ℕ) (regs : ℕ) (tries : List ℕ) (all : Bool) (b : Lists)
   pub raising-holds : RaisingHolds w regs tries all r a
   raising-holds =
       record {
-        shelters = call-shelters 64 true w regs tries all (b .rows) (b .offsets) (b .list) (a .rows) (a .offsets) (a .list) (r .first) (r .second)
+        shelters = call-shelters 64 false w regs tries all (b .rows) (b .offsets) (b .list) (a .rows) (a .offsets) (a .list) (r .first) (r .second)
             (r .third) raising-out;
-        least = found-least (raising (mays all w) regs w tries) (beginsAt regs w) (inside 64 true regs w) (rowsIn 64 regs w (a .rows)) (r .second)
+        least = found-least (raising (mays all w) regs w tries) (beginsAt regs w) (inside 64 false regs w) (rowsIn 64 regs w (a .rows)) (r .second)
             (r .third) raising-found;
         sweeps = few-sweeps all regs w tries (rowsIn 64 regs w (a .rows)) (r .second) (r .third) raising-found;
         stands = λ k h. stands-by (raising (mays all w) regs w tries) (beginsAt regs w) 64 w regs tries (b .rows) (b .offsets) (b .list) (a .rows) (a .offsets)
             (a .list)
             (r .first) (r .second) (r .third) raising-out k h;
         keeps = λ k h e.
-            call-keeps 64 true w regs tries all (b .rows) (b .offsets) (b .list) (a .rows) (a .offsets) (a .list) (r .first) (r .second)
+            call-keeps 64 false w regs tries all (b .rows) (b .offsets) (b .list) (a .rows) (a .offsets) (a .list) (r .first) (r .second)
             (r .third) raising-out k h e;
         spare = λ k h e.
-            call-spare 64 true w regs tries all (b .rows) (b .offsets) (b .list) (a .rows) (a .offsets) (a .list) (r .first) (r .second)
+            call-spare 64 false w regs tries all (b .rows) (b .offsets) (b .list) (a .rows) (a .offsets) (a .list) (r .first) (r .second)
             (r .third) raising-out k h e;
         once = λ k h e.
-            call-once 64 true w regs tries all (b .rows) (b .offsets) (b .list) (a .rows) (a .offsets) (a .list) (r .first) (r .second)
+            call-once 64 false w regs tries all (b .rows) (b .offsets) (b .list) (a .rows) (a .offsets) (a .list) (r .first) (r .second)
             (r .third) raising-out k h e;
         empty = λ k h e. empty-by (raising (mays all w) regs w tries) (beginsAt regs w) 64 w regs tries (b .rows) (b .offsets) (b .list) (a .rows) (a .offsets)
             (a .list)
@@ -122,7 +122,7 @@ module _ (w : List ℕ) (regs : ℕ) (tries : List ℕ) (all : Bool) (plain list
   -- at each level the raising list holds the plain one
   pub raising-more : (k : ℕ) → k < count w → isLevel (insAt w k) ≡ true → (q : ℕ) → List·Memᴰ q (listLeft plain k) → List·Memᴰ q (listLeft list k)
   raising-more k h e q m =
-      call-more 64 true w regs tries all (both .lent′ .rows) (both .lent′ .offsets) (both .lent′ .list) (list .rows) (list .offsets) (list .list)
+      call-more 64 false w regs tries all (both .lent′ .rows) (both .lent′ .offsets) (both .lent′ .list) (list .rows) (list .offsets) (list .list)
       (both .answer′ .first)
       (both .answer′ .second) (both .answer′ .third) out k h e (both .bits) (both .wide) (both .lent .rows) (both .lent .offsets) (both .lent .list)
       (plain .rows) (plain .offsets)
@@ -149,7 +149,7 @@ module _ (w : List ℕ) (regs : ℕ) (tries : List ℕ) (all : Bool) (plain list
       → s .refusal ≡ 0 → (q : ℕ) → List·Memᴰ q (take (s .first) o′) → ToldApart (frame (mays all w) regs w tries) (listLeft plain) k q
   exposed-truth k h e o o′ s x z q m =
       let (c, l) = told-exposed (listLeft plain k) (listLeft list k) o o′ s x z in
-      call-exposed 64 true w regs tries all (both .lent′ .rows) (both .lent′ .offsets) (both .lent′ .list) (list .rows) (list .offsets) (list .list)
+      call-exposed 64 false w regs tries all (both .lent′ .rows) (both .lent′ .offsets) (both .lent′ .list) (list .rows) (list .offsets) (list .list)
       (both .answer′ .first)
       (both .answer′ .second) (both .answer′ .third) out k h e (listLeft plain) q (subst (λ (y : List ℕ). In q y) (front c l) m)
     where

@@ -34,8 +34,8 @@ pub record RaisingHolds (w : List ℕ) (regs : ℕ) (tries : List ℕ) (all : Bo
   pub shelters : Sheltered (frame (mays all w) regs w tries) (listLeft a)
   -- the rows are the least solution of the equations with handlers
   pub least : Least (raising (mays all w) regs w tries) (startOf (raising (mays all w) regs w tries) (beginsAt regs w)) (row (rowsIn 64 regs w (a .rows)))
-  -- full sweeps are at most the jumps of the code to their own position or back, plus two
-  pub sweeps : r .second ≤ jumpsBack w + 2
+  -- full sweeps are at most the jumps of the code to their own position or back, plus two, and at most one is abandoned
+  pub sweeps : (r .second ≤ jumpsBack w + 2) × (r .third ≤ 1)
   -- from offset k to offset k + 1 stands the kept list of position k, by the rows in the scratch
   pub stands : (k : ℕ) → k < count w → listLeft a k ≡ keptAt regs w tries (rowsIn 64 regs w (a .rows)) k
   -- demand 3 in the machine that raises: enough, none to spare, none twice

@@ -113,14 +113,18 @@ fn empty(n: usize, regs: usize, bits: usize) -> Rows {
 pub fn rows(code: &[Ins], regs: usize, bits: usize, force_wide: bool) -> Rows {
     let n = code.len();
     let equations: Vec<Equation> = (0..n).map(|k| equation(code, k, regs)).collect();
-    let from = if regs > bits || force_wide { 0 } else { code.iter().position(level).unwrap_or(n) };
-    swept(&equations, from, empty(n, regs, bits))
+    swept(&equations, begins(code, regs, bits, force_wide), empty(n, regs, bits))
 }
 
-/// The rows with handlers joined, in words of 64 bits, from 0 on.
+/// Where sweeps begin: at the first level by the word route, at 0 by the wide one.
+fn begins(code: &[Ins], regs: usize, bits: usize, force_wide: bool) -> usize {
+    if regs > bits || force_wide { 0 } else { code.iter().position(level).unwrap_or(code.len()) }
+}
+
+/// The rows with handlers joined, in words of 64 bits, by the route that the registers ask for.
 pub fn rows_raising(code: &[Ins], regs: usize, tries: &[(usize, usize)], all: bool) -> Rows {
     let equations: Vec<Equation> = (0..code.len()).map(|k| raising(code, k, regs, tries, all)).collect();
-    swept(&equations, 0, empty(code.len(), regs, 64))
+    swept(&equations, begins(code, regs, 64, false), empty(code.len(), regs, 64))
 }
 
 /// Sweeps until nothing changes.

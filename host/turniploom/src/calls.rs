@@ -373,7 +373,7 @@ pub fn kept32(ins: &(impl Code + ?Sized), regs: usize, tries: &[(usize, usize)],
 
 /// [`kept`] for a host whose calls may raise: a register that only a handler further on reads is kept at every level from which its exception may
 /// come, so that it is still there though a call before the try was free to overwrite it. Levels may raise; with `all`, which is what Python does, any
-/// instruction. Each list has what [`kept`]'s has, and [`exposed`] tells what it has besides. Rows are found from 0 on.
+/// instruction. Each list has what [`kept`]'s has, and [`exposed`] tells what it has besides. Rows are found from where [`kept`]'s are.
 ///
 /// The call at 2 may overwrite r5, the call at 6 raises, and the handler at 9 reads r5:
 ///

@@ -94,9 +94,9 @@ calls! {
     /// seen and todo are n + 1 long, and 0 after an answer.
     needed(code: &[u16], regs: usize, at: usize, r: u16, seen: &mut [u8], todo: &mut [u32]) -> { first: "1 if so, else 0" };
     /// kept where calls may raise later on: a row has whole the rows of the handlers around its position too, if the position is a level, or
-    /// whatever it is if all. Buffers as of kept; the rows are found from position 0 on.
+    /// whatever it is if all. Buffers, routes and sweeps as of kept.
     kept_raising(code: &[u16], regs: usize, tries: &[u32], all: bool, rows: &mut [u64], offsets: &mut [u32], list: &mut [u16]) -> {
-        first: "the length of the list", second: "full sweeps", third: "abandoned sweeps: none"
+        first: "the length of the list", second: "full sweeps", third: "abandoned sweeps"
     };
     /// The registers of a list that another has not, in order, at the front of out: of one level's lists by kept_raising and by kept, those that a
     /// later exception needs and kept does not keep. out is as long as list.

@@ -49,7 +49,7 @@ fn no_call_allocates() {
     assert_eq!((rows, offsets, list), ([0, 0, 3, 1, 5, 8, 0], [0, 0, 0, 2, 2, 2, 2], [0, 3, 9, 9, 9, 9, 9, 9]));
     let (mut rows, mut raising, mut more) = ([9u64; 7], [9u16; 8], [9u16; 2]);
     assert_eq!(abi::kept_raising(code, 4, &[1, 5], true, &mut rows, &mut offsets, &mut raising).first, 2);
-    assert_eq!((rows, offsets, &raising[..3]), ([8, 9, 11, 9, 13, 8, 0], [0, 0, 0, 2, 2, 2, 2], &[0, 3, 9][..]));
+    assert_eq!((rows, offsets, &raising[..3]), ([0, 0, 11, 9, 13, 8, 0], [0, 0, 0, 2, 2, 2, 2], &[0, 3, 9][..]));
     assert_eq!((abi::exposed(&list[..1], &raising[..2], &mut more).first, more), (1, [3, 9]));
     assert_eq!((abi::figures_add(code, &offsets, &list[..2], &mut report).second, abi::figures_join(&[1, 2, 3, 9, 1, 0, 5], &mut report).third), (2, 5));
     assert_eq!(report, [2, 3, 5, 9, 1, 1, 5]);

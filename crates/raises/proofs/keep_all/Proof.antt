@@ -19,18 +19,18 @@ mul-need c = part-mul _ _ _ (now (c .before .before .before .before .before .bef
     (now (c .before .before .before .before .before .before .args .offsets)) _ (c .before .before .before .before .before .before .pre) _
     (c .words-for .ensures)
 
-slice-relend-prefix-live-raising : tie.Need-slice-relend-prefix-live-raising
-slice-relend-prefix-live-raising c = part-fits _ _ _ (now (c .before .before .before .before .before .before .args .rows))
+slice-relend-prefix-find-raising : tie.Need-slice-relend-prefix-find-raising
+slice-relend-prefix-find-raising c = part-fits _ _ _ (now (c .before .before .before .before .before .before .args .rows))
     (now (c .before .before .before .before .before .before .args .offsets)) _ (c .before .before .before .before .before .before .pre) _
     (c .words-for .ensures)
 
-slice-aggregate-live-raising : tie.Need-slice-aggregate-live-raising
-slice-aggregate-live-raising c = sym (part-long _ _ _ (now (c .before .before .before .before .before .before .before .args .rows))
+slice-aggregate-find-raising : tie.Need-slice-aggregate-find-raising
+slice-aggregate-find-raising c = sym (part-long _ _ _ (now (c .before .before .before .before .before .before .before .args .rows))
     (now (c .before .before .before .before .before .before .before .args .offsets)) _ (c .before .before .before .before .before .before .before .pre) _
     (c .before .words-for .ensures))
 
-live-raising-requires : tie.Need-live-raising-requires
-live-raising-requires c κs = part-needs _ _ _ (now (c .before .before .before .before .before .before .before .args .rows))
+find-raising-requires : tie.Need-find-raising-requires
+find-raising-requires c κs = part-needs _ _ _ (now (c .before .before .before .before .before .before .before .args .rows))
     (now (c .before .before .before .before .before .before .before .args .offsets)) _ (c .before .before .before .before .before .before .before .pre) _
     (c .before .words-for .ensures)
 
@@ -39,7 +39,7 @@ count-all-requires c κs = ready _ _ _ (now (c .before .before .before .before .
     (now (c .before .before .before .before .before .before .before .before .before .before .before .args .offsets)) _
     (c .before .before .before .before .before .before .before .before .before .before .before .pre) _
     (c .before .before .before .before .before .words-for .ensures) (c .before .before .before .before .before .before .before .before .before .before .before
-    .args .all) _ _ (c .before .before .before .live-raising .ensures) (c .before .before .before .live-raising .kept .1 .1 .1 .0)
+    .args .all) _ _ _ (c .before .before .before .find-raising .ensures) (c .before .before .before .find-raising .kept .1 .1 .1 .0)
     (λ j. omega (arith, c .before .slice-known4 .given j))
 
 same-length : tie.Need-same-length
@@ -47,16 +47,16 @@ same-length c = new-long _ _ _ (now (c .before .before .before .before .before .
     (now (c .before .before .before .before .before .before .before .before .before .before .before .before .before .args .offsets)) _
     (c .before .before .before .before .before .before .before .before .before .before .before .before .before .pre) _
     (c .before .before .before .before .before .before .before .words-for .ensures)
-    (c .before .before .before .before .before .before .before .before .before .before .before .before .before .args .all) _ _
-    (c .before .before .before .before .before .live-raising .ensures) (c .before .before .before .before .before .live-raising .kept .1 .1 .1 .0)
+    (c .before .before .before .before .before .before .before .before .before .before .before .before .before .args .all) _ _ _
+    (c .before .before .before .before .before .find-raising .ensures) (c .before .before .before .before .before .find-raising .kept .1 .1 .1 .0)
 
 returns : tie.Need-returns
 returns c = out-short _ _ _ (now (c .before .before .before .before .before .before .before .before .before .before .before .before .before .args .rows))
     (now (c .before .before .before .before .before .before .before .before .before .before .before .before .before .args .offsets)) _
     (c .before .before .before .before .before .before .before .before .before .before .before .before .before .pre) _
     (c .before .before .before .before .before .before .before .words-for .ensures)
-    (c .before .before .before .before .before .before .before .before .before .before .before .before .before .args .all) _ _
-    (c .before .before .before .before .before .live-raising .ensures) (c .before .before .before .before .before .live-raising .kept .1 .1 .1 .0)
+    (c .before .before .before .before .before .before .before .before .before .before .before .before .before .args .all) _ _ _
+    (c .before .before .before .before .before .find-raising .ensures) (c .before .before .before .before .before .find-raising .kept .1 .1 .1 .0)
     (now (c .before .before .before .before .before .before .before .before .before .before .before .before .before .args .list)) _
     (c .before .count-all .ensures .0) (c .if1 .taken)
 
@@ -66,9 +66,9 @@ each-call-requires c κs = (
       .before .before .args .rows)) (now (c .before .before .before .before .before .before .before .before .before .before .before .before .before .before
       .before .before .args .offsets)) _ (c .before .before .before .before .before .before .before .before .before .before .before .before .before .before
       .before .before .pre) _ (c .before .before .before .before .before .before .before .before .before .before .words-for .ensures)
-      (c .before .before .before .before .before .before .before .before .before .before .before .before .before .before .before .before .args .all) _ _
-      (c .before .before .before .before .before .before .before .before .live-raising .ensures)
-      (c .before .before .before .before .before .before .before .before .live-raising .kept .1 .1 .1 .0)
+      (c .before .before .before .before .before .before .before .before .before .before .before .before .before .before .before .before .args .all) _ _ _
+      (c .before .before .before .before .before .before .before .before .find-raising .ensures)
+      (c .before .before .before .before .before .before .before .before .find-raising .kept .1 .1 .1 .0)
       (λ j. omega (arith, c .before .before .before .before .before .before .slice-known4 .given j)),
   accepted-offsets _ _ _ _ _ _ _
       (c .before .before .before .before .before .before .before .before .before .before .before .before .before .before .before .before .pre),
@@ -86,8 +86,8 @@ same-length-2 c = new-long _ _ _ (now (c .before .before .before .before .before
     .before .before .before .before .before .before .before .before .pre) _
     (c .before .before .before .before .before .before .before .before .before .before .before .before .before .before .before .words-for .ensures)
     (c .before .before .before .before .before .before .before .before .before .before .before .before .before .before .before .before .before .before .before
-    .before .before .args .all) _ _ (c .before .before .before .before .before .before .before .before .before .before .before .before .before .live-raising
-    .ensures) (c .before .before .before .before .before .before .before .before .before .before .before .before .before .live-raising .kept .1 .1 .1 .0)
+    .before .before .args .all) _ _ _ (c .before .before .before .before .before .before .before .before .before .before .before .before .before .find-raising
+    .ensures) (c .before .before .before .before .before .before .before .before .before .before .before .before .before .find-raising .kept .1 .1 .1 .0)
 
 same-length-3 : tie.Need-same-length-3
 same-length-3 c = c .before .before .before .before .each-call .kept .1 .1 .1 .1 .1 .0
@@ -102,9 +102,9 @@ returns-2 c = out-told _ _ _ (now (c .before .before .before .before .before .be
     .before .before .args .offsets)) _ (c .before .before .before .before .before .before .before .before .before .before .before .before .before .before
     .before .before .before .before .before .before .before .pre) _ (c .before .before .before .before .before .before .before .before .before .before .before
     .before .before .before .before .words-for .ensures) (c .before .before .before .before .before .before .before .before .before .before .before .before
-    .before .before .before .before .before .before .before .before .before .args .all) _ _
-    (c .before .before .before .before .before .before .before .before .before .before .before .before .before .live-raising .ensures)
-    (c .before .before .before .before .before .before .before .before .before .before .before .before .before .live-raising .kept .1 .1 .1 .0)
+    .before .before .before .before .before .before .before .before .before .args .all) _ _ _
+    (c .before .before .before .before .before .before .before .before .before .before .before .before .before .find-raising .ensures)
+    (c .before .before .before .before .before .before .before .before .before .before .before .before .before .find-raising .kept .1 .1 .1 .0)
     (now (c .before .before .before .before .before .before .before .before .before .before .before .before .before .before .before .before .before .before
     .before .before .before .args .list)) _ (c .before .before .before .before .before .before .before .before .before .count-all .ensures .0)
     (c .before .before .before .before .before .before .before .before .if1 .left) _ _ (c .before .before .before .before .each-call .ensures)
@@ -116,9 +116,9 @@ keep-all-spec =
     words-for-requires
     add-need
     mul-need
-    slice-relend-prefix-live-raising
-    slice-aggregate-live-raising
-    live-raising-requires
+    slice-relend-prefix-find-raising
+    slice-aggregate-find-raising
+    find-raising-requires
     count-all-requires
     same-length
     returns

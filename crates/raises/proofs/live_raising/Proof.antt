@@ -12,7 +12,7 @@ use Rattle.raises.proofs.live_raising.Tie as tie
 
 abbrev Inv-loop2 : tie.InvT-loop2
 Inv-loop2 code regs tries rows₀ words all roles n full changed₀ back₀ k₀ rows changed back k =
-    Turn all code regs tries full (rowsOf 64 words (suc (count code)) rows₀) (rowsOf 64 words (suc (count code)) rows) changed back k
+    Turn all code regs tries 0 0 full 0 0 (rowsOf 64 words (suc (count code)) rows₀) (rowsOf 64 words (suc (count code)) rows) changed back k
     × (length rows ≡ suc (count code) * words)
 
 abbrev μ-loop2 : tie.MeasureT-loop2
@@ -20,10 +20,10 @@ abbrev μ-loop2 : tie.MeasureT-loop2
 
 abbrev Inv-loop : tie.InvT-loop
 Inv-loop code regs tries rows₀ words all roles n full₀ rows full =
-    Between all code regs tries full (rowsOf 64 words (suc (count code)) rows) × (length rows ≡ suc (count code) * words)
+    Between all code regs tries 0 0 full 0 (rowsOf 64 words (suc (count code)) rows) × (length rows ≡ suc (count code) * words)
 
 abbrev μ-loop : tie.MeasureT-loop
-μ-loop code regs tries rows₀ words all roles n full₀ rows full = toGo all code regs tries full
+μ-loop code regs tries rows₀ words all roles n full₀ rows full = toGo all code regs tries 0 full 0
 
 table-requires : tie.Need-table-requires Inv-loop2 μ-loop2 Inv-loop μ-loop
 table-requires c κs = search needs

@@ -46,8 +46,9 @@ fn colours_can_be_told_apart() {
 #[test]
 fn laid_out_for_a_phone_for_paper_and_for_both_schemes() {
     for due in ["color-scheme: light dark", "@media (max-width: 600px)", "@media print", "thead { display: table-header-group; }",
-        ".chart { overflow: visible; max-height: none; }", "thead th, tbody th, td.ins { position: static !important; }", "thead th { position: sticky; top: 0;",
-        "tbody th, thead th:first-child { position: sticky; left: 0;", "td.ins, thead th.ins { position: sticky; left: 3.2rem;"] {
+        ".chart { overflow: visible; max-height: none; }", "thead th, tbody th, td.ins { position: static !important; }",
+        "thead th { position: sticky; top: 0;", "tbody th, thead th:first-child { position: sticky; left: 0;",
+        "td.ins, thead th.ins { position: sticky; left: 3.2rem;"] {
         assert!(STYLE.contains(due), "{due}");
     }
     let page = page::whole("a", "b", "");
@@ -60,6 +61,22 @@ fn laid_out_for_a_phone_for_paper_and_for_both_schemes() {
 fn shown(text: &str) -> String {
     let Ok(Text::Body(b)) = read(text) else { panic!("{text}") };
     page::body(&body::View::of(&b).unwrap())
+}
+
+/// What a cell shows of its register, each by a mark of its own, and the level's list in words beside them.
+#[test]
+fn the_marks_of_a_cell() {
+    let page = shown(include_str!("../../../samples/jacket.txt"));
+    let row = |k: usize| page.split("<th scope=\"row\">").find(|r| r.starts_with(&format!("{k}<"))).unwrap();
+    let marks = |k: usize| row(k).split("<td class=\"cell").skip(1).map(|c| c.split_once('>').unwrap().1.split('<').next().unwrap()).collect::<Vec<_>>();
+    assert_eq!(marks(8), ["", "●▲", "", "●u▲", "●u", "△", "", ""]);
+    assert_eq!(marks(10), ["", "●ug", "", "●", "", "", "●u", ""]);
+    assert!(row(8).contains("<div class=\"keeps\">keeps r1 r3; r5 for the handler at 13</div>"), "{}", row(8));
+    // With many registers a row is one line of marks.
+    let more: String = (1..16).map(|k| format!("; AddR a{} b{} c{}", 3 * k, 3 * k + 1, 3 * k + 2)).collect();
+    let page = shown(&format!("registers 64; LoadGlobalR a63 b1; PushRegs a0 b1 c2 x3; CallR a0 x0; StoreTopR a1; AddR a2 b63 c1; ReturnR b2{more}"));
+    let lines: Vec<&str> = page.split("<td class=\"marks\" aria-hidden=\"true\">").skip(1).map(|l| l.split('<').next().unwrap()).collect();
+    assert_eq!((lines.len(), lines[2].chars().next(), lines[2].chars().last(), lines[4].chars().last()), (22, Some('●'), Some('▲'), Some('●')), "{lines:?}");
 }
 
 /// Position, instruction and what is said of it come first, so that a phone shows them; the registers follow.
@@ -85,20 +102,4 @@ fn not_by_colour_alone() {
     }
     assert!(page.contains("<caption><span>") && page.contains("<span class=\"aloud\"> needs r0 r2</span>") && page.contains("<div class=\"keeps\">keeps "));
     assert!(page.contains("role=\"region\" aria-label=\"the chart\" tabindex=\"0\""));
-}
-
-/// What a cell shows of its register, each by a mark of its own, and the level's list in words beside them.
-#[test]
-fn the_marks_of_a_cell() {
-    let page = shown(include_str!("../../../samples/jacket.txt"));
-    let row = |k: usize| page.split("<th scope=\"row\">").find(|r| r.starts_with(&format!("{k}<"))).unwrap();
-    let marks = |k: usize| row(k).split("<td class=\"cell").skip(1).map(|c| c.split_once('>').unwrap().1.split('<').next().unwrap()).collect::<Vec<_>>();
-    assert_eq!(marks(8), ["", "●▲", "", "●u▲", "●u", "△", "", ""]);
-    assert_eq!(marks(10), ["", "●ug", "", "●", "", "", "●u", ""]);
-    assert!(row(8).contains("<div class=\"keeps\">keeps r1 r3; r5 for the handler at 13</div>"), "{}", row(8));
-    // With many registers a row is one line of marks.
-    let more: String = (1..16).map(|k| format!("; AddR a{} b{} c{}", 3 * k, 3 * k + 1, 3 * k + 2)).collect();
-    let page = shown(&format!("registers 64; LoadGlobalR a63 b1; PushRegs a0 b1 c2 x3; CallR a0 x0; StoreTopR a1; AddR a2 b63 c1; ReturnR b2{more}"));
-    let lines: Vec<&str> = page.split("<td class=\"marks\" aria-hidden=\"true\">").skip(1).map(|l| l.split('<').next().unwrap()).collect();
-    assert_eq!((lines.len(), lines[2].chars().next(), lines[2].chars().last(), lines[4].chars().last()), (22, Some('●'), Some('▲'), Some('●')), "{lines:?}");
 }

@@ -272,7 +272,8 @@ fn the_page_of_a_chunk() {
     row("1</th><td class=\"ins dead\">LoadConst 1 (5)</td><td class=\"arrow\">↗</td><td></td><td class=\"code\">into 0</td><td class=\"note\">");
     row("6</th><td class=\"ins\">Add</td><td class=\"arrow\">→</td><td class=\"at\">4</td><td class=\"code\">Add was 6</td><td class=\"note\">not folded: the \
         handler of the try at 0 is at 5");
-    row("7</th><td class=\"ins\">Jump 4</td><td class=\"arrow\">→</td><td class=\"at\">5</td><td class=\"code\">Jump 2 was 7</td><td class=\"note\">to 4, now 2");
+    row("7</th><td class=\"ins\">Jump 4</td><td class=\"arrow\">→</td><td class=\"at\">5</td><td class=\"code\">Jump 2 was 7</td><td class=\"note\">to 4, \
+        now 2");
     assert!(page.contains("<table class=\"chunk\">\n<caption><span>Instructions before and after folding"), "{page}");
     let ships = text.split_once("\nAs it ships, folded and cleared:\n\n").unwrap().1;
     assert!(page.ends_with(&format!("<h2>As it ships, folded and cleared</h2>\n<pre>{ships}</pre>\n")), "{page}");

@@ -8,7 +8,6 @@ ghost use lib.Dec.{ltb};
 ghost use Rattle.laws.specs.Page.{among};
 ghost use Rattle.code.specs.Ins.{count};
 ghost use Rattle.code.specs.Check.{Valid};
-ghost use Rattle.roles.specs.Roles.{roleTable};
 ghost use Rattle.roles.specs.Sets.{only, from};
 ghost use Rattle.flow.specs.Set.{minus};
 ghost use Rattle.flow.specs.Flow.{joined, rowAt};
@@ -182,7 +181,6 @@ pub fn live_raising(
     ensures { λ r. ⌜ Found (raising (mays all (now (code .entry))) regs (now (code .entry)) (now (tries .entry)))
         0 (rowsOf 64 words (suc (count (now (code .entry)))) (now (rows .exit))) r 0 ⌝ }
 {
-    let roles = roles::table();
     let n = code.len() / 6;
     let mut full: u32 = 0;
     rows::clear(rows);
@@ -192,7 +190,7 @@ pub fn live_raising(
         let mut k = n;
         while 0 < k {
             let i = code::ins_in(code, k - 1);
-            let s = steps::step_in(&roles, code, n, k - 1);
+            let s = steps::step_of(code, n, k - 1);
             let may = all | steps::level_at(i);
             let past = stranded(i);
             changed = put_raising(s, may, past, regs, tries, rows, n, words, k - 1) | changed;
@@ -406,7 +404,6 @@ pub struct Went {
 
 // Row k is found and stored, unless a jump goes to before the start.
 fn put_near(
-    roles: &[u8; 1280],
     code: &[u16],
     regs: usize,
     all: bool,
@@ -415,7 +412,7 @@ fn put_near(
     start: usize,
     k: usize,
 ) -> Went
-    requires { ⌜ (now roles ≡ roleTable) × Valid (now code) × (regs ≤ 64) × (length (now rows) ≡ suc (count (now code))) × (start ≤ k) × (k < count (now code)) ⌝ }
+    requires { ⌜ Valid (now code) × (regs ≤ 64) × (length (now rows) ≡ suc (count (now code))) × (start ≤ k) × (k < count (now code)) ⌝ }
     ensures { λ r. ⌜ WentAt all out regs (now (code .entry)) start k (now (rows .entry)) (now (rows .exit)) (r .left) (r .changed) (r .back) ⌝ }
 {
     let i = code::ins_in(code, k);
@@ -429,7 +426,7 @@ fn put_near(
             back: false,
         };
     }
-    let step = steps::step_by(roles, code, code.len() / 6, k, i, m);
+    let step = steps::step_with(code, code.len() / 6, k, i, m);
     if steps::goes_before(step, start) {
         return Went {
             left: true,
@@ -454,9 +451,9 @@ fn handlers_word(rows: &[u64], n: usize, k: usize, tries: &[u32]) -> u64
     let mut out: u64 = 0;
     let mut i = 0;
     loop {
-        let s = kept::wide_of(tries[i]);
-        let h = kept::wide_of(tries[i + 1]);
-        out = out | row_if(kept::around(s, k, h), rows, code::least(h, n));
+        let s = lists::wide_of(tries[i]);
+        let h = lists::wide_of(tries[i + 1]);
+        out = out | row_if(lists::around(s, k, h), rows, code::least(h, n));
         i += 2;
         if tries.len() <= i + 1 {
             return out;
@@ -492,8 +489,8 @@ fn lowest(k: usize, tries: &[u32]) -> usize
     let mut low = 0;
     let mut i = 0;
     loop {
-        let s = kept::wide_of(tries[i]);
-        let h = kept::wide_of(tries[i + 1]);
+        let s = lists::wide_of(tries[i]);
+        let h = lists::wide_of(tries[i + 1]);
         low = most(low, edge(s, k, h));
         i += 2;
         if tries.len() <= i + 1 {
@@ -546,7 +543,6 @@ pub fn live_near(code: &[u16], regs: usize, tries: &[u32], all: bool, rows: &mut
             abandoned: 0,
         };
     }
-    let roles = roles::table();
     let mut full: u32 = 0;
     let mut abandoned: u32 = 0;
     'again: loop {
@@ -557,7 +553,7 @@ pub fn live_near(code: &[u16], regs: usize, tries: &[u32], all: bool, rows: &mut
         while start < k {
             around = covering(around, rows, n, k, tries);
             k -= 1;
-            let p = put_near(&roles, code, regs, all, rows, around.out, start, k);
+            let p = put_near(code, regs, all, rows, around.out, start, k);
             if p.left {
                 rows::clear(rows);
                 start = 0;

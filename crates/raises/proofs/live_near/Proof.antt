@@ -10,24 +10,21 @@ use Rattle.raises.proofs.live_near.Statement.{statement}
 use Rattle.raises.proofs.live_near.Tie as tie
 
 abbrev Inv-loop : tie.InvT-loop
-Inv-loop code regs tries all rows₀ n start₀ roles full abandoned₀ changed₀ back₀ around₀ k₀ rows start abandoned changed back around k =
+Inv-loop code regs tries all rows₀ n start₀ full abandoned₀ changed₀ back₀ around₀ k₀ rows start abandoned changed back around k =
     Turn all code regs tries (firstLevel code) start full abandoned abandoned₀ rows₀ rows changed back k
     × Covers (count code) tries rows (around .out) (around .low) k
 
 abbrev μ-loop : tie.MeasureT-loop
-μ-loop code regs tries all rows₀ n start₀ roles full abandoned₀ changed₀ back₀ around₀ k₀ rows start abandoned changed back around k =
+μ-loop code regs tries all rows₀ n start₀ full abandoned₀ changed₀ back₀ around₀ k₀ rows start abandoned changed back around k =
     k - start
 
 abbrev Inv-again : tie.InvT-again
-Inv-again code regs tries all rows₀ n start₀ roles full₀ abandoned₀ rows start full abandoned =
+Inv-again code regs tries all rows₀ n start₀ full₀ abandoned₀ rows start full abandoned =
     Between all code regs tries (firstLevel code) start full abandoned rows
 
 abbrev μ-again : tie.MeasureT-again
-μ-again code regs tries all rows₀ n start₀ roles full₀ abandoned₀ rows start full abandoned =
+μ-again code regs tries all rows₀ n start₀ full₀ abandoned₀ rows start full abandoned =
     toGo all code regs tries (firstLevel code) full abandoned
-
-table-requires : tie.Need-table-requires Inv-loop μ-loop Inv-again μ-again
-table-requires c κs = search needs
 
 first-level-requires : tie.Need-first-level-requires Inv-loop μ-loop Inv-again μ-again
 first-level-requires c κs = search needs
@@ -57,7 +54,7 @@ sub-k : tie.Need-sub-k Inv-loop μ-loop Inv-again μ-again
 sub-k c = search needs
 
 put-near-requires : tie.Need-put-near-requires Inv-loop μ-loop Inv-again μ-again
-put-near-requires c κs = (search needs, search needs, search needs, near-long (c .before .before .before .before .before .loop .inv .0), near-down (c .before .before .before .before .before .loop .inv .0) (c .before .before .before .before .loop-test .taken), near-in (c .before .before .before .before .before .loop .inv .0) (c .before .before .before .before .loop-test .taken))
+put-near-requires c κs = (search needs, search needs, near-long (c .before .before .before .before .before .loop .inv .0), near-down (c .before .before .before .before .before .loop .inv .0) (c .before .before .before .before .loop-test .taken), near-in (c .before .before .before .before .before .loop .inv .0) (c .before .before .before .before .loop-test .taken))
 
 clear-requires-2 : tie.Need-clear-requires-2 Inv-loop μ-loop Inv-again μ-again
 clear-requires-2 c κs = search needs
@@ -109,7 +106,6 @@ live-near-spec =
     clear-requires
     same-length
     returns
-    table-requires
     again-holds
     uncovered-requires
     loop-holds

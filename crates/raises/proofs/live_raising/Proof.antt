@@ -11,22 +11,19 @@ use Rattle.raises.proofs.live_raising.Statement.{statement}
 use Rattle.raises.proofs.live_raising.Tie as tie
 
 abbrev Inv-loop2 : tie.InvT-loop2
-Inv-loop2 code regs tries rows₀ words all roles n full changed₀ back₀ k₀ rows changed back k =
+Inv-loop2 code regs tries rows₀ words all n full changed₀ back₀ k₀ rows changed back k =
     Turn all code regs tries 0 0 full 0 0 (rowsOf 64 words (suc (count code)) rows₀) (rowsOf 64 words (suc (count code)) rows) changed back k
     × (length rows ≡ suc (count code) * words)
 
 abbrev μ-loop2 : tie.MeasureT-loop2
-μ-loop2 code regs tries rows₀ words all roles n full changed₀ back₀ k₀ rows changed back k = k
+μ-loop2 code regs tries rows₀ words all n full changed₀ back₀ k₀ rows changed back k = k
 
 abbrev Inv-loop : tie.InvT-loop
-Inv-loop code regs tries rows₀ words all roles n full₀ rows full =
+Inv-loop code regs tries rows₀ words all n full₀ rows full =
     Between all code regs tries 0 0 full 0 (rowsOf 64 words (suc (count code)) rows) × (length rows ≡ suc (count code) * words)
 
 abbrev μ-loop : tie.MeasureT-loop
-μ-loop code regs tries rows₀ words all roles n full₀ rows full = toGo all code regs tries 0 full 0
-
-table-requires : tie.Need-table-requires Inv-loop2 μ-loop2 Inv-loop μ-loop
-table-requires c κs = search needs
+μ-loop code regs tries rows₀ words all n full₀ rows full = toGo all code regs tries 0 full 0
 
 clear-requires : tie.Need-clear-requires Inv-loop2 μ-loop2 Inv-loop μ-loop
 clear-requires c κs = search needs
@@ -37,11 +34,11 @@ loop-holds c = (search starts, search cleared)
 loop2-holds : tie.Need-loop2-holds Inv-loop2 μ-loop2 Inv-loop μ-loop
 loop2-holds c = (search sweep-starts, search needs)
 
-sub-step-in : tie.Need-sub-step-in Inv-loop2 μ-loop2 Inv-loop μ-loop
-sub-step-in c = search needs
+sub-step-of : tie.Need-sub-step-of Inv-loop2 μ-loop2 Inv-loop μ-loop
+sub-step-of c = search needs
 
-step-in-requires : tie.Need-step-in-requires Inv-loop2 μ-loop2 Inv-loop μ-loop
-step-in-requires c κs = search needs
+step-of-requires : tie.Need-step-of-requires Inv-loop2 μ-loop2 Inv-loop μ-loop
+step-of-requires c κs = search needs
 
 sub-ins-in : tie.Need-sub-ins-in Inv-loop2 μ-loop2 Inv-loop μ-loop
 sub-ins-in c = search needs
@@ -96,14 +93,13 @@ live-raising-spec =
     μ-loop2
     Inv-loop
     μ-loop
-    table-requires
     clear-requires
     loop-holds
     loop2-holds
     sub-ins-in
     ins-in-requires
-    sub-step-in
-    step-in-requires
+    sub-step-of
+    step-of-requires
     level-at-requires
     stranded-requires
     sub-put-raising

@@ -22,8 +22,8 @@ same-length c = search needs
 returns : tie.Need-returns
 returns c = search went-calm
 
-step-by-requires : tie.Need-step-by-requires
-step-by-requires c κs = search needs
+step-with-requires : tie.Need-step-with-requires
+step-with-requires c κs = search needs
 
 goes-before-requires : tie.Need-goes-before-requires
 goes-before-requires c κs = search needs
@@ -59,7 +59,7 @@ put-near-spec =
     put-calm-requires
     same-length
     returns
-    step-by-requires
+    step-with-requires
     goes-before-requires
     same-length-2
     returns-2

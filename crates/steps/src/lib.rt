@@ -353,4 +353,3 @@ pub fn step_in(roles: &[u8; 1280], code: &[u16], n: usize, k: usize) -> Step
         target: code::least(i.a as usize, n),
     }
 }
-

@@ -32,10 +32,3 @@ nan-read w h = ap (λ (x : Float). Is (Real x)) (only (ofBits binary64 w) (sym (
 pub nan-kept : (kinds words : List ℕ) (n : ℕ) → findOrPushConst kinds words n (Real nan) ≡ findOrPush kinds words n 2 0x7ff8_0000_0000_0000
 unfolding findOrPushConst
 nan-kept kinds words n = ap (findOrPush kinds words n 2) the-nan
-
--- a NaN that was lent with a payload is read as the single one, and stays in the pool as it was lent: the result is pushed anew
-pub lent-nan : (ofBits binary64 0x7ff8_0000_0000_0001 ≡ nan)
-    × (findOrPushConst (2 ∷ 0 ∷ []) (0x7ff8_0000_0000_0001 ∷ 0 ∷ []) 1 (Real nan)
-    ≡ stored (At 1 2) (2 ∷ 2 ∷ []) (0x7ff8_0000_0000_0001 ∷ 0x7ff8_0000_0000_0000 ∷ []))
-unfolding findOrPushConst findOrPush first ofBits toBits
-lent-nan = (refl, refl)

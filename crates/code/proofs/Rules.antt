@@ -14,14 +14,6 @@ implies : (p q : Bool) → not p || q ≡ true → p ≡ true → q ≡ true
 implies true q h e = h
 implies false q h e = absurd (false≢true e)
 
-unless : (p z q : Bool) → not p || z || q ≡ true → p ≡ true → z ≡ false → q ≡ true
-unless true false q h e f = h
-unless true true q h e f = absurd (false≢true (sym-of f))
-  where
-    sym-of : true ≡ false → false ≡ true
-    sym-of p = cc
-unless false z q h e f = absurd (false≢true e)
-
 module _ (i : Ins) (k next : ℕ) (kept : rules i k next ≡ true) where
   seven : opKnown i && marksFit i && xFits i && pushFits i && unpackFits i && argsFit i k && followed i next ≡ true
   unfolding rules
@@ -42,42 +34,8 @@ module _ (i : Ins) (k next : ℕ) (kept : rules i k next ≡ true) where
   pub x-small : i .x ≤ 255
   x-small = leb-true _ _ (and-true (opKnown i && marksFit i) (xFits i) three .1)
 
-  pub push-few : i .op ≡ PushRegs → i .x ≤ 3
-  push-few e =
-      leb-true _ _
-      (implies (eqb (i .op) PushRegs) _ (and-true (opKnown i && marksFit i && xFits i) (pushFits i) (and-true _ (unpackFits i) five .0) .1) (eq-eqb _ _ e))
-
-  pub unpack-some : i .op ≡ UnpackR → 1 ≤ i .x
-  unpack-some e =
-      leb-true _ _
-      (implies (eqb (i .op) UnpackR) _ (and-true (opKnown i && marksFit i && xFits i && pushFits i) (unpackFits i) five .1) (eq-eqb _ _ e))
-
-  pub args-later : i .op ≡ ArgsR → k ≡ 0 → ⊥
-  args-later e =
-      eqb-false _ _
-      (not-true _
-      (implies (eqb (i .op) ArgsR) _
-      (and-true (opKnown i && marksFit i && xFits i && pushFits i && unpackFits i) (argsFit i k) (and-true _ (followed i next) seven .0) .1)
-      (eq-eqb _ _ e)))
-
   pub args-follow : wide i ≡ true → next ≡ ArgsR
   args-follow w =
       eqb-true _ _
       (implies (wide i) _
       (and-true (opKnown i && marksFit i && xFits i && pushFits i && unpackFits i && argsFit i k) (followed i next) seven .1) w)
-
-  pub enter-low : i .op ≡ WithEnter → (i .x ≡ 0 → ⊥) → i .b ≤ 65533
-  unfolding rules
-  enter-low e z =
-      leb-true _ _
-      (unless (eqb (i .op) WithEnter) (eqb (i .x) 0) _
-      (and-true (opKnown i && marksFit i && xFits i && pushFits i && unpackFits i && argsFit i k && followed i next) (enterFits i) (and-true _ (exitFits i) kept .0) .1)
-      (eq-eqb _ _ e) (ne-eqb _ _ z))
-
-  pub exit-low : i .op ≡ WithExit → (i .x ≡ 0 → ⊥) → i .b ≤ 65530
-  unfolding rules
-  exit-low e z =
-      leb-true _ _
-      (unless (eqb (i .op) WithExit) (eqb (i .x) 0) _
-      (and-true (opKnown i && marksFit i && xFits i && pushFits i && unpackFits i && argsFit i k && followed i next && enterFits i) (exitFits i) kept .1)
-      (eq-eqb _ _ e) (ne-eqb _ _ z))

@@ -18,9 +18,6 @@ use Rattle.finish.specs.declared.Left.{Left}
 pub took : (m : ℕ) (l : List ℕ) → m ≤ length l → m ≡ length (take m l)
 took m l h = sym (length-take-le m l h)
 
-pub took-by : (m k : ℕ) (l : List ℕ) → m ≡ k → k ≤ length l → m ≡ length (take m l)
-took-by m k l e h = took m l (omega arith)
-
 -- the surviving pairs, out of the queue
 module _ (w map sources dead queue : List ℕ) (m : ℕ) (e : spread (take m queue) ≡ pairsLeft w map sources dead) (h : m ≤ length queue) where
   pub words-left : 2 * m ≡ length (pairsLeft w map sources dead)

@@ -65,11 +65,6 @@ module _ (f : Flow) (first : ℕ) where
       go false = le-refl first
 
   module _ (le : first ≤ f .size) where
-    -- there is an answer
-    pub found-some : (rows : List ℕ) × (full : ℕ) × Found f first rows full (abandonedOf f first)
-    found-some =
-        let (c, out, s, l) = bounded f (startOf f first) (omega (arith, start-le)) (empty f) (omega (arith, empty-long f)) (empty-row f) in
-        (out, c, record { sweeps = s; left = refl })
 
     module _ (rows : List ℕ) (full lost : ℕ) (a : Found f first rows full lost) where
       -- the rows are the least solution from the final start

@@ -159,6 +159,3 @@ and-not w s t ls lt = bit-ext (bitAnd s ((2 ^ w - 1) - t)) (minus s t) (λ r. at
     at : (r : ℕ) → Dec (r < w) → bit (bitAnd s ((2 ^ w - 1) - t)) r ≡ bit (minus s t) r
     at r (yes h) = omega (arith, and-bit s ((2 ^ w - 1) - t) r, comp-bit w t r lt h, minus-bit s t r, bit-lt s r, bit-lt t r)
     at r (no n) = omega (arith, and-bit s ((2 ^ w - 1) - t) r, minus-bit s t r, bit-high s w r ls (omega arith))
-
-pub or-minus : (a b : ℕ) → bitOr a (minus b a) ≡ bitOr a b
-or-minus a b = bit-ext (bitOr a (minus b a)) (bitOr a b) (λ r. omega (arith, or-bit a (minus b a) r, or-bit a b r, minus-bit b a r, bit-lt a r, bit-lt b r))

@@ -100,15 +100,6 @@ module _ (w words : ℕ) (pos : 0 < w) (m : ℕ) (buf out s : List ℕ) (k x : �
       side (yes lt) = inl (omega (arith, row-inside words k i lt))
       side (no ge) = inr (omega (arith, row-inside words i k (omega arith)))
 
-  pub stored-small : Small w out
-  stored-small i = go (decLt i (k * words)) (decLt i (k * words + words))
-    where
-      go : Dec (i < k * words) → Dec (i < k * words + words) → getD out i 0 < 2 ^ w
-      go (yes a) d = rw (st .kept i (inl a)) (sb i)
-      go (no a) (yes b) = let e : i ≡ k * words + (i - k * words) = omega arith in
-          subst (λ (y : ℕ). getD out y 0 < 2 ^ w) (sym e) (subst (λ (y : ℕ). y < 2 ^ w) (sym (st .new (i - k * words) (omega arith))) (hs .small (i - k * words)))
-      go (no a) (no b) = rw (st .kept i (inr (omega arith))) (sb i)
-
   -- the words of a list that has s there
   at-row : (b : List ℕ) → ((j : ℕ) → j < words → getD b (k * words + j) 0 ≡ getD s j 0) → Holds w (window words k b) x
   at-row b new = holds-ext w pos s (window words k b) x hs (λ j. go j (decLt j words))

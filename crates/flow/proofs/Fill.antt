@@ -48,14 +48,6 @@ module _ (w : ℕ) (pos : 0 < w) (words at : ℕ) (buf : List ℕ) (sb : Small w
   here : Holds w (take words (drop at buf)) (value w (take words (drop at buf)))
   here = record { small = small-window w words at buf sb; is = refl }
 
-  -- a row that was read
-  pub read-row : (s : List ℕ) → Front (λ i. getD buf (at + i) 0) (λ i. 0) words s → Holds w s (value w (take words (drop at buf)))
-  read-row s h = holds-ext w pos (take words (drop at buf)) s (value w (take words (drop at buf))) here (λ i. go i (decLt i words))
-    where
-      go : (i : ℕ) → Dec (i < words) → getD s i 0 ≡ getD (take words (drop at buf)) i 0
-      go i (yes l) = h i ∙ front-in (λ j. getD buf (at + j) 0) (λ j. 0) i words l ∙ sym (window-in words at buf i l)
-      go i (no n) = h i ∙ front-past (λ j. getD buf (at + j) 0) (λ j. 0) i words (omega arith) ∙ sym (window-past words at buf i (omega arith))
-
   -- a row that was joined to a set
   pub joined-row : (s u : List ℕ) (x : ℕ) → Holds w s x → Front (λ i. bitOr (getD s i 0) (getD buf (at + i) 0)) (λ i. getD s i 0) words u
       → Holds w u (bitOr x (value w (take words (drop at buf))))

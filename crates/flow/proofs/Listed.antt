@@ -147,12 +147,3 @@ module _ (w words : ℕ) (ws : List ℕ) where
 
       count : (words - j) * w ≡ w + (words - suc j) * w
       count = ap (λ (x : ℕ). x * w) more ∙ suc-mul (words - suc j) w ∙ add-comm ((words - suc j) * w) w
-
--- the ones of words, word by word
-pub ones-none : (w : ℕ) → ones (value w []) ≡ 0
-unfolding value ones
-ones-none w = refl
-
-pub ones-words : (w x : ℕ) (xs : List ℕ) → x < 2 ^ w → ones (value w (x ∷ xs)) ≡ ones (value w xs) + ones x
-unfolding value
-ones-words w x xs l = ones-cat w (value w xs) x l

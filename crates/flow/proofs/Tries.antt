@@ -58,15 +58,6 @@ module _ (n k : ℕ) where
             ∙ ap (λ (x : ℕ). getD tries i 0 ∷ drop x tries) (sym (add-one i))
             ∙ ap (λ (x : List ℕ). getD tries i 0 ∷ x) (drop-cons tries (i + 1) 0 l ∙ ap (λ (x : ℕ). getD tries (i + 1) 0 ∷ drop x tries) two)
 
-    pub handlers-in : getD tries i 0 < k → k < getD tries (i + 1) 0 → handlersOf n k (drop i tries) ≡ min (getD tries (i + 1) 0) n ∷ handlersOf n k (drop (i + 2) tries)
-    handlers-in a b = next true (ap₂ _&&_ (lt-ltb (getD tries i 0) k a) (lt-ltb k (getD tries (i + 1) 0) b))
-
-    pub handlers-before : k ≤ getD tries i 0 → handlersOf n k (drop i tries) ≡ handlersOf n k (drop (i + 2) tries)
-    handlers-before a = next false (ap (λ (c : Bool). c && ltb k (getD tries (i + 1) 0)) (le-ltb (getD tries i 0) k a))
-
-    pub handlers-after : getD tries i 0 < k → getD tries (i + 1) 0 ≤ k → handlersOf n k (drop i tries) ≡ handlersOf n k (drop (i + 2) tries)
-    handlers-after a b = next false (ap₂ _&&_ (lt-ltb (getD tries i 0) k a) (le-ltb k (getD tries (i + 1) 0) b))
-
 module _ (regs : ℕ) (R : ℕ → ℕ) (seen : ℕ) where
   pub added-none : added regs R seen [] ≡ []
   unfolding added
@@ -75,17 +66,3 @@ module _ (regs : ℕ) (R : ℕ → ℕ) (seen : ℕ) where
   pub added-next : (h : ℕ) (hs : List ℕ) → added regs R seen (h ∷ hs) ≡ listed regs 0 (minus (R h) seen) ++ added regs R (bitOr seen (R h)) hs
   unfolding added
   added-next h hs = refl
-
--- rows that are the same where a level goes on have the same kept list
-module _ (regs : ℕ) (R S : ℕ → ℕ) where
-  added-cong : (hs : List ℕ) (seen : ℕ) → ((h : ℕ) → In h hs → R h ≡ S h) → added regs R seen hs ≡ added regs S seen hs
-  unfolding added
-  added-cong [] seen e = refl
-  added-cong (h ∷ hs) seen e =
-      ap₂ _++_ (ap (λ (x : ℕ). listed regs 0 (minus x seen)) (e h (List·Memᴰ·head refl)))
-      (ap (λ (x : ℕ). added regs R (bitOr seen x) hs) (e h (List·Memᴰ·head refl)) ∙ added-cong hs (bitOr seen (S h)) (λ t m. e t (List·Memᴰ·tail m)))
-
-  pub kept-cong : (v : Level) → R (v .resume) ≡ S (v .resume) → ((h : ℕ) → In h (v .handlers) → R h ≡ S h) → kept regs R v ≡ kept regs S v
-  kept-cong v e es =
-      ap (λ (x : ℕ). listed regs 0 (minus x (v .result)) ++ added regs R (minus x (v .result)) (v .handlers)) e
-      ∙ ap (λ (l : List ℕ). listed regs 0 (resumed S v) ++ l) (added-cong (v .handlers) (resumed S v) es)

@@ -157,15 +157,9 @@ module _ (w : ℕ) (pos : 0 < w) where
         (λ i li. or-bit (getD s (a / w) 0) (2 ^ (a % w)) i ∙ ap₂ max (word-bit s x h (a / w) i li) (pow-word a i li) ∙ sym (or-bit x (2 ^ a) (a / w * w + i)))
         (λ r n. omega (arith, or-bit x (2 ^ a) r, pow-away a r n)))
 
-    pub with-out : regs ≤ a → Holds w s (bitOr x (alone regs a))
-    with-out l = as-set h (sym (or-zero-r x) ∙ ap (bitOr x) (sym (gone l)))
-
     -- a set without register a
     pub without-in : a < regs → Holds w (set s (a / w) (minus (getD s (a / w) 0) ((1 * 2 ^ (a % w)) % 2 ^ w))) (minus x (alone regs a))
     without-in l = rw (one-shl a, here l)
         (holds-set s x (minus x (2 ^ a)) (a / w) (minus (getD s (a / w) 0) (2 ^ (a % w))) h (fits l) (minus-lt w (getD s (a / w) 0) (2 ^ (a % w)) (h .small (a / w)))
         (λ i li. minus-bit (getD s (a / w) 0) (2 ^ (a % w)) i ∙ ap₂ _-_ (word-bit s x h (a / w) i li) (pow-word a i li) ∙ sym (minus-bit x (2 ^ a) (a / w * w + i)))
         (λ r n. omega (arith, minus-bit x (2 ^ a) r, pow-away a r n)))
-
-    pub without-out : regs ≤ a → Holds w s (minus x (alone regs a))
-    without-out l = as-set h (bit-ext x (minus x (alone regs a)) (λ r. omega (arith, minus-bit x (alone regs a) r, ap (λ (y : ℕ). bit y r) (gone l), bit-zero r)))

@@ -11,9 +11,6 @@ use lib.Seq.{getD-at}
 use Rattle.laws.specs.Each.{each}
 
 module _ (g : ℕ → List ℕ) where
-  pub each-none : [] ≡ each g 0
-  unfolding each
-  each-none = refl
 
   pub each-more : (k : ℕ) → each g (k + 1) ≡ each g k ++ g k
   unfolding each

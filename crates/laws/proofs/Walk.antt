@@ -38,22 +38,12 @@ pub ruleset finds = (begins, goes-on, stops, ends)
 
 -- the same for `walk`, from a state s
 module _ {S : Type 0} (f : ℕ → S → S) (k n : ℕ) (s r : S) where
-  pub sets-out : walk f 0 n s ≡ r → walk f 0 (n - 0) s ≡ r
-  sets-out e =
-      let d : n - 0 ≡ n = omega arith in
-      rw d e
 
   pub steps : k < n → walk f k (n - k) s ≡ r → walk f (k + 1) (n - (k + 1)) (f k s) ≡ r
   unfolding walk
   steps h i =
       let d : n - k ≡ suc (n - (k + 1)) = omega arith in
       rw add-one (rw (d, add-one) at i)
-
-  pub arrives : n ≤ k → walk f k (n - k) s ≡ r → s ≡ r
-  unfolding walk
-  arrives h i =
-      let d : n - k ≡ 0 = omega arith in
-      rw d at i
 
 -- no place passes f where the walk reaches the end
 module _ (f : ℕ → Bool) (j : ℕ) where

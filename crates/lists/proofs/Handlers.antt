@@ -195,7 +195,3 @@ module _ (bits n k words : ℕ) (rows tries : List ℕ) where
             (written-more L old m out at rest (p .so) (p .fits) here later split out′ at′ z)
             (ap (λ (x : ℕ). added (words * bits) R x (handlersOf n k (drop (i + 2) tries))) (sym (g .is)));
       }
-
-pub ruleset holdings = (holding-start, holding-more, holding-end)
-
-pub ruleset keepings = (keeping-start, keeping-long, keeping-end)

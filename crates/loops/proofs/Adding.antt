@@ -116,8 +116,6 @@ unfolding many
 starts w out z = record { below = omega arith; zeroed = z; each = λ p h. z .zero p h; held = record { same = refl; tail = refl } }
 
 module _ (w out₀ out : List ℕ) (g : ℕ) (s : Counting w out₀ out g) where
-  pub whole-at : Zeroed w out₀
-  whole-at = s .zeroed
 
   pub low-at : (a e : ℕ) → e ≤ length w / 6 → Low (length w / 6 + 1) a e out
   low-at a e h =

@@ -33,16 +33,6 @@ use Rattle.steps.proofs.Resume.{resume-in}
 use Rattle.nested.specs.Machine.{Frame, Shelters}
 use Rattle.nested.specs.Raising.{stranded, raisesAt, raising, levels, argsAt, frame}
 
--- the equation as it is read: used, and after without given-up, and the handlers' rows whole
-pub row-reads : (may : ℕ → Bool) (regs : ℕ) (w tries : List ℕ) (R : ℕ → ℕ) (k : ℕ)
-    → rowAt (raising may regs w tries) R k ≡ bitOr (bitOr (setOf regs (usedAt w k)) (minus (joined R (afterAt w k)) (setOf regs (givenAt w k))))
-    (joined R (raisesAt may w tries k))
-unfolding rowAt
-row-reads may regs w tries R k = bit-ext _ _ (λ r. onto-bit R r (raisesAt may w tries k) plain ∙ sym (or-bit plain (joined R (raisesAt may w tries k)) r))
-  where
-    plain : ℕ
-    plain = bitOr (setOf regs (usedAt w k)) (minus (joined R (afterAt w k)) (setOf regs (givenAt w k)))
-
 -- ---- opcodes
 
 or-true : (a b : Bool) → (a || b) ≡ true → (a ≡ true) ⊎ (b ≡ true)

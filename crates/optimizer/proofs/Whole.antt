@@ -55,12 +55,6 @@ pass-kept bars s t h e =
     let l : length {A = ℕ} (replicate (length (s .dead)) 0) ≡ length (s .dead) = length-replicate (length (s .dead)) 0 in
     rw e (all-passed bars (chunk (s .code) (replicate (length (s .dead)) 0) (s .kinds) (s .words) (s .constants)) (rw l h))
 
-pub lent-cleared : (code dead kinds words marks : List ℕ) (k : ℕ) → Lent (chunk code dead kinds words k) → marks ≡ replicate (length dead) 0
-    → Lent (chunk code marks kinds words k)
-lent-cleared code dead kinds words marks k x e =
-    let l : length marks ≡ length dead = ap length e ∙ length-replicate (length dead) 0 in
-    record { few = x .few; marks = rw l (x .marks); kinds-room = x .kinds-room; words-room = x .words-room }
-
 -- the words of phi_sources
 pub few-phis : (w : List ℕ) (t : Tally) → t ≡ tallyOf w → length w < 2 ^ 64 → t .phis < 2 ^ 63
 unfolding tallyOf

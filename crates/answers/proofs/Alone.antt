@@ -72,10 +72,10 @@ one-fold strict b tries landings c r r′ a a′ t t′ l l′ x y =
     let e = x .allowed ∙ sym (y .allowed) in
     (x .is ∙ ap (λ (o : Called). foldTold (o .result .answer)) e ∙ sym (y .is), ap (λ (o : Called). o .result .after) e, ap (λ (o : Called). o .tries) e, ap (λ (o : Called). o .landings) e)
 
-pub one-clear : (b : clearing.Buffers) (m : ℕ) (r r′ : Answer) (a a′ : clearing.Buffers) → ClearTold b m r a → ClearTold b m r′ a′ → (r ≡ r′) × (a ≡ a′)
+pub one-clear : (b : clearing.PoolBuffers) (m : ℕ) (r r′ : Answer) (a a′ : clearing.PoolBuffers) → ClearTold b m r a → ClearTold b m r′ a′ → (r ≡ r′) × (a ≡ a′)
 one-clear b m r r′ a a′ x y =
     let e = x .allowed ∙ sym (y .allowed) in
-    (x .is ∙ ap (λ (o : clearing.Outcome). clearTold (o .answer)) e ∙ sym (y .is), ap (λ (o : clearing.Outcome). o .after) e)
+    (x .is ∙ ap (λ (o : clearing.ClearOutcome). clearTold (o .answer)) e ∙ sym (y .is), ap (λ (o : clearing.ClearOutcome). o .after) e)
 
 pub one-make : (regs : ℕ) (head : List ℕ) (r r′ : Answer) (a a′ : List ℕ) → MadeTold regs head a r → MadeTold regs head a′ r′ → (r ≡ r′) × (a ≡ a′)
 one-make regs head r r′ a a′ x y = (by-one saverTold x y (x .allowed .answer ∙ sym (y .allowed .answer)), x .allowed .words ∙ sym (y .allowed .words))

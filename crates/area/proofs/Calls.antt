@@ -9,7 +9,7 @@ use borrow.Author.Tests.{lt-ltb, le-ltb, ltb-false}
 use lib.Dec.{ltb}
 use lib.ListN.{length, getD, drop, set, length-drop}
 use lib.Seq.{sets, drop-cons}
-use Rattle.area.specs.Area.{pairsOf, entryOf, Fit, Stored, putIn, putBack, topOf}
+use Rattle.area.specs.Area.{pairsOf, entryOf, StoreRoom, EntryStored, putIn, putBack, topOf}
 use Rattle.area.specs.declared.Top.the-variants.{Entry, Bare}
 
 -- ---- an entry is being stored
@@ -17,11 +17,11 @@ use Rattle.area.specs.declared.Top.the-variants.{Entry, Bare}
 pub record Storing (file l : List ℕ) (q : ℕ) (old : List ℕ) (at : ℕ) (out : List ℕ) (p i : ℕ) : Type 0 where
   pub le : i ≤ length l
   pub here : p ≡ at + 2 * i
-  pub fit : Fit at l
+  pub fit : StoreRoom at l
   pub so : sets out p (pairsOf file (drop i l) ++ (length l ∷ q ∷ [])) ≡ sets old at (entryOf file l q)
 
 module _ (file l : List ℕ) (q : ℕ) (old : List ℕ) (at : ℕ) where
-  pub storing-start : Fit at l → Storing file l q old at old at 0
+  pub storing-start : StoreRoom at l → Storing file l q old at old at 0
   unfolding entryOf
   storing-start f = record { le = zero-le; here = omega arith; fit = f; so = refl }
 
@@ -48,7 +48,7 @@ module _ (file l : List ℕ) (q : ℕ) (old : List ℕ) (at : ℕ) where
             (pairsOf file (drop i l) ++ (length l ∷ q ∷ []))
         step = rw (e, add-one p, two, add-one i) (sym (ap (λ (x : List ℕ). sets out p (pairsOf file x ++ (length l ∷ q ∷ []))) (drop-cons l i 0 h)))
 
-    pub storing-end : length l ≤ i → Stored at file l q old (set (set out p (length l)) (p + 1) q) (p + 2)
+    pub storing-end : length l ≤ i → EntryStored at file l q old (set (set out p (length l)) (p + 1) q) (p + 2)
     unfolding pairsOf
     storing-end h = record { words = rw (add-one p) (last ∙ s .so); past = omega (arith, s .here, s .le) }
       where

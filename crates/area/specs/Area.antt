@@ -27,12 +27,12 @@ unfoldable pub entryOf : List ℕ → List ℕ → ℕ → List ℕ
 entryOf file l q = pairsOf file l ++ (length l ∷ q ∷ [])
 
 -- what `store` relies on: room for the entry, and registers that are in the file
-pub record Fit (at : ℕ) (l : List ℕ) : Type 0 where
+pub record StoreRoom (at : ℕ) (l : List ℕ) : Type 0 where
   pub room : at + (2 * length l + 2) ≤ 4096
   pub below : (i : ℕ) → i < length l → getD l i 0 < 64
 
 -- an entry is stored from `at` on, and r is the place past it
-pub record Stored (at : ℕ) (file l : List ℕ) (q : ℕ) (old new : List ℕ) (r : ℕ) : Type 0 where
+pub record EntryStored (at : ℕ) (file l : List ℕ) (q : ℕ) (old new : List ℕ) (r : ℕ) : Type 0 where
   pub words : new ≡ sets old at (entryOf file l q)
   pub past : r ≡ at + needOf l
 

@@ -1,7 +1,7 @@
 // The save area of the frame saver: an entry stored, the newest entry, registers put back (document 02, wish 4).
 ghost use mathlib.Core.Path.{_≡_};
 ghost use Prim.Native.Nat.{_+_, _*_, _<_, _≤_};
-ghost use Rattle.area.specs.Area.{freeOf, Fit, Stored, putIn, putBack, topOf};
+ghost use Rattle.area.specs.Area.{freeOf, StoreRoom, EntryStored, putIn, putBack, topOf};
 
 // The newest entry of the area: where it begins, how long its list is, and its result register.
 pub enum Top {
@@ -27,8 +27,8 @@ pub fn store(
     list: &[u16],
     result: u64,
 ) -> usize
-    requires { ⌜ Fit at (now list) ⌝ }
-    ensures { λ r. ⌜ Stored at (now (file .entry)) (now (list .entry)) result (now (area .entry)) (now (area .exit)) r ⌝ }
+    requires { ⌜ StoreRoom at (now list) ⌝ }
+    ensures { λ r. ⌜ EntryStored at (now (file .entry)) (now (list .entry)) result (now (area .entry)) (now (area .exit)) r ⌝ }
 {
     let mut p = at;
     let mut i = 0;

@@ -18,7 +18,7 @@ use Rattle.callee.specs.declared.Step.{Step}
 use Rattle.callee.specs.declared.Step.the-variants.{Pass, Back, Tell}
 use Rattle.callee.specs.declared.Callee.{Callee}
 use Rattle.callee.specs.declared.Callee.the-variants.{Bound, Unknown}
-use Rattle.callee.specs.Trace.{setsIt, passesBy, sentBack, stepAt, heard, tracedBy, traced}
+use Rattle.callee.specs.Trace.{setsIt, passesBy, sentBack, saysAt, heard, tracedBy, traced}
 
 no-tell : {A : Type 0} (p : ℕ) (v : Callee) → Back p ≡ Tell v → A
 no-tell p v e = let y : _≡_ {A = ℕ} 0 1 = cc in absurd (omega arith)
@@ -31,8 +31,8 @@ module _ (w : List ℕ) (d r p : ℕ) where
   sent-falls Nowhere f e = no-tell p Unknown e
   sent-falls (At q) f e = let z : p ≡ q = cc in pushed-falls w d r p (rw z f)
 
-  pub step-falls : Back p ≡ stepAt w d r → p < d
-  unfolding stepAt
+  pub step-falls : Back p ≡ saysAt w d r → p < d
+  unfolding saysAt
   step-falls = go (setsIt (insAt w d) r) (eqb (insAt w d .op) StoreTopR) (eqb (insAt w d .op) LoadGlobalR) (passesBy (insAt w d))
     where
       go : (s t l q : Bool)
@@ -55,7 +55,7 @@ module _ (w : List ℕ) (a : ℕ) where
       go l i = rw (le-leb p d l) i
 
   -- the trace from d is what the instruction before d says, or goes on as it says
-  pub by-step : (d : ℕ) → 0 < d → traced w a d ≡ heard (stepAt w (d - 1) a) (d - 1) (tracedBy w a (d - 1))
+  pub by-step : (d : ℕ) → 0 < d → traced w a d ≡ heard (saysAt w (d - 1) a) (d - 1) (tracedBy w a (d - 1))
   unfolding traced tracedBy
   by-step zero h = absurd (omega arith)
   by-step (suc d) h =
@@ -63,7 +63,7 @@ module _ (w : List ℕ) (a : ℕ) where
       rw (z, lt-leb (suc d) d (omega arith))
 
 -- a turn at d - 1, where what is traced from d is v
-module _ (w : List ℕ) (a d : ℕ) (v : Callee) (h : 0 < d) (whole : traced w a d ≡ v) (s : Step) (e : s ≡ stepAt w (d - 1) a) where
+module _ (w : List ℕ) (a d : ℕ) (v : Callee) (h : 0 < d) (whole : traced w a d ≡ v) (s : Step) (e : s ≡ saysAt w (d - 1) a) where
   pub passed : s ≡ Pass → traced w a (d - 1) ≡ v
   passed q = sym (left-out w a (d - 1) (d - 1) (omega arith)) ∙ rw (by-step w a d h, ← e, q) at whole
 

@@ -30,8 +30,8 @@ sentBack (At p) = Back p
 sentBack Nowhere = Tell Unknown
 
 -- what the instruction at d says of register a
-unfoldable pub stepAt : List ℕ → ℕ → ℕ → Step
-stepAt w d a =
+unfoldable pub saysAt : List ℕ → ℕ → ℕ → Step
+saysAt w d a =
     cond (setsIt (insAt w d) a)
     (cond (eqb (insAt w d .op) StoreTopR) (sentBack (pushedBack w d a))
     (cond (eqb (insAt w d .op) LoadGlobalR) (Tell (Bound (insAt w d .b))) (Tell Unknown)))
@@ -48,7 +48,7 @@ unfoldable pub tracedBy : List ℕ → ℕ → ℕ → ℕ → Callee
 tracedBy w a zero p = Unknown
 tracedBy w a (suc d) p =
     let earlier = tracedBy w a d p in
-    let here = heard (stepAt w d a) d (tracedBy w a d) in
+    let here = heard (saysAt w d a) d (tracedBy w a d) in
     cond (leb p d) earlier here
 
 -- what register a holds before j

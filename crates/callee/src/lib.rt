@@ -4,7 +4,7 @@ ghost use Prim.Native.Nat.{_<_, _≤_};
 ghost use Rattle.code.specs.Ins.{count};
 ghost use Rattle.code.specs.Check.{Valid};
 ghost use Rattle.roles.specs.Roles.{roleTable};
-ghost use Rattle.callee.specs.Trace.{setsIt, passesBy, stepAt, traced, globalOf};
+ghost use Rattle.callee.specs.Trace.{setsIt, passesBy, saysAt, traced, globalOf};
 ghost use Rattle.callee.specs.Answers.{globalAnswer};
 use code::Answer;
 use code::Checked;
@@ -49,7 +49,7 @@ fn passes_by(roles: &[u8; 1280], i: Ins) -> bool
 // What the instruction at d says of register a.
 fn step_at(roles: &[u8; 1280], code: &[u16], d: usize, a: u16) -> Step
     requires { ⌜ (now roles ≡ roleTable) × Valid (now code) × (d < count (now code)) ⌝ }
-    ensures { λ v. ⌜ v ≡ stepAt (now (code .entry)) d a ⌝ }
+    ensures { λ v. ⌜ v ≡ saysAt (now (code .entry)) d a ⌝ }
 {
     let i = code::ins_at(code, d);
     if sets_it(roles, i, a) {

@@ -13,11 +13,11 @@ use mir.Syntax.{w64}
 use mir.Val.{toZ, ofZ}
 use borrow.Author.Tests.{lt-ltb, le-ltb, ltb-true}
 use Rattle.values.proofs.Word.{back-ok}
-use Rattle.values.specs.Folds.{Small, Sound, inRange}
+use Rattle.values.specs.Folds.{SmallInt, SoundInt, inRange}
 use Rattle.values.specs.declared.Val.{Val}
 use Rattle.values.specs.declared.Val.the-variants.{Int, Float as Real, Bool as Truth}
 use Rattle.values.specs.declared.Maybe.the-variants.{Is, Nothing}
-use Rattle.chunk.specs.Pool.{Room, Stored, toVal, position, stored, findOrPush, findOrPushConst}
+use Rattle.chunk.specs.Pool.{PushRoom, Stored, toVal, position, stored, findOrPush, findOrPushConst}
 use Rattle.chunk.specs.declared.Kept.{Kept}
 use Rattle.chunk.specs.declared.Kept.the-variants.{At, Full}
 
@@ -34,7 +34,7 @@ module _ (kinds words : List ℕ) (count k w i : ℕ) (e : i ≡ position kinds 
   unfolding findOrPush
   no-room h l = rw (sym e, le-ltb i count h, le-ltb count 65535 l) refl
 
-module _ {kinds words : List ℕ} {count : ℕ} (r : Room kinds words count) (h : count < 65535) where
+module _ {kinds words : List ℕ} {count : ℕ} (r : PushRoom kinds words count) (h : count < 65535) where
   pub kinds-room : count < length kinds
   kinds-room = r .kinds-more h
 
@@ -57,21 +57,21 @@ module _ {v : Val} (kinds words : List ℕ) (count : ℕ) where
 -- ---- what the pool gives back
 
 -- an operand's int is in range
-pub val-sound : (k w : ℕ) (v : Val) → toVal k w ≡ Is v → Sound v
+pub val-sound : (k w : ℕ) (v : Val) → toVal k w ≡ Is v → SoundInt v
 unfolding toVal inRange
 val-sound k w v e = go (eqb k 1) (eqb k 2) (eqb k 3) e
   where
-    no : Nothing ≡ Is v → Sound v
+    no : Nothing ≡ Is v → SoundInt v
     no e = absurd (let z : _≡_ {A = ℕ} 0 1 = cc in omega arith)
 
-    plain : (u : Val) → Sound u → Is u ≡ Is v → Sound v
+    plain : (u : Val) → SoundInt u → Is u ≡ Is v → SoundInt v
     plain u h e = let s : u ≡ v = cc in rw (sym s) h
 
-    small : (z : ℤ) (t : Bool) → ltb (mag z) (2 ^ 47) ≡ t → cond t (Is (Int z)) Nothing ≡ Is v → Sound v
+    small : (z : ℤ) (t : Bool) → ltb (mag z) (2 ^ 47) ≡ t → cond t (Is (Int z)) Nothing ≡ Is v → SoundInt v
     small z true h e = plain (Int z) (record { small = ltb-true (mag z) (2 ^ 47) h }) e
     small z false h e = no e
 
-    go : (a b d : Bool) → cond a (inRange (toZ w64 w)) (cond b (Is (Real (ofBits binary64 w))) (cond d (Is (Truth (not (eqb w 0)))) Nothing)) ≡ Is v → Sound v
+    go : (a b d : Bool) → cond a (inRange (toZ w64 w)) (cond b (Is (Real (ofBits binary64 w))) (cond d (Is (Truth (not (eqb w 0)))) Nothing)) ≡ Is v → SoundInt v
     go true b d e = small (toZ w64 w) (ltb (mag (toZ w64 w)) (2 ^ 47)) refl e
     go false true d e = plain (Real (ofBits binary64 w)) tt e
     go false false true e = plain (Truth (not (eqb w 0))) tt e

@@ -60,7 +60,7 @@ findOrPushConst kinds words count (Real x) = findOrPush kinds words count 2 (toB
 findOrPushConst kinds words count (Truth b) = stored Full kinds words
 
 -- the constants are there, with room for one more where one may come
-pub record Room (kinds words : List ℕ) (count : ℕ) : Type 0 where
+pub record PushRoom (kinds words : List ℕ) (count : ℕ) : Type 0 where
   pub few : count ≤ 65536
   pub kinds-there : count ≤ length kinds
   pub words-there : count ≤ length words

@@ -8,7 +8,7 @@ ghost use lib.Ieee.{binary64, ofBits, toBits};
 ghost use mir.Syntax.{w64};
 ghost use mir.Val.{toZ, ofZ};
 ghost use Rattle.values.specs.Folds.{inRange};
-ghost use Rattle.chunk.specs.Pool.{Room, toVal, constToVal, equals, position, stored, findOrPush, findOrPushConst};
+ghost use Rattle.chunk.specs.Pool.{PushRoom, toVal, constToVal, equals, position, stored, findOrPush, findOrPushConst};
 
 // Where a result is kept: its index and the new count, or no room.
 pub enum Kept {
@@ -26,7 +26,7 @@ const MAX_CONSTANTS: usize = 65535;
 
 // The first equal constant; otherwise it is pushed.
 pub fn find_or_push_const(kinds: &mut [u8], words: &mut [u64], count: usize, v: Val) -> Kept
-    requires { ⌜ Room (now kinds) (now words) count ⌝ }
+    requires { ⌜ PushRoom (now kinds) (now words) count ⌝ }
     ensures { λ r. ⌜ stored r (now (kinds .exit)) (now (words .exit)) ≡ findOrPushConst (now (kinds .entry)) (now (words .entry)) count v ⌝ }
 {
     match v {
@@ -48,7 +48,7 @@ pub fn const_to_val(kinds: &[u8], words: &[u64], count: usize, idx: usize) -> Ma
 }
 
 fn find_or_push(kinds: &mut [u8], words: &mut [u64], count: usize, kind: u8, word: u64) -> Kept
-    requires { ⌜ Room (now kinds) (now words) count ⌝ }
+    requires { ⌜ PushRoom (now kinds) (now words) count ⌝ }
     ensures { λ r. ⌜ stored r (now (kinds .exit)) (now (words .exit)) ≡ findOrPush (now (kinds .entry)) (now (words .entry)) count kind word ⌝ }
 {
     let pos = find(kinds, words, count, kind, word);

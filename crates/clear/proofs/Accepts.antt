@@ -15,13 +15,13 @@ use Rattle.code.specs.Op.{Phi}
 use Rattle.code.specs.declared.Checked.{Checked}
 use Rattle.code.specs.declared.Checked.the-variants.{Count, No}
 use Rattle.code.proofs.Stages.{room-before, room-there}
-use Rattle.lent.specs.Chunk.{count, isPhi}
+use Rattle.lent.specs.Chunk.{chunkCount, isPhi}
 use Rattle.lent.specs.Tables.{constantKept, within, constantsKept, mapKept, pairsKept, tableOf}
-use Rattle.lent.specs.Check.{checkOf, tablesOf, tallyOf, constantRoom, sourceRoom, roomsOf, readyOf}
+use Rattle.lent.specs.Check.{chunkCheckOf, tablesOf, tallyOf, constantRoom, sourceRoom, roomsOf, readyOf}
 use Rattle.lent.specs.declared.Counts.{Counts}
 use Rattle.lent.specs.declared.Lens.{Lens}
 use Rattle.lent.proofs.Kept.{few, kinds-there, words-there}
-use Rattle.named.specs.Unused.{named, before, pooled, recoded}
+use Rattle.named.specs.Unused.{constantNamed, before, pooled, recoded}
 use Rattle.lent.proofs.Counting.{many-ext}
 use Rattle.clear.proofs.Tested.{table-met, check-met, whole-of}
 use Rattle.clear.proofs.Loads.{recoded-count, recoded-op}
@@ -41,10 +41,10 @@ pub tally-same : (number : ℕ → ℕ) (m : ℕ) (w : List ℕ) → tallyOf (re
 unfolding tallyOf
 tally-same number m w = rw (operators-same number m w, phis)
   where
-    phis : many (isPhi (recoded number m w)) (count (recoded number m w)) ≡ many (isPhi w) (count w)
+    phis : many (isPhi (recoded number m w)) (chunkCount (recoded number m w)) ≡ many (isPhi w) (chunkCount w)
     phis =
         ap (many (isPhi (recoded number m w))) (recoded-count number m w)
-        ∙ many-ext (isPhi (recoded number m w)) (isPhi w) (count w) (λ k h. ap (λ (o : ℕ). eqb o Phi) (recoded-op number m w k h))
+        ∙ many-ext (isPhi (recoded number m w)) (isPhi w) (chunkCount w) (λ k h. ap (λ (o : ℕ). eqb o Phi) (recoded-op number m w k h))
 
 -- the counts after the call
 abbrev pub countsAfter : List ℕ → Counts → Counts
@@ -67,27 +67,27 @@ module _ (n : ℕ) (w tries kinds words : List ℕ) (c : Counts) (l : Lens) wher
   w′ = recoded (before w) m w
 
   abbrev kinds′ : List ℕ
-  kinds′ = pooled (named w) m kinds
+  kinds′ = pooled (constantNamed w) m kinds
 
   abbrev words′ : List ℕ
-  words′ = pooled (named w) m words
+  words′ = pooled (constantNamed w) m words
 
-  tables-again : tablesOf (triedOf (checkOf w) tries) (count w) kinds words c l ≡ Count n
-      → tablesOf (triedOf (checkOf w′) tries) (count w′) kinds′ words′ (countsAfter w c) l ≡ Count n
+  tables-again : tablesOf (triedOf (chunkCheckOf w) tries) (chunkCount w) kinds words c l ≡ Count n
+      → tablesOf (triedOf (chunkCheckOf w′) tries) (chunkCount w′) kinds′ words′ (countsAfter w c) l ≡ Count n
   unfolding tablesOf
   tables-again e =
       let t₅ = table-met n _ 5 (pairsKept (c .calls) (l .calls)) (sym e) in
       let t₄ = table-met n _ 4 (pairsKept (c .stmts) (l .stmts)) (sym (t₅ .0)) in
       let t₃ = table-met n _ 3 (pairsKept (c .sources) (l .sources)) (sym (t₄ .0)) in
-      let t₂ = table-met n _ 2 (mapKept (count w) (c .map) (l .map)) (sym (t₃ .0)) in
-      let t₁ = table-met n (triedOf (checkOf w) tries) 1 (constantsKept kinds words m) (sym (t₂ .0)) in
+      let t₂ = table-met n _ 2 (mapKept (chunkCount w) (c .map) (l .map)) (sym (t₃ .0)) in
+      let t₁ = table-met n (triedOf (chunkCheckOf w) tries) 1 (constantsKept kinds words m) (sym (t₂ .0)) in
       let p = and-true (within m (length kinds) (length words)) (every (constantKept kinds words) m) (t₁ .1) in
-      let long = whole-of w (check-met n w (sym (tried-met n (checkOf w) tries (t₁ .0)))) in
+      let long = whole-of w (check-met n w (sym (tried-met n (chunkCheckOf w) tries (t₁ .0)))) in
       let k = constants-same w kinds words m (kinds-there m (length kinds) (length words) (p .0)) (words-there m (length kinds) (length words) (p .0))
       (few m (length kinds) (length words) (p .0)) (p .1) in
-      let s₁ = table-on n (triedOf (checkOf w′) tries) 1 (constantsKept kinds′ words′ (before w m))
+      let s₁ = table-on n (triedOf (chunkCheckOf w′) tries) 1 (constantsKept kinds′ words′ (before w m))
       (ap (λ (v : Checked). triedOf v tries) (check-same (before w) m w long) ∙ t₁ .0) k in
-      let s₂ = table-on n _ 2 (mapKept (count w′) (c .map) (l .map)) s₁ (rw (recoded-count (before w) m w) (t₂ .1)) in
+      let s₂ = table-on n _ 2 (mapKept (chunkCount w′) (c .map) (l .map)) s₁ (rw (recoded-count (before w) m w) (t₂ .1)) in
       let s₃ = table-on n _ 3 (pairsKept (c .sources) (l .sources)) s₂ (t₃ .1) in
       let s₄ = table-on n _ 4 (pairsKept (c .stmts) (l .stmts)) s₃ (t₄ .1) in
       table-on n _ 5 (pairsKept (c .calls) (l .calls)) s₄ (t₅ .1)
@@ -98,28 +98,28 @@ module _ (n : ℕ) (w tries kinds words : List ℕ) (c : Counts) (l : Lens) wher
   rooms-again v v′ on e =
       let f = tallyOf w .folding in
       let g = tally-same (before w) m w in
-      let r₆ = room-met n _ 6 (l .remap) (count w + 1) e in
-      let r₅ = room-met n _ 5 (l .dead) (count w) (r₆ .0) in
+      let r₆ = room-met n _ 6 (l .remap) (chunkCount w + 1) e in
+      let r₅ = room-met n _ 5 (l .dead) (chunkCount w) (r₆ .0) in
       let r₄ = room-met n _ 4 (l .sources) (sourceRoom (c .sources) (tallyOf w .phis)) (r₅ .0) in
-      let r₃ = room-met n _ 3 (l .map) (count w) (r₄ .0) in
+      let r₃ = room-met n _ 3 (l .map) (chunkCount w) (r₄ .0) in
       let r₂ = room-met n _ 2 (l .words) (constantRoom m f) (r₃ .0) in
       let r₁ = room-met n v 1 (l .kinds) (constantRoom m f) (r₂ .0) in
       let s₁ = room-on n v′ 1 (l .kinds) (constantRoom (before w m) f) (on (r₁ .0)) (room-down (before w m) m f (l .kinds) (no-more w m) (r₁ .1)) in
       let s₂ = room-on n _ 2 (l .words) (constantRoom (before w m) f) s₁ (room-down (before w m) m f (l .words) (no-more w m) (r₂ .1)) in
-      let s₃ = room-on n _ 3 (l .map) (count w) s₂ (r₃ .1) in
+      let s₃ = room-on n _ 3 (l .map) (chunkCount w) s₂ (r₃ .1) in
       let s₄ = room-on n _ 4 (l .sources) (sourceRoom (c .sources) (tallyOf w .phis)) s₃ (r₄ .1) in
-      let s₅ = room-on n _ 5 (l .dead) (count w) s₄ (r₅ .1) in
-      rw (g, recoded-count (before w) m w) (room-on n _ 6 (l .remap) (count w + 1) s₅ (r₆ .1))
+      let s₅ = room-on n _ 5 (l .dead) (chunkCount w) s₄ (r₅ .1) in
+      rw (g, recoded-count (before w) m w) (room-on n _ 6 (l .remap) (chunkCount w + 1) s₅ (r₆ .1))
 
   pub accepted-after : (landings : ℕ) → readyOf w tries kinds words c l landings ≡ Count n
       → readyOf w′ tries kinds′ words′ (countsAfter w c) l landings ≡ Count n
   unfolding readyOf
   accepted-after landings e =
-      let r₇ = room-met n (roomsOf (tablesOf (triedOf (checkOf w) tries) (count w) kinds words c l) w c l) 7 landings (count w + 1) e in
+      let r₇ = room-met n (roomsOf (tablesOf (triedOf (chunkCheckOf w) tries) (chunkCount w) kinds words c l) w c l) 7 landings (chunkCount w + 1) e in
       let s₆ =
-      rooms-again (tablesOf (triedOf (checkOf w) tries) (count w) kinds words c l) (tablesOf (triedOf (checkOf w′) tries) (count w′) kinds′ words′
+      rooms-again (tablesOf (triedOf (chunkCheckOf w) tries) (chunkCount w) kinds words c l) (tablesOf (triedOf (chunkCheckOf w′) tries) (chunkCount w′) kinds′ words′
       (countsAfter w c) l) tables-again (r₇ .0)
       in
-      room-on n (roomsOf (tablesOf (triedOf (checkOf w′) tries) (count w′) kinds′ words′ (countsAfter w c) l) w′ (countsAfter w c) l) 7 landings
-      (count w′ + 1) s₆
+      room-on n (roomsOf (tablesOf (triedOf (chunkCheckOf w′) tries) (chunkCount w′) kinds′ words′ (countsAfter w c) l) w′ (countsAfter w c) l) 7 landings
+      (chunkCount w′ + 1) s₆
       (rw (recoded-count (before w) m w) (r₇ .1))

@@ -10,7 +10,7 @@ use lib.ListN.{length, getD}
 use borrow.Author.Tests.{lt-ltb, le-ltb}
 use Rattle.laws.specs.Some.{some}
 use Rattle.code.specs.Op.{LoadConst}
-use Rattle.lent.specs.Chunk.{stride, count, opAt, markAt, operandAt, jumps, names, isPhi, lands}
+use Rattle.lent.specs.Chunk.{stride, chunkCount, opAt, markAt, operandAt, marksJump, names, isPhi, lands}
 use Rattle.values.specs.Folds.{foldBinop}
 use Rattle.values.specs.declared.Val.{Val}
 use Rattle.values.specs.declared.Maybe.{Maybe}
@@ -52,7 +52,7 @@ pub record Alike (limit : ℕ) (s t : Chunk) : Type 0 where
   pub loads : (k : ℕ) → names (s .code) k ≡ true → Loads limit s t (operandAt (s .code) k) (operandAt (t .code) k)
   -- as the record rules have it
   pub consts : (k : ℕ) → eqb (opAt (s .code) k) LoadConst ≡ true → names (s .code) k ≡ true
-  pub apart : (k : ℕ) → names (s .code) k ≡ true → jumps (s .code) k ≡ false
+  pub apart : (k : ℕ) → names (s .code) k ≡ true → marksJump (s .code) k ≡ false
   pub free : (k : ℕ) → names (s .code) k ≡ true → isPhi (s .code) k ≡ false
 
 found-both : {f f′ : Found} {g h : ℕ → Plan} → f ≡ f′ → ((p : ℕ) → g p ≡ h p) → withFound f g ≡ withFound f′ h
@@ -103,8 +103,8 @@ module _ {limit : ℕ} {s t : Chunk} (a : Alike limit s t) where
       go : (b : Bool) → names (s .code) k ≡ b → lands (s .code) p i k ≡ lands (t .code) p i k
       go false n = rw (a .marks k, a .plain k n)
       go true n =
-          let j : jumps (s .code) k ≡ false = a .apart k n in
-          let j′ : jumps (t .code) k ≡ false = sym (ap (λ (x : ℕ). eqb (x % 2) 1) (a .marks k)) ∙ j in
+          let j : marksJump (s .code) k ≡ false = a .apart k n in
+          let j′ : marksJump (t .code) k ≡ false = sym (ap (λ (x : ℕ). eqb (x % 2) 1) (a .marks k)) ∙ j in
           rw (j, j′)
 
   blocked-same : (bars : ℕ → Bool) (p i : ℕ) → blocked bars (s .code) p i ≡ blocked bars (t .code) p i
@@ -116,9 +116,9 @@ module _ {limit : ℕ} {s t : Chunk} (a : Alike limit s t) where
   unfolding barred landsAny
   bars-same strict tries i =
       fun-ext (λ p.
-      let c : count (s .code) ≡ count (t .code) = ap (λ (x : ℕ). x / stride) (a .long) in
-      let e : some (lands (s .code) p i) (count (s .code)) ≡ some (lands (t .code) p i) (count (t .code)) =
-      ap (some (lands (s .code) p i)) c ∙ some-ext (lands (s .code) p i) (lands (t .code) p i) (count (t .code)) (lands-same p i) in
+      let c : chunkCount (s .code) ≡ chunkCount (t .code) = ap (λ (x : ℕ). x / stride) (a .long) in
+      let e : some (lands (s .code) p i) (chunkCount (s .code)) ≡ some (lands (t .code) p i) (chunkCount (t .code)) =
+      ap (some (lands (s .code) p i)) c ∙ some-ext (lands (s .code) p i) (lands (t .code) p i) (chunkCount (t .code)) (lands-same p i) in
       ap (λ (b : Bool). strict && (b || handlesAny tries p i)) e)
 
   module _ (bars : ℕ → Bool) (i : ℕ) (low : s .constants ≤ limit) (low′ : t .constants ≤ limit) where

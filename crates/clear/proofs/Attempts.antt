@@ -13,13 +13,13 @@ use mir.Val.{ofZ}
 use lib.Ieee.{binary64, toBits}
 use borrow.Author.Tests.{eqb-true}
 use Rattle.code.specs.Op.{LoadConst, LoadTrue, LoadFalse, Phi}
-use Rattle.lent.specs.Chunk.{stride, count, markAt, operandAt, names}
+use Rattle.lent.specs.Chunk.{stride, chunkCount, markAt, operandAt, names}
 use Rattle.values.specs.declared.Val.{Val}
 use Rattle.values.specs.declared.Val.the-variants.{Int, Float as Real, Bool as Truth}
 use Rattle.chunk.specs.Pool.{Stored, stored, findOrPush, findOrPushConst}
 use Rattle.chunk.specs.declared.Kept.the-variants.{At}
 use Rattle.fold.specs.Plan.{Chunk, chunk, planAt}
-use Rattle.fold.specs.Pass.{loadOf, constLoad, markOf, put, landed, applied, tryFold, Ready}
+use Rattle.fold.specs.Pass.{loadOf, constLoad, markOf, put, landed, applied, tryFold, OperatorRoom}
 use Rattle.fold.specs.declared.Plan.{Plan}
 use Rattle.fold.specs.declared.Plan.the-variants.{Stay, Put}
 use Rattle.fold.proofs.Planned.{planned}
@@ -61,10 +61,10 @@ loads-grew : {limit : ℕ} {s t : Chunk} {v u : ℕ} {S T : Chunk} → Grew (s .
     → Grew (t .kinds) (t .words) (t .constants) (T .kinds) (T .words) (T .constants) → Loads limit s t v u → Loads limit S T v u
 loads-grew {s = s} {t = t} gs gt l = ⊎-elim (λ x. inl (load-grew {s = s} {t = t} gs gt x)) (λ x. inr x) l
 
-module _ {limit : ℕ} {s t : Chunk} (a : Alike limit s t) (p q i o x y : ℕ) (h : p < count (s .code)) (ks ws : List ℕ) (n : ℕ) (kt wt : List ℕ) (m : ℕ)
+module _ {limit : ℕ} {s t : Chunk} (a : Alike limit s t) (p q i o x y : ℕ) (h : p < chunkCount (s .code)) (ks ws : List ℕ) (n : ℕ) (kt wt : List ℕ) (m : ℕ)
     (gs : Grew (s .kinds) (s .words) (s .constants) ks ws n) (gt : Grew (t .kinds) (t .words) (t .constants) kt wt m)
     (con : eqb o LoadConst ≡ true → SameLoad (wrote s p q i o x ks ws n) (wrote t p q i o y kt wt m) x y) (non : eqb o LoadConst ≡ false → x ≡ y) where
-  h′ : p < count (t .code)
+  h′ : p < chunkCount (t .code)
   h′ = omega (arith, a .long)
 
   names-here : names (put (s .code) p o x) p ≡ eqb o LoadConst
@@ -127,7 +127,7 @@ settled-at : (r : Stored) (x n : ℕ) (ks ws : List ℕ) (p q i : ℕ) (s : Chun
 unfolding landed
 settled-at r x n ks ws p q i s e = rw (← e)
 
-module _ {limit : ℕ} {s t : Chunk} (z : Sim limit s t) (p q i : ℕ) (h : p < count (s .code)) where
+module _ {limit : ℕ} {s t : Chunk} (z : Sim limit s t) (p q i : ℕ) (h : p < chunkCount (s .code)) where
   module _ (few : s .constants < 65535) (a : s .constants < length (s .kinds)) (b : s .constants < length (s .words)) (c : t .constants < length (t .kinds))
       (d : t .constants < length (t .words)) where
     pool-sim : (k w : ℕ) → Sim limit (settled (findOrPush (s .kinds) (s .words) (s .constants) k w) p q i s)
@@ -172,7 +172,7 @@ module _ (bars : ℕ → Bool) (i : ℕ) (s : Chunk) where
   unfolding tryFold
   try-dead e = rw e
 
-applied-sim : {limit : ℕ} (bars : ℕ → Bool) (i : ℕ) (s t : Chunk) → Sim limit s t → s .constants < 65535 → Ready s i → Ready t i → (plan : Plan)
+applied-sim : {limit : ℕ} (bars : ℕ → Bool) (i : ℕ) (s t : Chunk) → Sim limit s t → s .constants < 65535 → OperatorRoom s i → OperatorRoom t i → (plan : Plan)
     → planAt bars i s ≡ plan → planAt bars i t ≡ plan
     → Sim limit (applied plan i s) (applied plan i t)
 unfolding applied
@@ -186,7 +186,7 @@ applied-sim bars i s t z few r r′ (Put p q v) e f =
     put-sim z p q i (omega (arith, x .first, r .readable .here)) v few (m .kinds-more few) (m .words-more few) (m′ .kinds-more (omega arith))
     (m′ .words-more (omega arith))
 
-pub try-sim : {limit : ℕ} (bars : ℕ → Bool) (i : ℕ) (s t : Chunk) → Sim limit s t → s .constants ≤ limit → s .constants < 65535 → Ready s i → Ready t i
+pub try-sim : {limit : ℕ} (bars : ℕ → Bool) (i : ℕ) (s t : Chunk) → Sim limit s t → s .constants ≤ limit → s .constants < 65535 → OperatorRoom s i → OperatorRoom t i
     → Sim limit (tryFold bars i s) (tryFold bars i t)
 try-sim {limit} bars i s t z low few r r′ = go (eqb (getD (s .dead) i 0) 0) refl
   where

@@ -10,39 +10,39 @@ use Rattle.laws.specs.All.{every, many}
 use Rattle.laws.specs.Each.{each}
 use Rattle.laws.specs.Some.{some}
 use Rattle.laws.specs.Walk.{first}
-use Rattle.lent.specs.Chunk.{folds, rules, lands}
-use Rattle.lent.specs.Check.{checkOf}
+use Rattle.lent.specs.Chunk.{folds, chunkRules, lands}
+use Rattle.lent.specs.Check.{chunkCheckOf}
 use Rattle.values.specs.Folds.{foldBinop, ints, inRange}
 use Rattle.chunk.specs.Pool.{toVal, constToVal, findOrPush, findOrPushConst}
 use Rattle.landings.specs.Landings.{barred}
-use Rattle.fold.specs.Plan.{Chunk, chunk, page, kindOf, prevLive, skipsInto, blocked, tryFoldBinop, planFor, planAt}
+use Rattle.fold.specs.Plan.{Chunk, chunk, operatorPage, kindOf, prevLive, skipsInto, blocked, tryFoldBinop, planFor, planAt}
 use Rattle.fold.specs.Plan as plan
 use Rattle.fold.specs.Pass.{constLoad, markOf, put, landed, applied, tryFold, byScan, folded, foldAll}
-use Rattle.named.specs.Unused.{named, kept, pooled, renumbered, operandOf, recoded, numbered, loaded}
-use Rattle.clear.specs.Clear.{Is, No, buffers, outcome, cleared, readyOf, clearCall}
+use Rattle.named.specs.Unused.{constantNamed, packedList, pooled, renumbered, renamedOperand, recoded, numbered, loaded}
+use Rattle.clear.specs.Clear.{Is, No, poolBuffers, clearOutcome, cleared, clearReadyOf, clearCall}
 use Rattle.clear.proofs.Room.{clearedChunk}
 
 -- LoadConst 2; jump 1, pool 2, 3 and 5: 5 alone is left, and loaded
-pub p13-cleared : clearCall (buffers (LoadConst ∷ 2 ∷ 2 ∷ 5 ∷ Jump ∷ 1 ∷ 1 ∷ 6 ∷ 0 ∷ 0 ∷ 0 ∷ 0 ∷ 0 ∷ 0 ∷ 0 ∷ 0 ∷ []) (1 ∷ 1 ∷ 1 ∷ 9 ∷ []) (2 ∷ 3 ∷ 5 ∷ 9 ∷ [])
+pub p13-cleared : clearCall (poolBuffers (LoadConst ∷ 2 ∷ 2 ∷ 5 ∷ Jump ∷ 1 ∷ 1 ∷ 6 ∷ 0 ∷ 0 ∷ 0 ∷ 0 ∷ 0 ∷ 0 ∷ 0 ∷ 0 ∷ []) (1 ∷ 1 ∷ 1 ∷ 9 ∷ []) (2 ∷ 3 ∷ 5 ∷ 9 ∷ [])
     (9 ∷ 9 ∷ 9 ∷ 9 ∷ [])) 3
-    ≡ outcome (Is 1) (buffers (LoadConst ∷ 2 ∷ 0 ∷ 5 ∷ Jump ∷ 1 ∷ 1 ∷ 6 ∷ 0 ∷ 0 ∷ 0 ∷ 0 ∷ 0 ∷ 0 ∷ 0 ∷ 0 ∷ []) (1 ∷ 0 ∷ 0 ∷ 9 ∷ []) (5 ∷ 0 ∷ 0 ∷ 9 ∷ [])
+    ≡ clearOutcome (Is 1) (poolBuffers (LoadConst ∷ 2 ∷ 0 ∷ 5 ∷ Jump ∷ 1 ∷ 1 ∷ 6 ∷ 0 ∷ 0 ∷ 0 ∷ 0 ∷ 0 ∷ 0 ∷ 0 ∷ 0 ∷ []) (1 ∷ 0 ∷ 0 ∷ 9 ∷ []) (5 ∷ 0 ∷ 0 ∷ 9 ∷ [])
     (0 ∷ 0 ∷ 0 ∷ 9 ∷ []))
-unfolding clearCall cleared readyOf checkOf rules folds every many each first some named kept pooled renumbered operandOf recoded numbered
+unfolding clearCall cleared clearReadyOf chunkCheckOf chunkRules folds every many each first some constantNamed packedList pooled renumbered renamedOperand recoded numbered
 p13-cleared = refl
 
 -- operands 7, 2, 0 and 2 of three constants: the second goes, and 7 stays
-pub past-the-count : clearCall (buffers (LoadConst ∷ 2 ∷ 7 ∷ 5 ∷ LoadConst ∷ 2 ∷ 2 ∷ 6 ∷ LoadConst ∷ 2 ∷ 0 ∷ 7 ∷ LoadConst ∷ 2 ∷ 2 ∷ 8 ∷ [])
+pub past-the-count : clearCall (poolBuffers (LoadConst ∷ 2 ∷ 7 ∷ 5 ∷ LoadConst ∷ 2 ∷ 2 ∷ 6 ∷ LoadConst ∷ 2 ∷ 0 ∷ 7 ∷ LoadConst ∷ 2 ∷ 2 ∷ 8 ∷ [])
     (1 ∷ 2 ∷ 3 ∷ 9 ∷ []) (4 ∷ 5 ∷ 1 ∷ 9 ∷ []) (9 ∷ 9 ∷ 9 ∷ 9 ∷ [])) 3
-    ≡ outcome (Is 2)
-    (buffers (LoadConst ∷ 2 ∷ 7 ∷ 5 ∷ LoadConst ∷ 2 ∷ 1 ∷ 6 ∷ LoadConst ∷ 2 ∷ 0 ∷ 7 ∷ LoadConst ∷ 2 ∷ 1 ∷ 8 ∷ []) (1 ∷ 3 ∷ 0 ∷ 9 ∷ []) (4 ∷ 1 ∷ 0 ∷ 9 ∷ [])
+    ≡ clearOutcome (Is 2)
+    (poolBuffers (LoadConst ∷ 2 ∷ 7 ∷ 5 ∷ LoadConst ∷ 2 ∷ 1 ∷ 6 ∷ LoadConst ∷ 2 ∷ 0 ∷ 7 ∷ LoadConst ∷ 2 ∷ 1 ∷ 8 ∷ []) (1 ∷ 3 ∷ 0 ∷ 9 ∷ []) (4 ∷ 1 ∷ 0 ∷ 9 ∷ [])
     (0 ∷ 1 ∷ 1 ∷ 9 ∷ []))
-unfolding clearCall cleared readyOf checkOf rules folds every many each first some named kept pooled renumbered operandOf recoded numbered
+unfolding clearCall cleared clearReadyOf chunkCheckOf chunkRules folds every many each first some constantNamed packedList pooled renumbered renamedOperand recoded numbered
 past-the-count = refl
 
 -- three constants, and scratch of two words
-pub short-scratch : clearCall (buffers (LoadConst ∷ 2 ∷ 2 ∷ 5 ∷ []) (1 ∷ 1 ∷ 1 ∷ []) (2 ∷ 3 ∷ 5 ∷ []) (9 ∷ 9 ∷ [])) 3
-    ≡ outcome (No (Short 1 3)) (buffers (LoadConst ∷ 2 ∷ 2 ∷ 5 ∷ []) (1 ∷ 1 ∷ 1 ∷ []) (2 ∷ 3 ∷ 5 ∷ []) (9 ∷ 9 ∷ []))
-unfolding clearCall readyOf checkOf rules folds every first
+pub short-scratch : clearCall (poolBuffers (LoadConst ∷ 2 ∷ 2 ∷ 5 ∷ []) (1 ∷ 1 ∷ 1 ∷ []) (2 ∷ 3 ∷ 5 ∷ []) (9 ∷ 9 ∷ [])) 3
+    ≡ clearOutcome (No (Short 1 3)) (poolBuffers (LoadConst ∷ 2 ∷ 2 ∷ 5 ∷ []) (1 ∷ 1 ∷ 1 ∷ []) (2 ∷ 3 ∷ 5 ∷ []) (9 ∷ 9 ∷ []))
+unfolding clearCall clearReadyOf chunkCheckOf chunkRules folds every first
 short-scratch = refl
 
 -- 2 + 3 with a constant 7 that nobody names, and a LoadConst past the count
@@ -52,10 +52,10 @@ late = chunk (LoadConst ∷ 2 ∷ 1 ∷ 5 ∷ LoadConst ∷ 2 ∷ 2 ∷ 6 ∷ Ad
 
 -- uncleared, the sum is pushed to 3, where the last LoadConst loads it
 pub late-load : loaded (foldAll (byScan false []) late .words) (foldAll (byScan false []) late .constants) 3 ≡ 5 ∷ []
-unfolding loaded foldAll folded tryFold applied landed put markOf constLoad planAt planFor kindOf page tryFoldBinop prevLive plan.operandOf blocked barred lands skipsInto constToVal toVal foldBinop ints inRange findOrPushConst findOrPush first
+unfolding loaded foldAll folded tryFold applied landed put markOf constLoad planAt planFor kindOf operatorPage tryFoldBinop prevLive plan.operandOf blocked barred lands skipsInto constToVal toVal foldBinop ints inRange findOrPushConst findOrPush first
 late-load = refl
 
 -- cleared, it is pushed to 2, and the last LoadConst still loads nothing
 pub late-none : loaded (foldAll (byScan false []) (clearedChunk late) .words) (foldAll (byScan false []) (clearedChunk late) .constants) 3 ≡ []
-unfolding loaded foldAll folded tryFold applied landed put markOf constLoad planAt planFor kindOf page tryFoldBinop prevLive plan.operandOf blocked barred lands skipsInto constToVal toVal foldBinop ints inRange findOrPushConst findOrPush first many each some named kept pooled renumbered operandOf recoded
+unfolding loaded foldAll folded tryFold applied landed put markOf constLoad planAt planFor kindOf operatorPage tryFoldBinop prevLive plan.operandOf blocked barred lands skipsInto constToVal toVal foldBinop ints inRange findOrPushConst findOrPush first many each some constantNamed packedList pooled renumbered renamedOperand recoded
 late-none = refl

@@ -17,21 +17,21 @@ use Rattle.laws.specs.Some.{some}
 use Rattle.laws.proofs.Branch.{and-true}
 use Rattle.laws.proofs.Many.{many-few}
 use Rattle.laws.proofs.Some.{passes-at}
-use Rattle.lent.specs.Chunk.{count, operandAt, names}
-use Rattle.named.specs.Unused.{namesIt, named, keptAt, kept, pooled}
+use Rattle.lent.specs.Chunk.{chunkCount, operandAt, names}
+use Rattle.named.specs.Unused.{namesIt, constantNamed, packedAt, packedList, pooled}
 
 below-suc : (i m : ℕ) → i < suc m → i ≤ m
 below-suc i m h = omega arith
 
 -- ---- a constant is named by an instruction with the mark
 
-pub named-by : (w : List ℕ) (i k : ℕ) → k < count w → names w k ≡ true → operandAt w k ≡ i → named w i ≡ true
-unfolding named
-named-by w i k h n e = passes-at (namesIt w i) k (count w) h (rw (n, eq-eqb (operandAt w k) i e))
+pub named-by : (w : List ℕ) (i k : ℕ) → k < chunkCount w → names w k ≡ true → operandAt w k ≡ i → constantNamed w i ≡ true
+unfolding constantNamed
+named-by w i k h n e = passes-at (namesIt w i) k (chunkCount w) h (rw (n, eq-eqb (operandAt w k) i e))
 
 pub record Naming (w : List ℕ) (i : ℕ) : Type 0 where
   pub by : ℕ
-  pub there : by < count w
+  pub there : by < chunkCount w
   pub mark : names w by ≡ true
   pub is : operandAt w by ≡ i
 
@@ -50,10 +50,10 @@ some-place f (suc n) e = go (f n) refl (some f n) refl (some-place f n) e
     go false p true q ih e = let x = ih q in record { at = x .at; inside = omega (arith, x .inside); passes = x .passes }
     go false p false q ih e = absurd (false≢true (rw (p, q) at e))
 
-pub naming : (w : List ℕ) (i : ℕ) → named w i ≡ true → Naming w i
-unfolding named
+pub naming : (w : List ℕ) (i : ℕ) → constantNamed w i ≡ true → Naming w i
+unfolding constantNamed
 naming w i e =
-    let x = some-place (namesIt w i) (count w) e in
+    let x = some-place (namesIt w i) (chunkCount w) e in
     let p = and-true (names w (x .at)) (eqb (operandAt w (x .at)) i) (x .passes) in
     record { by = x .at; there = x .inside; mark = p .0; is = eqb-true (operandAt w (x .at)) i (p .1) }
 
@@ -94,23 +94,23 @@ module _ (f : ℕ → Bool) where
 
   -- ---- the entries
 
-  pub kept-length : (m : ℕ) (l : List ℕ) → length (kept f m l) ≡ many f m
-  unfolding kept each many
+  pub kept-length : (m : ℕ) (l : List ℕ) → length (packedList f m l) ≡ many f m
+  unfolding packedList each many
   kept-length zero l = refl
   kept-length (suc m) l = go (f m) refl (kept-length m l)
     where
-      go : (b : Bool) → f m ≡ b → length (each (keptAt f l) m) ≡ many f m → length (each (keptAt f l) m ++ keptAt f l m) ≡ many f m + boolByte (f m)
-      go true e ih = rw e (length-append (each (keptAt f l) m) (getD l m 0 ∷ []) ∙ ap (λ (x : ℕ). x + 1) ih)
-      go false e ih = rw (e, append-nil (each (keptAt f l) m)) (omega arith)
+      go : (b : Bool) → f m ≡ b → length (each (packedAt f l) m) ≡ many f m → length (each (packedAt f l) m ++ packedAt f l m) ≡ many f m + boolByte (f m)
+      go true e ih = rw e (length-append (each (packedAt f l) m) (getD l m 0 ∷ []) ∙ ap (λ (x : ℕ). x + 1) ih)
+      go false e ih = rw (e, append-nil (each (packedAt f l) m)) (omega arith)
 
-  kept-at : (m : ℕ) (l : List ℕ) (i : ℕ) → i < m → f i ≡ true → getD (kept f m l) (many f i) 0 ≡ getD l i 0
-  unfolding kept each
+  kept-at : (m : ℕ) (l : List ℕ) (i : ℕ) → i < m → f i ≡ true → getD (packedList f m l) (many f i) 0 ≡ getD l i 0
+  unfolding packedList each
   kept-at zero l i h e = absurd (omega arith)
   kept-at (suc m) l i h e =
       ⊎-elim
-      (λ q. rw (rw q at e, q) (getD-at (each (keptAt f l) m) (getD l m 0) [] 0 (many f m) (kept-length m l)))
+      (λ q. rw (rw q at e, q) (getD-at (each (packedAt f l) m) (getD l m 0) [] 0 (many f m) (kept-length m l)))
       (λ q.
-      List·getD-append (each (keptAt f l) m) (keptAt f l m) 0 (many f i) (rw (kept-length m l) (in-order i m q e))
+      List·getD-append (each (packedAt f l) m) (packedAt f l m) 0 (many f i) (rw (kept-length m l) (in-order i m q e))
       ∙ kept-at m l i q e)
       (eq-or-lt-of-le (below-suc i m h))
 
@@ -119,21 +119,21 @@ module _ (f : ℕ → Bool) where
     pub pooled-kept : (i : ℕ) → i < m → f i ≡ true → getD (pooled f m l) (many f i) 0 ≡ getD l i 0
     unfolding pooled
     pooled-kept i h e =
-        List·getD-append (kept f m l) (replicate (m - many f m) 0 ++ drop m l) 0 (many f i) (rw (kept-length m l) (in-order i m h e)) ∙ kept-at m l i h e
+        List·getD-append (packedList f m l) (replicate (m - many f m) 0 ++ drop m l) 0 (many f i) (rw (kept-length m l) (in-order i m h e)) ∙ kept-at m l i h e
 
     -- from the new count to the old one there is 0
     pub pooled-freed : (j : ℕ) → many f m ≤ j → j < m → getD (pooled f m l) j 0 ≡ 0
     unfolding pooled
     pooled-freed j h q =
-        let e : j ≡ length (kept f m l) + (j - many f m) = omega (arith, kept-length m l) in
+        let e : j ≡ length (packedList f m l) + (j - many f m) = omega (arith, kept-length m l) in
         let n : j - many f m < length {A = ℕ} (replicate (m - many f m) 0) = rw (length-replicate {A = ℕ} (m - many f m) 0) (omega arith) in
-        ap (λ (x : ℕ). getD (kept f m l ++ (replicate (m - many f m) 0 ++ drop m l)) x 0) e
-        ∙ getD-append-add (kept f m l) (replicate (m - many f m) 0 ++ drop m l) (j - many f m) 0
+        ap (λ (x : ℕ). getD (packedList f m l ++ (replicate (m - many f m) 0 ++ drop m l)) x 0) e
+        ∙ getD-append-add (packedList f m l) (replicate (m - many f m) 0 ++ drop m l) (j - many f m) 0
         ∙ List·getD-append (replicate (m - many f m) 0) (drop m l) 0 (j - many f m) n
         ∙ getD-replicate (m - many f m) (j - many f m) 0 0 (omega arith)
 
-    front-length : length (kept f m l ++ replicate (m - many f m) 0) ≡ m
-    front-length = length-append (kept f m l) (replicate (m - many f m) 0) ∙ omega (
+    front-length : length (packedList f m l ++ replicate (m - many f m) 0) ≡ m
+    front-length = length-append (packedList f m l) (replicate (m - many f m) 0) ∙ omega (
       arith,
       kept-length m l,
       length-replicate {A = ℕ} (m - many f m) 0,
@@ -143,12 +143,12 @@ module _ (f : ℕ → Bool) where
     -- past the old count nothing changes
     pub pooled-past : drop m (pooled f m l) ≡ drop m l
     unfolding pooled
-    pooled-past = ap (drop m) (sym (append-assoc (kept f m l) (replicate (m - many f m) 0) (drop m l)))
-        ∙ drop-at (kept f m l ++ replicate (m - many f m) 0) (drop m l) m front-length
+    pooled-past = ap (drop m) (sym (append-assoc (packedList f m l) (replicate (m - many f m) 0) (drop m l)))
+        ∙ drop-at (packedList f m l ++ replicate (m - many f m) 0) (drop m l) m front-length
 
     pub pooled-length : m ≤ length l → length (pooled f m l) ≡ length l
     unfolding pooled
     pooled-length h =
-        ap length (sym (append-assoc (kept f m l) (replicate (m - many f m) 0) (drop m l)))
-        ∙ length-append (kept f m l ++ replicate (m - many f m) 0) (drop m l)
+        ap length (sym (append-assoc (packedList f m l) (replicate (m - many f m) 0) (drop m l)))
+        ∙ length-append (packedList f m l ++ replicate (m - many f m) 0) (drop m l)
         ∙ omega (arith, front-length, length-drop m l)

@@ -1,4 +1,4 @@
--- Laws of `kept` and `freed`, for the loops that write them in place. Assumes nothing.
+-- Laws of `packedList` and `freed`, for the loops that write them in place. Assumes nothing.
 use Prim.Native.Nat.{ℕ, _+_, _-_, _≤_, _<_}
 use native.Mathlib.Nat.{sub-self, le-refl}
 use native.Mathlib.Omega.{arith}
@@ -12,18 +12,18 @@ use Rattle.laws.specs.Each.{each}
 use Rattle.laws.proofs.Many.{many-more, many-few}
 use Rattle.laws.proofs.Each.{each-more}
 use Rattle.laws.proofs.InPlace.{Walked, walk-none, walk-read, walk-pass, walk-put, walk-as, walk-end, word-put}
-use Rattle.named.specs.Unused.{keptAt, kept, numbered}
-use Rattle.named.specs.Marks.{marked}
+use Rattle.named.specs.Unused.{packedAt, packedList, numbered}
+use Rattle.named.specs.Marks.{markedIn}
 use Rattle.clear.specs.Passes.{Moved, Down, freed}
 
 -- ---- the constants that move down
 
 module _ (f : ℕ → Bool) (l : List ℕ) (i : ℕ) where
-  kept-on : f i ≡ true → each (keptAt f l) (i + 1) ≡ each (keptAt f l) i ++ (getD l i 0 ∷ [])
-  kept-on e = each-more (keptAt f l) i ∙ rw e
+  kept-on : f i ≡ true → each (packedAt f l) (i + 1) ≡ each (packedAt f l) i ++ (getD l i 0 ∷ [])
+  kept-on e = each-more (packedAt f l) i ∙ rw e
 
-  kept-off : f i ≡ false → each (keptAt f l) (i + 1) ≡ each (keptAt f l) i
-  kept-off e = each-more (keptAt f l) i ∙ rw e (append-nil (each (keptAt f l) i))
+  kept-off : f i ≡ false → each (packedAt f l) (i + 1) ≡ each (packedAt f l) i
+  kept-off e = each-more (packedAt f l) i ∙ rw e (append-nil (each (packedAt f l) i))
 
 module _ (f : ℕ → Bool) (i : ℕ) where
   count-on : f i ≡ true → many f (i + 1) ≡ many f i + 1
@@ -34,7 +34,7 @@ module _ (f : ℕ → Bool) (i : ℕ) where
 
 -- where one list stands at i, with `to` kept
 pub record Keeping (f : ℕ → Bool) (xs old : List ℕ) (to i : ℕ) : Type 0 where
-  pub walked : Walked xs old (each (keptAt f old) i) to i
+  pub walked : Walked xs old (each (packedAt f old) i) to i
 
 keeping-none : (f : ℕ → Bool) (old : List ℕ) → Keeping f old old 0 0
 unfolding each
@@ -42,35 +42,35 @@ keeping-none f old = record { walked = walk-none old }
 
 module _ {f : ℕ → Bool} {xs old : List ℕ} {to i : ℕ} (k : Keeping f xs old to i) where
   keeping-skip : f i ≡ false → Keeping f xs old to (i + 1)
-  keeping-skip e = record { walked = walk-as (walk-pass (k .walked) 1) (each (keptAt f old) (i + 1)) (sym (kept-off f old i e)) }
+  keeping-skip e = record { walked = walk-as (walk-pass (k .walked) 1) (each (packedAt f old) (i + 1)) (sym (kept-off f old i e)) }
 
   keeping-put : f i ≡ true → i < length old → Keeping f (set xs to (getD xs i 0)) old (to + 1) (i + 1)
   keeping-put e h =
       let r = walk-read (k .walked) i (le-refl i) in
-      record { walked = walk-as (walk-put (k .walked) (getD xs i 0) h) (each (keptAt f old) (i + 1)) (rw r (sym (kept-on f old i e))) }
+      record { walked = walk-as (walk-put (k .walked) (getD xs i 0) h) (each (packedAt f old) (i + 1)) (rw r (sym (kept-on f old i e))) }
 
   keeping-done : (m : ℕ) → i ≡ m → Moved f m to old xs
-  unfolding kept
-  keeping-done m e = record { front = k .walked .front ∙ ap (each (keptAt f old)) e; rest = rw e at (k .walked .rest) }
+  unfolding packedList
+  keeping-done m e = record { front = k .walked .front ∙ ap (each (packedAt f old)) e; rest = rw e at (k .walked .rest) }
 
 -- where all three stand
 pub record Going (kinds kinds₀ words words₀ scratch scratch₀ : List ℕ) (to i : ℕ) : Type 0 where
-  pub in-kinds : Keeping (marked scratch₀) kinds kinds₀ to i
-  pub in-words : Keeping (marked scratch₀) words words₀ to i
-  pub numbers : Walked scratch scratch₀ (each (λ k. many (marked scratch₀) k ∷ []) i) i i
-  pub counts : to ≡ many (marked scratch₀) i
+  pub in-kinds : Keeping (markedIn scratch₀) kinds kinds₀ to i
+  pub in-words : Keeping (markedIn scratch₀) words words₀ to i
+  pub numbers : Walked scratch scratch₀ (each (λ k. many (markedIn scratch₀) k ∷ []) i) i i
+  pub counts : to ≡ many (markedIn scratch₀) i
 
 pub going-none : (kinds words scratch : List ℕ) → Going kinds kinds words words scratch scratch 0 0
 unfolding each many
 going-none kinds words scratch = record {
-  in-kinds = keeping-none (marked scratch) kinds;
-  in-words = keeping-none (marked scratch) words;
+  in-kinds = keeping-none (markedIn scratch) kinds;
+  in-words = keeping-none (markedIn scratch) words;
   numbers = walk-none scratch;
   counts = refl;
 }
 
 module _ {kinds kinds₀ words words₀ scratch scratch₀ : List ℕ} {to i : ℕ} (g : Going kinds kinds₀ words words₀ scratch scratch₀ to i) where
-  read-mark : (b : Bool) → eqb (getD scratch i 0) 0 ≡ b → marked scratch₀ i ≡ not b
+  read-mark : (b : Bool) → eqb (getD scratch i 0) 0 ≡ b → markedIn scratch₀ i ≡ not b
   read-mark b e = let r = walk-read (g .numbers) i (le-refl i) in rw (← r, e)
 
   pub going-skip : (m : ℕ) → eqb (getD scratch i 0) 0 ≡ true → i < m → m ≤ length scratch₀
@@ -81,8 +81,8 @@ module _ {kinds kinds₀ words words₀ scratch scratch₀ : List ℕ} {to i : �
       record {
         in-kinds = keeping-skip (g .in-kinds) u;
         in-words = keeping-skip (g .in-words) u;
-        numbers = word-put (many (marked scratch₀)) (g .numbers) h to (g .counts);
-        counts = g .counts ∙ sym (count-off (marked scratch₀) i u);
+        numbers = word-put (many (markedIn scratch₀)) (g .numbers) h to (g .counts);
+        counts = g .counts ∙ sym (count-off (markedIn scratch₀) i u);
       }
 
   pub going-put : (m : ℕ) → eqb (getD scratch i 0) 0 ≡ false → i < m → m ≤ length scratch₀ → m ≤ length kinds₀ → m ≤ length words₀
@@ -93,12 +93,12 @@ module _ {kinds kinds₀ words words₀ scratch scratch₀ : List ℕ} {to i : �
       record {
         in-kinds = keeping-put (g .in-kinds) u (omega arith);
         in-words = keeping-put (g .in-words) u (omega arith);
-        numbers = word-put (many (marked scratch₀)) (g .numbers) h to (g .counts);
-        counts = ap (λ (x : ℕ). x + 1) (g .counts) ∙ sym (count-on (marked scratch₀) i u);
+        numbers = word-put (many (markedIn scratch₀)) (g .numbers) h to (g .counts);
+        counts = ap (λ (x : ℕ). x + 1) (g .counts) ∙ sym (count-on (markedIn scratch₀) i u);
       }
 
   pub going-few : to ≤ i
-  going-few = omega (arith, g .counts, many-few (marked scratch₀) i)
+  going-few = omega (arith, g .counts, many-few (markedIn scratch₀) i)
 
   pub going-kinds : length kinds ≡ length kinds₀
   going-kinds = g .in-kinds .walked .same
@@ -109,13 +109,13 @@ module _ {kinds kinds₀ words words₀ scratch scratch₀ : List ℕ} {to i : �
   pub going-scratch : length scratch ≡ length scratch₀
   going-scratch = g .numbers .same
 
-  pub going-done : (m : ℕ) → m ≤ i → i ≤ m → Down (marked scratch₀) m to kinds₀ kinds words₀ words scratch₀ scratch
+  pub going-done : (m : ℕ) → m ≤ i → i ≤ m → Down (markedIn scratch₀) m to kinds₀ kinds words₀ words scratch₀ scratch
   unfolding numbered
   going-done m h l =
       let e : i ≡ m = omega arith in
       let few = going-few in
       record {
-        count = g .counts ∙ ap (many (marked scratch₀)) e;
+        count = g .counts ∙ ap (many (markedIn scratch₀)) e;
         few = omega arith;
         kinds-moved = keeping-done (g .in-kinds) m e;
         words-moved = keeping-done (g .in-words) m e;

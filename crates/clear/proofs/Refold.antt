@@ -19,19 +19,19 @@ use Rattle.laws.proofs.Walk.{none-passed}
 use Rattle.code.specs.Op.{last, LoadConst, Phi}
 use Rattle.code.specs.declared.Refusal.the-variants.{Length, Record}
 use Rattle.code.specs.declared.Checked.the-variants.{Count}
-use Rattle.lent.specs.Chunk.{stride, count, opAt, markAt, operandAt, names, folds, jumpKept, namesKept, rules, breaksAt}
-use Rattle.lent.specs.Check.{uneven, firstBad, checkOf}
+use Rattle.lent.specs.Chunk.{stride, chunkCount, opAt, markAt, operandAt, names, folds, jumpKept, namesKept, chunkRules, breaksAt}
+use Rattle.lent.specs.Check.{unevenChunk, firstBadOf, chunkCheckOf}
 use Rattle.values.specs.declared.Val.{Val}
 use Rattle.values.specs.declared.Val.the-variants.{Int, Float as Real, Bool as Truth}
 use Rattle.chunk.specs.Pool.{position, stored, findOrPush, findOrPushConst}
 use Rattle.chunk.specs.declared.Kept.the-variants.{At, Full}
 use Rattle.fold.specs.Plan.{Chunk, chunk, planAt}
-use Rattle.fold.specs.Pass.{constLoad, put, landed, applied, tryFold, Bars, byScan, folded, foldAll, Lent}
+use Rattle.fold.specs.Pass.{constLoad, put, landed, applied, tryFold, Bars, byScan, folded, foldAll, PassRoom}
 use Rattle.fold.specs.declared.Plan.{Plan}
 use Rattle.fold.specs.declared.Plan.the-variants.{Stay, Put}
 use Rattle.fold.proofs.Put.{put-long}
 use Rattle.fold.proofs.Grown.{Held, held-none, held-more, held-ready}
-use Rattle.named.specs.Unused.{AllNear, named, before, pooled, recoded}
+use Rattle.named.specs.Unused.{AllNear, constantNamed, before, pooled, recoded}
 use Rattle.clear.proofs.Kept.{named-by, in-order, onto, pooled-kept}
 use Rattle.clear.proofs.Loads.{recoded-length, recoded-count, recoded-op, recoded-mark, unmarked-stays, far-stays, near-moves}
 use Rattle.clear.proofs.Tested.{check-met, whole-of, never}
@@ -116,7 +116,7 @@ module _ (bars : Bars) (s : Chunk) where
   more-up : (k n : ℕ) → k ≤ n → folded bars k s .constants ≤ folded bars n s .constants
   more-up k n h = let e : (n - k) + k ≡ n = omega arith in rw e at (more-on (n - k) k)
 
-  held-at : Lent s → (k : ℕ) → k ≤ count (s .code) → Held bars s (folded bars k s) k
+  held-at : PassRoom s → (k : ℕ) → k ≤ chunkCount (s .code) → Held bars s (folded bars k s) k
   held-at x zero h = rw folded-none (held-none bars s)
   held-at x (suc k) h =
       let g = held-at x k (omega arith) in
@@ -124,7 +124,7 @@ module _ (bars : Bars) (s : Chunk) where
       let z = held-more g refl h x (tryFold (bars (folded bars k s .code) k) k (folded bars k s)) refl (l .code) (l .dead) (l .kinds) (l .words) in
       rw (folded-next k) (rw (add-one k) at z)
 
-all-is : (bars : Bars) (s : Chunk) (n : ℕ) → n ≡ count (s .code) → foldAll bars s ≡ folded bars n s
+all-is : (bars : Bars) (s : Chunk) (n : ℕ) → n ≡ chunkCount (s .code) → foldAll bars s ≡ folded bars n s
 unfolding foldAll
 all-is bars s n c = ap (λ (k : ℕ). folded bars k s) (sym c)
 
@@ -143,7 +143,7 @@ below-limit a b h l = omega arith
 within-limit : (a b limit : ℕ) → a ≤ b → b ≤ limit → a ≤ limit
 within-limit a b limit h l = omega arith
 
-module _ (strict : Bool) (tries : List ℕ) (s t : Chunk) (n : ℕ) (c : n ≡ count (s .code)) (c′ : n ≡ count (t .code)) (x : Lent s) (y : Lent t)
+module _ (strict : Bool) (tries : List ℕ) (s t : Chunk) (n : ℕ) (c : n ≡ chunkCount (s .code)) (c′ : n ≡ chunkCount (t .code)) (x : PassRoom s) (y : PassRoom t)
     (few : folded (byScan strict tries) n s .constants < 65535) (limit : ℕ) (low : folded (byScan strict tries) n s .constants ≤ limit)
     (z : Sim limit s t) where
   abbrev scan : Bars
@@ -152,8 +152,8 @@ module _ (strict : Bool) (tries : List ℕ) (s t : Chunk) (n : ℕ) (c : n ≡ c
   sim-at : (k : ℕ) → k ≤ n → Sim limit (folded scan k s) (folded scan k t)
   sim-at zero h = sim-to (folded-none scan s) (folded-none scan t) z
   sim-at (suc k) h =
-      let a = held-at scan s x k (before-end k n (count (s .code)) c h) in
-      let b = held-at scan t y k (before-end k n (count (t .code)) c′ h) in
+      let a = held-at scan s x k (before-end k n (chunkCount (s .code)) c h) in
+      let b = held-at scan t y k (before-end k n (chunkCount (t .code)) c′ h) in
       let up = more-up scan s k n (before-it k n h) in
       let l = below-limit (folded scan k s .constants) (folded scan n s .constants) up few in
       let i = sim-at k (before-it k n h) in
@@ -166,16 +166,16 @@ module _ (strict : Bool) (tries : List ℕ) (s t : Chunk) (n : ℕ) (c : n ≡ c
 
 -- ---- what the record rules say of an accepted chunk
 
-pub accepted-at : (n : ℕ) (w : List ℕ) → checkOf w ≡ Count n → (k : ℕ) → k < count w → rules (opAt w k) (markAt w k) ≡ true
-unfolding checkOf
-accepted-at n w e k h = go (uneven w) refl (ltb (firstBad w) (count w)) refl e
+pub accepted-at : (n : ℕ) (w : List ℕ) → chunkCheckOf w ≡ Count n → (k : ℕ) → k < chunkCount w → chunkRules (opAt w k) (markAt w k) ≡ true
+unfolding chunkCheckOf
+accepted-at n w e k h = go (unevenChunk w) refl (ltb (firstBadOf w) (chunkCount w)) refl e
   where
-    go : (u : Bool) → uneven w ≡ u → (b : Bool) → ltb (firstBad w) (count w) ≡ b → checkOf w ≡ Count n → rules (opAt w k) (markAt w k) ≡ true
+    go : (u : Bool) → unevenChunk w ≡ u → (b : Bool) → ltb (firstBadOf w) (chunkCount w) ≡ b → chunkCheckOf w ≡ Count n → chunkRules (opAt w k) (markAt w k) ≡ true
     go true f b g e = never n (Length (length w)) (sym (rw f at e))
-    go false f true g e = never n (Record (firstBad w)) (sym (rw (f, g) at e))
+    go false f true g e = never n (Record (firstBadOf w)) (sym (rw (f, g) at e))
     go false f false g e =
-        let l = ltb-false (firstBad w) (count w) g in
-        not-false (rules (opAt w k) (markAt w k)) (none-passed (breaksAt w) k (count w) 0 (omega arith) (omega arith) (omega arith))
+        let l = ltb-false (firstBadOf w) (chunkCount w) g in
+        not-false (chunkRules (opAt w k) (markAt w k)) (none-passed (breaksAt w) k (chunkCount w) 0 (omega arith) (omega arith) (omega arith))
 
 or-left : (a b : Bool) → not a || b ≡ true → a ≡ true → b ≡ true
 or-left true b e h = e
@@ -185,7 +185,7 @@ not-or : (a b : Bool) → not (a || b) ≡ true → a ≡ false
 not-or true b e = absurd (false≢true e)
 not-or false b e = refl
 
-module _ (o marks : ℕ) (e : rules o marks ≡ true) where
+module _ (o marks : ℕ) (e : chunkRules o marks ≡ true) where
   abbrev jump : Bool
   jump = eqb (marks % 2) 1
 
@@ -193,7 +193,7 @@ module _ (o marks : ℕ) (e : rules o marks ≡ true) where
   naming = eqb (marks / 2 % 2) 1
 
   kept : namesKept o jump naming ≡ true
-  unfolding rules
+  unfolding chunkRules
   kept = and-true (leb o last && leb marks 3 && jumpKept o jump) (namesKept o jump naming) e .1
 
   pub rule-const : eqb o LoadConst ≡ true → naming ≡ true
@@ -208,7 +208,7 @@ module _ (o marks : ℕ) (e : rules o marks ≡ true) where
 -- ---- a chunk and the cleared one
 
 -- past the end there are zeros
-module _ (w : List ℕ) (k : ℕ) (long : length w ≡ stride * count w) (h : count w ≤ k) where
+module _ (w : List ℕ) (k : ℕ) (long : length w ≡ stride * chunkCount w) (h : chunkCount w ≤ k) where
   op-past : opAt w k ≡ 0
   op-past = List·getD-eq-default w 0 (past 0)
     where
@@ -234,7 +234,7 @@ in-or-past {X} k n y z = go (ltb k n) refl
     go true e = y (ltb-true k n e)
     go false e = z (ltb-false k n e)
 
-module _ (n : ℕ) (s : Chunk) (ok : checkOf (s .code) ≡ Count n) (limit : ℕ) (up : s .constants ≤ limit) (near : AllNear (s .code) (s .constants) limit) where
+module _ (n : ℕ) (s : Chunk) (ok : chunkCheckOf (s .code) ≡ Count n) (limit : ℕ) (up : s .constants ≤ limit) (near : AllNear (s .code) (s .constants) limit) where
   abbrev w : List ℕ
   w = s .code
 
@@ -244,31 +244,31 @@ module _ (n : ℕ) (s : Chunk) (ok : checkOf (s .code) ≡ Count n) (limit : ℕ
   abbrev w′ : List ℕ
   w′ = recoded (before w) m w
 
-  long : length w ≡ stride * count w
+  long : length w ≡ stride * chunkCount w
   long = whole-of w (check-met n w (sym ok))
 
-  long′ : length w′ ≡ stride * count w′
+  long′ : length w′ ≡ stride * chunkCount w′
   long′ = recoded-length (before w) m w ∙ ap (λ (x : ℕ). stride * x) (sym (recoded-count (before w) m w))
 
-  past′ : (k : ℕ) → count w ≤ k → count w′ ≤ k
+  past′ : (k : ℕ) → chunkCount w ≤ k → chunkCount w′ ≤ k
   past′ k h = rw (recoded-count (before w) m w) h
 
-  unmarked-past : (k : ℕ) → count w ≤ k → names w k ≡ true → ⊥
+  unmarked-past : (k : ℕ) → chunkCount w ≤ k → names w k ≡ true → ⊥
   unmarked-past k h e = false≢true (sym (ap (λ (x : ℕ). eqb (x / 2 % 2) 1) (mark-past w k long h)) ∙ e)
 
-  start-near : (k : ℕ) → k < count w → names w k ≡ true → operandAt w k < m → SameLoad s (clearedChunk s) (operandAt w k) (operandAt w′ k)
+  start-near : (k : ℕ) → k < chunkCount w → names w k ≡ true → operandAt w k < m → SameLoad s (clearedChunk s) (operandAt w k) (operandAt w′ k)
   start-near k h e l =
       let v = operandAt w k in
-      let y : named w v ≡ true = named-by w v k h e refl in
+      let y : constantNamed w v ≡ true = named-by w v k h e refl in
       rw (near-moves (before w) m w k h e l)
       (record {
         there = l;
-        here = in-order (named w) v m l y;
-        kind = sym (pooled-kept (named w) m (s .kinds) v l y);
-        word = sym (pooled-kept (named w) m (s .words) v l y);
+        here = in-order (constantNamed w) v m l y;
+        kind = sym (pooled-kept (constantNamed w) m (s .kinds) v l y);
+        word = sym (pooled-kept (constantNamed w) m (s .words) v l y);
       })
 
-  start-load : (k : ℕ) → k < count w → names w k ≡ true → Loads limit s (clearedChunk s) (operandAt w k) (operandAt w′ k)
+  start-load : (k : ℕ) → k < chunkCount w → names w k ≡ true → Loads limit s (clearedChunk s) (operandAt w k) (operandAt w′ k)
   start-load k h e =
       ⊎-elim (λ l. inl (start-near k h e l)) (λ l. inr (record { same = sym (far-stays (before w) m w k h (omega arith)); past = l })) (near k h e)
 
@@ -277,60 +277,60 @@ module _ (n : ℕ) (s : Chunk) (ok : checkOf (s .code) ≡ Count n) (limit : ℕ
       record {
         long = long ∙ sym (recoded-length (before w) m w);
         dead = refl;
-        ops = λ k. in-or-past k (count w) (λ h. sym (recoded-op (before w) m w k h)) (λ h. op-past w k long h ∙ sym (op-past w′ k long′ (past′ k h)));
-        marks = λ k. in-or-past k (count w) (λ h. sym (recoded-mark (before w) m w k h)) (λ h. mark-past w k long h ∙ sym (mark-past w′ k long′ (past′ k h)));
+        ops = λ k. in-or-past k (chunkCount w) (λ h. sym (recoded-op (before w) m w k h)) (λ h. op-past w k long h ∙ sym (op-past w′ k long′ (past′ k h)));
+        marks = λ k. in-or-past k (chunkCount w) (λ h. sym (recoded-mark (before w) m w k h)) (λ h. mark-past w k long h ∙ sym (mark-past w′ k long′ (past′ k h)));
         plain = λ k e.
-            in-or-past k (count w) (λ h. sym (unmarked-stays (before w) m w k h e)) (λ h. operand-past w k long h ∙ sym (operand-past w′ k long′ (past′ k h)));
-        loads = λ k e. in-or-past k (count w) (λ h. start-load k h e) (λ h. absurd (unmarked-past k h e));
+            in-or-past k (chunkCount w) (λ h. sym (unmarked-stays (before w) m w k h e)) (λ h. operand-past w k long h ∙ sym (operand-past w′ k long′ (past′ k h)));
+        loads = λ k e. in-or-past k (chunkCount w) (λ h. start-load k h e) (λ h. absurd (unmarked-past k h e));
         consts = λ k e.
-            in-or-past k (count w) (λ h. rule-const (opAt w k) (markAt w k) (accepted-at n w ok k h) e)
+            in-or-past k (chunkCount w) (λ h. rule-const (opAt w k) (markAt w k) (accepted-at n w ok k h) e)
             (λ h. absurd (false≢true (sym (ap (λ (x : ℕ). eqb x LoadConst) (op-past w k long h)) ∙ e)));
-        apart = λ k e. in-or-past k (count w) (λ h. rule-both (opAt w k) (markAt w k) (accepted-at n w ok k h) e .0) (λ h. absurd (unmarked-past k h e));
-        free = λ k e. in-or-past k (count w) (λ h. rule-both (opAt w k) (markAt w k) (accepted-at n w ok k h) e .1) (λ h. absurd (unmarked-past k h e));
+        apart = λ k e. in-or-past k (chunkCount w) (λ h. rule-both (opAt w k) (markAt w k) (accepted-at n w ok k h) e .0) (λ h. absurd (unmarked-past k h e));
+        free = λ k e. in-or-past k (chunkCount w) (λ h. rule-both (opAt w k) (markAt w k) (accepted-at n w ok k h) e .1) (λ h. absurd (unmarked-past k h e));
       }
 
-  start-pools : Pools (s .kinds) (s .words) m (pooled (named w) m (s .kinds)) (pooled (named w) m (s .words)) (before w m)
+  start-pools : Pools (s .kinds) (s .words) m (pooled (constantNamed w) m (s .kinds)) (pooled (constantNamed w) m (s .words)) (before w m)
   start-pools =
       record {
-        used = named w;
+        used = constantNamed w;
         count = refl;
         forth = λ i h e. record {
           at = before w i;
-          inside = in-order (named w) i m h e;
-          kind = pooled-kept (named w) m (s .kinds) i h e;
-          word = pooled-kept (named w) m (s .words) i h e;
+          inside = in-order (constantNamed w) i m h e;
+          kind = pooled-kept (constantNamed w) m (s .kinds) i h e;
+          word = pooled-kept (constantNamed w) m (s .words) i h e;
         };
         back = λ j h.
-            let p = onto (named w) m j h in
+            let p = onto (constantNamed w) m j h in
             record {
               at = p .place;
               inside = p .below;
-              kind = sym (pooled-kept (named w) m (s .kinds) (p .place) (p .below) (p .passes))
-                  ∙ ap (λ (x : ℕ). getD (pooled (named w) m (s .kinds)) x 0) (p .number);
-              word = sym (pooled-kept (named w) m (s .words) (p .place) (p .below) (p .passes))
-                  ∙ ap (λ (x : ℕ). getD (pooled (named w) m (s .words)) x 0) (p .number);
+              kind = sym (pooled-kept (constantNamed w) m (s .kinds) (p .place) (p .below) (p .passes))
+                  ∙ ap (λ (x : ℕ). getD (pooled (constantNamed w) m (s .kinds)) x 0) (p .number);
+              word = sym (pooled-kept (constantNamed w) m (s .words) (p .place) (p .below) (p .passes))
+                  ∙ ap (λ (x : ℕ). getD (pooled (constantNamed w) m (s .words)) x 0) (p .number);
             };
       }
 
-  sim-refold : (strict : Bool) (tries : List ℕ) → Lent s → foldAll (byScan strict tries) s .constants < 65535
+  sim-refold : (strict : Bool) (tries : List ℕ) → PassRoom s → foldAll (byScan strict tries) s .constants < 65535
       → foldAll (byScan strict tries) s .constants ≤ limit
       → Sim limit (foldAll (byScan strict tries) s) (foldAll (byScan strict tries) (clearedChunk s))
   sim-refold strict tries x few low =
-      let e = all-is (byScan strict tries) s (count w) refl in
-      sim-all strict tries s (clearedChunk s) (count w) refl (sym (recoded-count (before w) m w)) x (room-after s x) (rw e at few) limit (rw e at low)
+      let e = all-is (byScan strict tries) s (chunkCount w) refl in
+      sim-all strict tries s (clearedChunk s) (chunkCount w) refl (sym (recoded-count (before w) m w)) x (room-after s x) (rw e at few) limit (rw e at low)
       (record { alike = start-alike; pools = start-pools })
 
 -- the pass adds to the constants
 more-all : (bars : Bars) (s : Chunk) → s .constants ≤ foldAll bars s .constants
 more-all bars s =
-    rw (all-is bars s (count (s .code)) refl)
-    (let h = more-up bars s 0 (count (s .code)) (omega arith) in
+    rw (all-is bars s (chunkCount (s .code)) refl)
+    (let h = more-up bars s 0 (chunkCount (s .code)) (omega arith) in
     rw (folded-none bars s) at h)
 
 -- folding before and after: asked is that each operand with the mark is below the count, or at or past the count that the uncleared fold ends with
-module _ (n : ℕ) (s : Chunk) (ok : checkOf (s .code) ≡ Count n) (strict : Bool) (tries : List ℕ)
+module _ (n : ℕ) (s : Chunk) (ok : chunkCheckOf (s .code) ≡ Count n) (strict : Bool) (tries : List ℕ)
     (near : AllNear (s .code) (s .constants) (foldAll (byScan strict tries) s .constants))
-    (x : Lent s) (few : foldAll (byScan strict tries) s .constants < 65535) where
+    (x : PassRoom s) (few : foldAll (byScan strict tries) s .constants < 65535) where
   both : Sim (foldAll (byScan strict tries) s .constants) (foldAll (byScan strict tries) s) (foldAll (byScan strict tries) (clearedChunk s))
   both = sim-refold n s ok (foldAll (byScan strict tries) s .constants) (more-all (byScan strict tries) s) near strict tries x few
       (le-refl (foldAll (byScan strict tries) s .constants))

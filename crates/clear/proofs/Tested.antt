@@ -17,11 +17,11 @@ use Rattle.code.specs.declared.Refusal.{Refusal}
 use Rattle.code.specs.declared.Refusal.the-variants.{Length, Table}
 use Rattle.code.specs.declared.Checked.{Checked}
 use Rattle.code.specs.declared.Checked.the-variants.{Count, No as Refused}
-use Rattle.lent.specs.Chunk.{stride, count}
+use Rattle.lent.specs.Chunk.{stride, chunkCount}
 use Rattle.lent.specs.Tables.{constantKept, within, constantsKept, tableOf}
-use Rattle.lent.specs.Check.{uneven, checkOf}
+use Rattle.lent.specs.Check.{unevenChunk, chunkCheckOf}
 use Rattle.lent.proofs.Kept.{few, kinds-there, words-there}
-use Rattle.clear.specs.Clear.{Is, No, Buffers, outcome, cleared, readyOf, clearCall, ClearTold, Held}
+use Rattle.clear.specs.Clear.{Is, No, PoolBuffers, clearOutcome, cleared, clearReadyOf, clearCall, ClearTold, ClearRoom}
 
 pub never : {A : Type 0} (n : ℕ) (r : Refusal) → Count n ≡ Refused r → A
 never n r e = let z : _≡_ {A = ℕ} 0 1 = cc in absurd (omega arith)
@@ -31,24 +31,24 @@ table-met n (Refused r) t kept e = never n r e
 table-met n (Count m) t true e = (sym e, refl)
 table-met n (Count m) t false e = never n (Table t) e
 
-pub check-met : (n : ℕ) (w : List ℕ) → Count n ≡ checkOf w → length w % stride ≡ 0
-unfolding checkOf
-check-met n w h = go (uneven w) refl h
+pub check-met : (n : ℕ) (w : List ℕ) → Count n ≡ chunkCheckOf w → length w % stride ≡ 0
+unfolding chunkCheckOf
+check-met n w h = go (unevenChunk w) refl h
   where
-    go : (u : Bool) → uneven w ≡ u → Count n ≡ checkOf w → length w % stride ≡ 0
+    go : (u : Bool) → unevenChunk w ≡ u → Count n ≡ chunkCheckOf w → length w % stride ≡ 0
     go true e h = never n (Length (length w)) (rw e at h)
-    go false e h = eqb-true (length w % stride) 0 (not-false _ (or-false (not (eqb (length w % stride) 0)) (ltb 65535 (count w)) e .0))
+    go false e h = eqb-true (length w % stride) 0 (not-false _ (or-false (not (eqb (length w % stride) 0)) (ltb 65535 (chunkCount w)) e .0))
 
-pub whole-of : (w : List ℕ) → length w % stride ≡ 0 → length w ≡ stride * count w
+pub whole-of : (w : List ℕ) → length w % stride ≡ 0 → length w ≡ stride * chunkCount w
 whole-of w e = omega arith
 
-module _ (b : Buffers) (m : ℕ) (v : Checked) (e : v ≡ readyOf b m) where
-  pub held-of : (n : ℕ) → v ≡ Count n → Held b m
-  unfolding readyOf
+module _ (b : PoolBuffers) (m : ℕ) (v : Checked) (e : v ≡ clearReadyOf b m) where
+  pub held-of : (n : ℕ) → v ≡ Count n → ClearRoom b m
+  unfolding clearReadyOf
   held-of n f =
-      let r : Count n ≡ readyOf b m = sym f ∙ e in
-      let v₁ = tableOf (checkOf (b .code)) 1 (constantsKept (b .kinds) (b .words) m) in
-      let t = table-met n (checkOf (b .code)) 1 (constantsKept (b .kinds) (b .words) m) (sym (room-before n v₁ 1 (length (b .scratch)) m r)) in
+      let r : Count n ≡ clearReadyOf b m = sym f ∙ e in
+      let v₁ = tableOf (chunkCheckOf (b .code)) 1 (constantsKept (b .kinds) (b .words) m) in
+      let t = table-met n (chunkCheckOf (b .code)) 1 (constantsKept (b .kinds) (b .words) m) (sym (room-before n v₁ 1 (length (b .scratch)) m r)) in
       let i = and-true (within m (length (b .kinds)) (length (b .words))) (every (constantKept (b .kinds) (b .words)) m) (t .1) .0 in
       record {
         whole = whole-of (b .code) (check-met n (b .code) (sym (t .0)));
@@ -63,15 +63,15 @@ module _ (b : Buffers) (m : ℕ) (v : Checked) (e : v ≡ readyOf b m) where
   refused-by q r h z =
       record {
         told = No q;
-        allowed = refused v (readyOf b m) e (λ p. outcome (No p) b) (cleared b m) q (outcome (No q) b) h refl;
+        allowed = refused v (clearReadyOf b m) e (λ p. clearOutcome (No p) b) (cleared b m) q (clearOutcome (No q) b) h refl;
         is = z;
       }
 
-  pub told-by : (n left : ℕ) (b′ : Buffers) (r : Answer) → v ≡ Count n → outcome (Is left) b′ ≡ cleared b m → r ≡ answerOf left 0 0 0 → ClearTold b m r b′
+  pub told-by : (n left : ℕ) (b′ : PoolBuffers) (r : Answer) → v ≡ Count n → clearOutcome (Is left) b′ ≡ cleared b m → r ≡ answerOf left 0 0 0 → ClearTold b m r b′
   unfolding clearCall
   told-by n left b′ r h g z =
       record {
         told = Is left;
-        allowed = told v (readyOf b m) e (λ p. outcome (No p) b) (cleared b m) n (outcome (Is left) b′) h g;
+        allowed = told v (clearReadyOf b m) e (λ p. clearOutcome (No p) b) (cleared b m) n (clearOutcome (Is left) b′) h g;
         is = z;
       }

@@ -20,12 +20,12 @@ use Rattle.code.specs.Answers.{asked}
 use Rattle.code.specs.declared.Checked.{Checked}
 use Rattle.code.specs.declared.Checked.the-variants.{Count, No as Refused}
 use Rattle.code.proofs.Stages.{room-before}
-use Rattle.lent.specs.Chunk.{stride, count, operandAt, names, breaksAt}
+use Rattle.lent.specs.Chunk.{stride, chunkCount, operandAt, names, breaksAt}
 use Rattle.lent.specs.Tables.{constantKept, within, constantsKept, tableOf}
-use Rattle.lent.specs.Check.{firstBad, checkOf}
+use Rattle.lent.specs.Check.{firstBadOf, chunkCheckOf}
 use Rattle.lent.proofs.Counting.{every-at}
-use Rattle.named.specs.Unused.{named, before, kept, pooled, operandOf, recoded, numbered}
-use Rattle.clear.specs.Clear.{Is, No, Buffers, Outcome, outcome, cleared, readyOf, clearCall, Held}
+use Rattle.named.specs.Unused.{constantNamed, before, packedList, pooled, renamedOperand, recoded, numbered}
+use Rattle.clear.specs.Clear.{Is, No, PoolBuffers, ClearOutcome, clearOutcome, cleared, clearReadyOf, clearCall, ClearRoom}
 use Rattle.clear.proofs.Answers.{refused-call, answered-call}
 use Rattle.clear.proofs.Whole.{numbered-ext}
 use Rattle.named.proofs.Recoding.{Recoding, recoding-none, recoding-more, recoding-done}
@@ -40,8 +40,8 @@ unfolding many
 many-all f zero h = refl
 many-all f (suc n) h = rw (many-all f n (λ j l. h j (omega arith)), h n (omega arith)) (omega arith)
 
-kept-all : (f : ℕ → Bool) (n : ℕ) (l : List ℕ) → ((j : ℕ) → j < n → f j ≡ true) → n ≤ length l → kept f n l ≡ take n l
-unfolding kept each
+kept-all : (f : ℕ → Bool) (n : ℕ) (l : List ℕ) → ((j : ℕ) → j < n → f j ≡ true) → n ≤ length l → packedList f n l ≡ take n l
+unfolding packedList each
 kept-all f zero l h b = refl
 kept-all f (suc n) l h b = rw (h n (omega arith), kept-all f n l (λ j q. h j (omega arith)) (omega arith)) (sym (take-suc l n 0 b))
 
@@ -49,9 +49,9 @@ pooled-all : (f : ℕ → Bool) (n : ℕ) (l : List ℕ) → ((j : ℕ) → j < 
 unfolding pooled
 pooled-all f n l h b = rw (kept-all f n l h b, many-all f n h, sub-self n) (take-append-drop n l)
 
-module _ (number : ℕ → ℕ) (m : ℕ) (w : List ℕ) (long : length w ≡ stride * count w) (same : (k : ℕ) → k < count w → operandOf number m w k
+module _ (number : ℕ → ℕ) (m : ℕ) (w : List ℕ) (long : length w ≡ stride * chunkCount w) (same : (k : ℕ) → k < chunkCount w → renamedOperand number m w k
     ≡ operandAt w k) where
-  still : (k : ℕ) → k ≤ count w → Recoding number m w w k
+  still : (k : ℕ) → k ≤ chunkCount w → Recoding number m w w k
   still zero h = recoding-none number m w
   still (suc k) h =
       let r = recoding-more (still k (omega arith)) (operandAt w k) (sym (same k h)) h long in
@@ -59,14 +59,14 @@ module _ (number : ℕ → ℕ) (m : ℕ) (w : List ℕ) (long : length w ≡ st
       rw (add-one k) at z
 
   pub recoded-idle : recoded number m w ≡ w
-  recoded-idle = sym (recoding-done (still (count w) (le-refl (count w))) (le-refl (count w)) (le-refl (count w)) long)
+  recoded-idle = sym (recoding-done (still (chunkCount w) (le-refl (chunkCount w))) (le-refl (chunkCount w)) (le-refl (chunkCount w)) long)
 
 -- ---- after the call every constant is named
 
 module _ (w : List ℕ) (m : ℕ) where
-  pub all-named : (j : ℕ) → j < before w m → named (recoded (before w) m w) j ≡ true
+  pub all-named : (j : ℕ) → j < before w m → constantNamed (recoded (before w) m w) j ≡ true
   all-named j h =
-      let p = onto (named w) m j h in
+      let p = onto (constantNamed w) m j h in
       let x = naming w (p .place) (p .passes) in
       let q : operandAt w (x .by) < m = rw (x .is) (p .below) in
       named-by (recoded (before w) m w) j (x .by) (rw (recoded-count (before w) m w) (x .there)) (recoded-names (before w) m w (x .by) (x .there) ∙ x .mark)
@@ -75,16 +75,16 @@ module _ (w : List ℕ) (m : ℕ) where
   abbrev after : List ℕ
   after = recoded (before w) m w
 
-  same-operand : (k : ℕ) → operandOf (before after) (before w m) after k ≡ operandAt after k
+  same-operand : (k : ℕ) → renamedOperand (before after) (before w m) after k ≡ operandAt after k
   same-operand k = go (names after k) refl (ltb (operandAt after k) (before w m)) refl
     where
-      go : (n : Bool) → names after k ≡ n → (t : Bool) → ltb (operandAt after k) (before w m) ≡ t → operandOf (before after) (before w m) after k
+      go : (n : Bool) → names after k ≡ n → (t : Bool) → ltb (operandAt after k) (before w m) ≡ t → renamedOperand (before after) (before w m) after k
           ≡ operandAt after k
       go false n t e = operand-unmarked (before after) (before w m) after k n
       go true n false e = operand-far (before after) (before w m) after k (ltb-false (operandAt after k) (before w m) e)
       go true n true e =
           let q = ltb-true (operandAt after k) (before w m) e in
-          operand-near (before after) (before w m) after k n q ∙ many-all (named after) (operandAt after k) (λ j l. all-named j (omega arith))
+          operand-near (before after) (before w m) after k n q ∙ many-all (constantNamed after) (operandAt after k) (λ j l. all-named j (omega arith))
 
   code-again : recoded (before after) (before w m) after ≡ after
   code-again =
@@ -92,28 +92,28 @@ module _ (w : List ℕ) (m : ℕ) where
       (recoded-length (before w) m w ∙ ap (λ (x : ℕ). stride * x) (sym (recoded-count (before w) m w)))
       (λ k h. same-operand k)
 
-  pool-again : (l : List ℕ) → m ≤ length l → pooled (named after) (before w m) (pooled (named w) m l) ≡ pooled (named w) m l
-  pool-again l h = pooled-all (named after) (before w m) (pooled (named w) m l) all-named (omega (arith, pooled-length (named w) m l h, many-few (named w) m))
+  pool-again : (l : List ℕ) → m ≤ length l → pooled (constantNamed after) (before w m) (pooled (constantNamed w) m l) ≡ pooled (constantNamed w) m l
+  pool-again l h = pooled-all (constantNamed after) (before w m) (pooled (constantNamed w) m l) all-named (omega (arith, pooled-length (constantNamed w) m l h, many-few (constantNamed w) m))
 
 -- the same count, code, kinds and words; the scratch counts from 0 up to the constants that are left, and stays as lent past them
-pub record Again (b : Buffers) (r : ℕ) (o : Outcome) : Type 0 where
+pub record Again (b : PoolBuffers) (r : ℕ) (o : ClearOutcome) : Type 0 where
   pub answer : o .answer ≡ Is r
   pub code : o .after .code ≡ b .code
   pub kinds : o .after .kinds ≡ b .kinds
   pub words : o .after .words ≡ b .words
   pub scratch : o .after .scratch ≡ numbered (λ i. i) r (b .scratch)
 
-cleared-again : (b : Buffers) (m : ℕ) → Held b m → Again (cleared b m .after) (before (b .code) m) (cleared (cleared b m .after) (before (b .code) m))
+cleared-again : (b : PoolBuffers) (m : ℕ) → ClearRoom b m → Again (cleared b m .after) (before (b .code) m) (cleared (cleared b m .after) (before (b .code) m))
 unfolding cleared
 cleared-again b m h =
     record {
-      answer = ap Is (many-all (named (after (b .code) m)) (before (b .code) m) (all-named (b .code) m));
+      answer = ap Is (many-all (constantNamed (after (b .code) m)) (before (b .code) m) (all-named (b .code) m));
       code = code-again (b .code) m;
       kinds = pool-again (b .code) m (b .kinds) (h .kinds);
       words = pool-again (b .code) m (b .words) (h .words);
       scratch =
           numbered-ext (before (after (b .code) m)) (λ i. i) (before (b .code) m)
-          (λ i l. many-all (named (after (b .code) m)) i (λ j q. all-named (b .code) m j (omega arith)))
+          (λ i l. many-all (constantNamed (after (b .code) m)) i (λ j q. all-named (b .code) m j (omega arith)))
           (numbered (before (b .code)) m (b .scratch));
     }
 
@@ -129,59 +129,59 @@ unfolding every
 every-of f zero h = refl
 every-of f (suc n) h = rw (every-of f n (λ k l. h k (omega arith)), h n (omega arith))
 
-module _ (number : ℕ → ℕ) (m : ℕ) (w : List ℕ) (long : length w ≡ stride * count w) where
-  breaks-same : (k : ℕ) → k < count w → breaksAt (recoded number m w) k ≡ breaksAt w k
+module _ (number : ℕ → ℕ) (m : ℕ) (w : List ℕ) (long : length w ≡ stride * chunkCount w) where
+  breaks-same : (k : ℕ) → k < chunkCount w → breaksAt (recoded number m w) k ≡ breaksAt w k
   breaks-same k h = rw (recoded-op number m w k h, recoded-mark number m w k h)
 
-  first-same : firstBad (recoded number m w) ≡ firstBad w
+  first-same : firstBadOf (recoded number m w) ≡ firstBadOf w
   first-same =
       ap (first (breaksAt (recoded number m w)) 0) (recoded-count number m w)
-      ∙ first-ext (breaksAt (recoded number m w)) (breaksAt w) (count w) 0 (λ i h. breaks-same i (omega arith))
+      ∙ first-ext (breaksAt (recoded number m w)) (breaksAt w) (chunkCount w) 0 (λ i h. breaks-same i (omega arith))
 
-  pub check-same : checkOf (recoded number m w) ≡ checkOf w
-  unfolding checkOf
+  pub check-same : chunkCheckOf (recoded number m w) ≡ chunkCheckOf w
+  unfolding chunkCheckOf
   check-same = let e : length (recoded number m w) ≡ length w = recoded-length number m w ∙ sym long in rw (first-same, e)
 
 module _ (w kinds words : List ℕ) (m : ℕ) (hk : m ≤ length kinds) (hw : m ≤ length words) (few : m ≤ 65536) where
-  entry-kept : every (constantKept kinds words) m ≡ true → (j : ℕ) → j < before w m → constantKept (pooled (named w) m kinds)
-      (pooled (named w) m words) j ≡ true
+  entry-kept : every (constantKept kinds words) m ≡ true → (j : ℕ) → j < before w m → constantKept (pooled (constantNamed w) m kinds)
+      (pooled (constantNamed w) m words) j ≡ true
   entry-kept e j h =
-      let p = onto (named w) m j h in
-      let k : getD (pooled (named w) m kinds) j 0 ≡ getD kinds (p .place) 0 = ap (λ (x : ℕ). getD (pooled (named w) m kinds) x 0) (sym (p .number))
-      ∙ pooled-kept (named w) m kinds (p .place) (p .below) (p .passes) in
-      let v : getD (pooled (named w) m words) j 0 ≡ getD words (p .place) 0 = ap (λ (x : ℕ). getD (pooled (named w) m words) x 0) (sym (p .number))
-      ∙ pooled-kept (named w) m words (p .place) (p .below) (p .passes) in
+      let p = onto (constantNamed w) m j h in
+      let k : getD (pooled (constantNamed w) m kinds) j 0 ≡ getD kinds (p .place) 0 = ap (λ (x : ℕ). getD (pooled (constantNamed w) m kinds) x 0) (sym (p .number))
+      ∙ pooled-kept (constantNamed w) m kinds (p .place) (p .below) (p .passes) in
+      let v : getD (pooled (constantNamed w) m words) j 0 ≡ getD words (p .place) 0 = ap (λ (x : ℕ). getD (pooled (constantNamed w) m words) x 0) (sym (p .number))
+      ∙ pooled-kept (constantNamed w) m words (p .place) (p .below) (p .passes) in
       rw (k, v) (every-at (constantKept kinds words) m (p .place) e (p .below))
 
-  pub constants-same : every (constantKept kinds words) m ≡ true → constantsKept (pooled (named w) m kinds) (pooled (named w) m words) (before w m) ≡ true
+  pub constants-same : every (constantKept kinds words) m ≡ true → constantsKept (pooled (constantNamed w) m kinds) (pooled (constantNamed w) m words) (before w m) ≡ true
   constants-same e =
-      let f = many-few (named w) m in
+      let f = many-few (constantNamed w) m in
       let a : before w m ≤ 65536 = omega arith in
-      let b : before w m ≤ length (pooled (named w) m kinds) = omega (arith, pooled-length (named w) m kinds hk) in
-      let c : before w m ≤ length (pooled (named w) m words) = omega (arith, pooled-length (named w) m words hw) in
+      let b : before w m ≤ length (pooled (constantNamed w) m kinds) = omega (arith, pooled-length (constantNamed w) m kinds hk) in
+      let c : before w m ≤ length (pooled (constantNamed w) m words) = omega (arith, pooled-length (constantNamed w) m words hw) in
       rw (
         le-leb (before w m) 65536 a,
-        le-leb (before w m) (length (pooled (named w) m kinds)) b,
-        le-leb (before w m) (length (pooled (named w) m words)) c,
-        every-of (constantKept (pooled (named w) m kinds) (pooled (named w) m words)) (before w m) (entry-kept e),
+        le-leb (before w m) (length (pooled (constantNamed w) m kinds)) b,
+        le-leb (before w m) (length (pooled (constantNamed w) m words)) c,
+        every-of (constantKept (pooled (constantNamed w) m kinds) (pooled (constantNamed w) m words)) (before w m) (entry-kept e),
       )
 
 numbered-length : (number : ℕ → ℕ) (m : ℕ) (l : List ℕ) → m ≤ length l → length (numbered number m l) ≡ length l
 unfolding numbered
 numbered-length number m l h = length-append (each (λ i. number i ∷ []) m) (drop m l) ∙ omega (arith, each-word number m, length-drop m l)
 
-module _ (b : Buffers) (m n : ℕ) (ready : readyOf b m ≡ Count n) where
-  held : Held b m
+module _ (b : PoolBuffers) (m n : ℕ) (ready : clearReadyOf b m ≡ Count n) where
+  held : ClearRoom b m
   held = held-of b m (Count n) (sym ready) n refl
 
-  ready-again : readyOf (cleared b m .after) (before (b .code) m) ≡ Count n
-  unfolding readyOf cleared
+  ready-again : clearReadyOf (cleared b m .after) (before (b .code) m) ≡ Count n
+  unfolding clearReadyOf cleared
   ready-again =
-      let v = tableOf (checkOf (b .code)) 1 (constantsKept (b .kinds) (b .words) m) in
-      let t = table-met n (checkOf (b .code)) 1 (constantsKept (b .kinds) (b .words) m) (sym (room-before n v 1 (length (b .scratch)) m (sym ready))) in
+      let v = tableOf (chunkCheckOf (b .code)) 1 (constantsKept (b .kinds) (b .words) m) in
+      let t = table-met n (chunkCheckOf (b .code)) 1 (constantsKept (b .kinds) (b .words) m) (sym (room-before n v 1 (length (b .scratch)) m (sym ready))) in
       let e = and-true (within m (length (b .kinds)) (length (b .words))) (every (constantKept (b .kinds) (b .words)) m) (t .1) .1 in
       let s : before (b .code) m ≤ length (numbered (before (b .code)) m (b .scratch)) = omega
-      (arith, numbered-length (before (b .code)) m (b .scratch) (held .scratch), many-few (named (b .code)) m, held .scratch) in
+      (arith, numbered-length (before (b .code)) m (b .scratch) (held .scratch), many-few (constantNamed (b .code)) m, held .scratch) in
       rw (
         check-same (before (b .code)) m (b .code) (held .whole),
         t .0,
@@ -194,16 +194,16 @@ module _ (b : Buffers) (m n : ℕ) (ready : readyOf b m ≡ Count n) where
   call-again = rw ready-again (cleared-again b m held)
 
 -- an answer asked for again is the same answer
-pub clear-twice : (b : Buffers) (m r : ℕ) (a : Buffers) → clearCall b m ≡ outcome (Is r) a → Again a r (clearCall a r)
-clear-twice b m r a e = go (readyOf b m) refl
+pub clear-twice : (b : PoolBuffers) (m r : ℕ) (a : PoolBuffers) → clearCall b m ≡ clearOutcome (Is r) a → Again a r (clearCall a r)
+clear-twice b m r a e = go (clearReadyOf b m) refl
   where
-    go : (v : Checked) → readyOf b m ≡ v → Again a r (clearCall a r)
+    go : (v : Checked) → clearReadyOf b m ≡ v → Again a r (clearCall a r)
     go (Refused q) f =
-        let y : No q ≡ Is r = ap (λ (x : Outcome). x .answer) (sym (refused-call b m q f) ∙ e) in
+        let y : No q ≡ Is r = ap (λ (x : ClearOutcome). x .answer) (sym (refused-call b m q f) ∙ e) in
         absurd (let z : _≡_ {A = ℕ} 0 1 = cc in omega arith)
     go (Count n) f =
-        let h : outcome (Is (before (b .code) m)) (cleared b m .after) ≡ outcome (Is r) a = sym (answered-call b m n f) ∙ e in
-        let y : Is (before (b .code) m) ≡ Is r = ap (λ (x : Outcome). x .answer) h in
+        let h : clearOutcome (Is (before (b .code) m)) (cleared b m .after) ≡ clearOutcome (Is r) a = sym (answered-call b m n f) ∙ e in
+        let y : Is (before (b .code) m) ≡ Is r = ap (λ (x : ClearOutcome). x .answer) h in
         let i : before (b .code) m ≡ r = cc in
-        let j : cleared b m .after ≡ a = ap (λ (x : Outcome). x .after) h in
+        let j : cleared b m .after ≡ a = ap (λ (x : ClearOutcome). x .after) h in
         rw (← i, ← j) (call-again b m n f)

@@ -8,10 +8,10 @@ use Rattle.code.specs.Check.{roomOf}
 use Rattle.code.specs.declared.Answer.{Answer}
 use Rattle.code.specs.declared.Checked.{Checked}
 use Rattle.code.specs.declared.Refusal.{Refusal}
-use Rattle.lent.specs.Chunk.{stride, count}
+use Rattle.lent.specs.Chunk.{stride, chunkCount}
 use Rattle.lent.specs.Tables.{constantsKept, tableOf}
-use Rattle.lent.specs.Check.{checkOf}
-use Rattle.named.specs.Unused.{named, before, pooled, recoded, numbered}
+use Rattle.lent.specs.Check.{chunkCheckOf}
+use Rattle.named.specs.Unused.{constantNamed, before, pooled, recoded, numbered}
 
 -- how many constants there are then, or the refusal
 pub data ClearAnswer : Type 0 where
@@ -19,39 +19,39 @@ pub data ClearAnswer : Type 0 where
   No : Refusal → ClearAnswer
 
 -- the lent buffers, in the order of the call
-pub record Buffers : Type 0 where
+pub record PoolBuffers : Type 0 where
   pub code : List ℕ
   pub kinds : List ℕ
   pub words : List ℕ
   pub scratch : List ℕ
 
-abbrev pub buffers : (code kinds words scratch : List ℕ) → Buffers
-buffers code kinds words scratch = record { code = code; kinds = kinds; words = words; scratch = scratch }
+abbrev pub poolBuffers : (code kinds words scratch : List ℕ) → PoolBuffers
+poolBuffers code kinds words scratch = record { code = code; kinds = kinds; words = words; scratch = scratch }
 
 -- an answer with what the buffers hold
-pub record Outcome : Type 0 where
+pub record ClearOutcome : Type 0 where
   pub answer : ClearAnswer
-  pub after : Buffers
+  pub after : PoolBuffers
 
-abbrev pub outcome : ClearAnswer → Buffers → Outcome
-outcome a b = record { answer = a; after = b }
+abbrev pub clearOutcome : ClearAnswer → PoolBuffers → ClearOutcome
+clearOutcome a b = record { answer = a; after = b }
 
 -- exactly the named of m constants are kept, and answered is how many; each one's new number is left in scratch
-unfoldable pub cleared : Buffers → ℕ → Outcome
+unfoldable pub cleared : PoolBuffers → ℕ → ClearOutcome
 unfolding pooled recoded numbered
 cleared b m =
     let w = b .code in
-    outcome (Is (before w m)) (buffers (recoded (before w) m w) (pooled (named w) m (b .kinds)) (pooled (named w) m (b .words))
+    clearOutcome (Is (before w m)) (poolBuffers (recoded (before w) m w) (pooled (constantNamed w) m (b .kinds)) (pooled (constantNamed w) m (b .words))
     (numbered (before w) m (b .scratch)))
 
 -- 1, 2, then 7 for the constants, then 5 for scratch, the call's buffer 1
-unfoldable pub readyOf : Buffers → ℕ → Checked
-readyOf b m = roomOf (tableOf (checkOf (b .code)) 1 (constantsKept (b .kinds) (b .words) m)) 1 (length (b .scratch)) m
+unfoldable pub clearReadyOf : PoolBuffers → ℕ → Checked
+clearReadyOf b m = roomOf (tableOf (chunkCheckOf (b .code)) 1 (constantsKept (b .kinds) (b .words) m)) 1 (length (b .scratch)) m
 
 -- a refusal leaves every buffer untouched
-unfoldable pub clearCall : Buffers → ℕ → Outcome
-unfolding cleared readyOf
-clearCall b m = asked (readyOf b m) (λ r. outcome (No r) b) (cleared b m)
+unfoldable pub clearCall : PoolBuffers → ℕ → ClearOutcome
+unfolding cleared clearReadyOf
+clearCall b m = asked (clearReadyOf b m) (λ r. clearOutcome (No r) b) (cleared b m)
 
 -- the new count of constants
 abbrev pub clearTold : ClearAnswer → Answer
@@ -59,14 +59,14 @@ clearTold (Is m) = answerOf m 0 0 0
 clearTold (No r) = refusedOf r
 
 -- an answer that tells what the call is defined to be, with all that is lent as it leaves it
-pub record ClearTold (b : Buffers) (m : ℕ) (r : Answer) (b′ : Buffers) : Type 0 where
+pub record ClearTold (b : PoolBuffers) (m : ℕ) (r : Answer) (b′ : PoolBuffers) : Type 0 where
   pub told : ClearAnswer
-  pub allowed : outcome told b′ ≡ clearCall b m
+  pub allowed : clearOutcome told b′ ≡ clearCall b m
   pub is : r ≡ clearTold told
 
 -- what the tests leave of the buffers
-pub record Held (b : Buffers) (m : ℕ) : Type 0 where
-  pub whole : length (b .code) ≡ stride * count (b .code)
+pub record ClearRoom (b : PoolBuffers) (m : ℕ) : Type 0 where
+  pub whole : length (b .code) ≡ stride * chunkCount (b .code)
   pub few : m ≤ 65536
   pub kinds : m ≤ length (b .kinds)
   pub words : m ≤ length (b .words)

@@ -5,11 +5,11 @@ use mathlib.Core.Bool.{Bool}
 use mathlib.Core.List.{List, _++_}
 use lib.ListN.{take, drop, replicate}
 use Rattle.laws.specs.All.{many}
-use Rattle.named.specs.Unused.{kept, numbered}
+use Rattle.named.specs.Unused.{packedList, numbered}
 
 -- r of the first m entries stand at the front, and those past m where they were
 pub record Moved (f : ℕ → Bool) (m r : ℕ) (old l : List ℕ) : Type 0 where
-  pub front : take r l ≡ kept f m old
+  pub front : take r l ≡ packedList f m old
   pub rest : drop m l ≡ drop m old
 
 -- all three lists of them

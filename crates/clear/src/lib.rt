@@ -2,16 +2,16 @@
 ghost use mathlib.Core.Path.{_≡_};
 ghost use Prim.Native.Nat.{_≤_};
 ghost use lib.ListN.{length};
-ghost use Rattle.named.specs.Marks.{marked};
+ghost use Rattle.named.specs.Marks.{markedIn};
 ghost use Rattle.clear.specs.Passes.{Down, freed};
-ghost use Rattle.clear.specs.Clear.{Is, buffers, outcome, cleared, readyOf, ClearTold, Held};
+ghost use Rattle.clear.specs.Clear.{Is, poolBuffers, clearOutcome, cleared, clearReadyOf, ClearTold, ClearRoom};
 use code::Answer;
 use code::Checked;
 
 // Each marked constant moves down in place, and scratch takes its new number. Answers how many there are.
 fn keep(kinds: &mut [u8], words: &mut [u64], scratch: &mut [u32], m: usize) -> usize
     requires { ⌜ (m ≤ 65536) × (m ≤ length (now kinds)) × (m ≤ length (now words)) × (m ≤ length (now scratch)) ⌝ }
-    ensures { λ r. ⌜ Down (marked (now (scratch .entry))) m r (now (kinds .entry)) (now (kinds .exit)) (now (words .entry)) (now (words .exit))
+    ensures { λ r. ⌜ Down (markedIn (now (scratch .entry))) m r (now (kinds .entry)) (now (kinds .exit)) (now (words .entry)) (now (words .exit))
         (now (scratch .entry)) (now (scratch .exit)) ⌝ }
 {
     let mut to: usize = 0;
@@ -52,9 +52,9 @@ fn clear_unused(
     scratch: &mut [u32],
     m: usize,
 ) -> usize
-    requires { ⌜ Held (buffers (now code) (now kinds) (now words) (now scratch)) m ⌝ }
-    ensures { λ r. ⌜ outcome (Is r) (buffers (now (code .exit)) (now (kinds .exit)) (now (words .exit)) (now (scratch .exit)))
-        ≡ cleared (buffers (now (code .entry)) (now (kinds .entry)) (now (words .entry)) (now (scratch .entry))) m ⌝ }
+    requires { ⌜ ClearRoom (poolBuffers (now code) (now kinds) (now words) (now scratch)) m ⌝ }
+    ensures { λ r. ⌜ clearOutcome (Is r) (poolBuffers (now (code .exit)) (now (kinds .exit)) (now (words .exit)) (now (scratch .exit)))
+        ≡ cleared (poolBuffers (now (code .entry)) (now (kinds .entry)) (now (words .entry)) (now (scratch .entry))) m ⌝ }
 {
     named::mark_named(code, scratch, m);
     let r = keep(kinds, words, scratch, m);
@@ -65,7 +65,7 @@ fn clear_unused(
 
 // Refusals 1, 2, 7 and 5.
 fn ready(code: &[u16], kinds: &[u8], words: &[u64], scratch: &[u32], constants: usize) -> Checked
-    ensures { λ r. ⌜ r ≡ readyOf (buffers (now (code .entry)) (now (kinds .entry)) (now (words .entry)) (now (scratch .entry))) constants ⌝ }
+    ensures { λ r. ⌜ r ≡ clearReadyOf (poolBuffers (now (code .entry)) (now (kinds .entry)) (now (words .entry)) (now (scratch .entry))) constants ⌝ }
 {
     let v = lent::check(code);
     let v = lent::table(v, 1, lent::constants_kept(kinds, words, constants));
@@ -80,8 +80,8 @@ pub fn clear(
     constants: usize,
     scratch: &mut [u32],
 ) -> Answer
-    ensures { λ r. ⌜ ClearTold (buffers (now (code .entry)) (now (kinds .entry)) (now (words .entry)) (now (scratch .entry))) constants r
-        (buffers (now (code .exit)) (now (kinds .exit)) (now (words .exit)) (now (scratch .exit))) ⌝ }
+    ensures { λ r. ⌜ ClearTold (poolBuffers (now (code .entry)) (now (kinds .entry)) (now (words .entry)) (now (scratch .entry))) constants r
+        (poolBuffers (now (code .exit)) (now (kinds .exit)) (now (words .exit)) (now (scratch .exit))) ⌝ }
 {
     match ready(code, kinds, words, scratch, constants) {
         Checked::No(r) => code::refused(r),

@@ -14,7 +14,7 @@ use Rattle.laws.specs.Each.{each}
 use Rattle.lent.specs.Chunk.{stride, opAt, markAt, operandAt, originAt}
 use Rattle.lent.proofs.Counting.{many-le, zeros-at}
 use Rattle.positions.specs.Remap.{alive, live}
-use Rattle.compact.specs.Tables.{operandOf, wordsOf, leftAt, left, compacted}
+use Rattle.compact.specs.Tables.{movedOperand, wordsOf, leftAt, left, compacted}
 use Rattle.positions.proofs.Moves.{live-on}
 
 -- a live position goes below what a later one has before it
@@ -92,7 +92,7 @@ module _ (dead w : List ℕ) where
     pub mark-left : markAt (compacted dead w) (live dead k) ≡ markAt w k
     mark-left = word-left k 1 h (omega arith) d
 
-    pub operand-left : operandAt (compacted dead w) (live dead k) ≡ operandOf dead w k
+    pub operand-left : operandAt (compacted dead w) (live dead k) ≡ movedOperand dead w k
     operand-left = word-left k 2 h (omega arith) d
 
     pub origin-left : originAt (compacted dead w) (live dead k) ≡ originAt w k

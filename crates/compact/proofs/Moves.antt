@@ -11,25 +11,25 @@ use Rattle.laws.specs.Each.{each}
 use Rattle.laws.proofs.Many.{many-few}
 use Rattle.laws.proofs.Each.{each-more}
 use Rattle.laws.proofs.InPlace.{Walked, walk-none, walk-read, walk-pass, walk-put, walk-three, walk-at, walk-as, walk-count}
-use Rattle.lent.specs.Chunk.{stride, opAt, markAt, operandAt, originAt, jumps}
+use Rattle.lent.specs.Chunk.{stride, opAt, markAt, operandAt, originAt, marksJump}
 use Rattle.positions.specs.Remap.{alive, live, Remap, mapped}
 use Rattle.positions.specs.Moved.{placed}
 use Rattle.positions.proofs.Moves.{live-on, live-off}
-use Rattle.compact.specs.Tables.{operandOf, wordsOf, leftAt, left, compacted, Compacted}
+use Rattle.compact.specs.Tables.{movedOperand, wordsOf, leftAt, left, compacted, Compacted}
 
 -- ---- the code
 
 module _ (dead w : List ℕ) (i : ℕ) where
-  pub jump-operand : (v r : ℕ) (t : Bool) → v ≡ operandAt w i → t ≡ jumps w i → t ≡ true → r ≡ mapped dead v → r ≡ operandOf dead w i
-  unfolding operandOf
-  jump-operand v r t e f g h = let q : jumps w i ≡ true = cc in rw q (h ∙ ap (mapped dead) e)
+  pub jump-operand : (v r : ℕ) (t : Bool) → v ≡ operandAt w i → t ≡ marksJump w i → t ≡ true → r ≡ mapped dead v → r ≡ movedOperand dead w i
+  unfolding movedOperand
+  jump-operand v r t e f g h = let q : marksJump w i ≡ true = cc in rw q (h ∙ ap (mapped dead) e)
 
-  pub plain-operand : (v : ℕ) (t : Bool) → v ≡ operandAt w i → t ≡ jumps w i → t ≡ false → v ≡ operandOf dead w i
-  unfolding operandOf
-  plain-operand v t e f g = let q : jumps w i ≡ false = cc in rw q e
+  pub plain-operand : (v : ℕ) (t : Bool) → v ≡ operandAt w i → t ≡ marksJump w i → t ≡ false → v ≡ movedOperand dead w i
+  unfolding movedOperand
+  plain-operand v t e f g = let q : marksJump w i ≡ false = cc in rw q e
 
-  pub four-words : (o m v u : ℕ) (a b d f : ℕ) → o ≡ opAt w i → m ≡ markAt w i → v ≡ operandOf dead w i → u ≡ originAt w i
-      → set (set (set (set w a o) b m) d v) f u ≡ set (set (set (set w a (opAt w i)) b (markAt w i)) d (operandOf dead w i)) f (originAt w i)
+  pub four-words : (o m v u : ℕ) (a b d f : ℕ) → o ≡ opAt w i → m ≡ markAt w i → v ≡ movedOperand dead w i → u ≡ originAt w i
+      → set (set (set (set w a o) b m) d v) f u ≡ set (set (set (set w a (opAt w i)) b (markAt w i)) d (movedOperand dead w i)) f (originAt w i)
   four-words o m v u a b d f p q r s = rw (p, q, r, s)
 
   left-on : getD dead i 0 ≡ 0 → each (leftAt dead w) (i + 1) ≡ each (leftAt dead w) i ++ wordsOf dead w i
@@ -38,8 +38,8 @@ module _ (dead w : List ℕ) (i : ℕ) where
   left-off : (getD dead i 0 ≡ 0 → ⊥) → each (leftAt dead w) (i + 1) ≡ each (leftAt dead w) i
   left-off h = each-more (leftAt dead w) i ∙ rw (ne-eqb (getD dead i 0) 0 h) (append-nil (each (leftAt dead w) i))
 
-operand-same : (dead xs old : List ℕ) (i : ℕ) → markAt xs i ≡ markAt old i → operandAt xs i ≡ operandAt old i → operandOf dead xs i ≡ operandOf dead old i
-unfolding operandOf
+operand-same : (dead xs old : List ℕ) (i : ℕ) → markAt xs i ≡ markAt old i → operandAt xs i ≡ operandAt old i → movedOperand dead xs i ≡ movedOperand dead old i
+unfolding movedOperand
 operand-same dead xs old i p q = rw (p, q)
 
 -- four words in place
@@ -70,17 +70,17 @@ module _ {dead xs old : List ℕ} {to i : ℕ} (k : Kept dead xs old to i) where
 
   pub kept-move : (ys : List ℕ) → getD dead i 0 ≡ 0 → i < length dead → length old ≡ stride * length dead
       → ys
-      ≡ set (set (set (set xs (stride * to) (opAt xs i)) (stride * to + 1) (markAt xs i)) (stride * to + 2) (operandOf dead xs i)) (stride * to + 3)
+      ≡ set (set (set (set xs (stride * to) (opAt xs i)) (stride * to + 1) (markAt xs i)) (stride * to + 2) (movedOperand dead xs i)) (stride * to + 3)
       (originAt xs i)
       → Kept dead ys old (to + 1) (i + 1)
   kept-move ys e h l z =
       let w = k .walked in
       let o : opAt xs i ≡ opAt old i = walk-read w (stride * i) (omega arith) in
       let m : markAt xs i ≡ markAt old i = walk-read w (stride * i + 1) (omega arith) in
-      let v : operandOf dead xs i ≡ operandOf dead old i = operand-same dead xs old i m (walk-read w (stride * i + 2) (omega arith)) in
+      let v : movedOperand dead xs i ≡ movedOperand dead old i = operand-same dead xs old i m (walk-read w (stride * i + 2) (omega arith)) in
       let u : originAt xs i ≡ originAt old i = walk-read w (stride * i + 3) (omega arith) in
-      let four = walk-four w (opAt xs i) (markAt xs i) (operandOf dead xs i) (originAt xs i) (omega arith) in
-      let done : each (leftAt dead old) i ++ (opAt xs i ∷ markAt xs i ∷ operandOf dead xs i ∷ originAt xs i ∷ []) ≡ each (leftAt dead old) (i + 1) =
+      let four = walk-four w (opAt xs i) (markAt xs i) (movedOperand dead xs i) (originAt xs i) (omega arith) in
+      let done : each (leftAt dead old) i ++ (opAt xs i ∷ markAt xs i ∷ movedOperand dead xs i ∷ originAt xs i ∷ []) ≡ each (leftAt dead old) (i + 1) =
       rw (o, m, v, u) (sym (left-on dead old i e)) in
       rw z
       (record {

@@ -5,17 +5,17 @@ use mathlib.Core.Bool.{cond}
 use mathlib.Core.List.{List, [], _∷_, _++_}
 use lib.ListN.{length, replicate}
 use Rattle.laws.specs.Each.{each}
-use Rattle.lent.specs.Chunk.{opAt, markAt, operandAt, originAt, jumps}
+use Rattle.lent.specs.Chunk.{opAt, markAt, operandAt, originAt, marksJump}
 use Rattle.positions.specs.Remap.{alive, live, remapOf, mapped}
 use Rattle.positions.specs.Moved.{placed}
 
 -- a jump operand maps
-unfoldable pub operandOf : List ℕ → List ℕ → ℕ → ℕ
-operandOf dead w i = cond (jumps w i) (mapped dead (operandAt w i)) (operandAt w i)
+unfoldable pub movedOperand : List ℕ → List ℕ → ℕ → ℕ
+movedOperand dead w i = cond (marksJump w i) (mapped dead (operandAt w i)) (operandAt w i)
 
 -- the words of instruction i as it survives: its origin with it
 abbrev pub wordsOf : List ℕ → List ℕ → ℕ → List ℕ
-wordsOf dead w i = opAt w i ∷ markAt w i ∷ operandOf dead w i ∷ originAt w i ∷ []
+wordsOf dead w i = opAt w i ∷ markAt w i ∷ movedOperand dead w i ∷ originAt w i ∷ []
 
 -- what is left of instruction i: nothing of a dead one
 abbrev pub leftAt : List ℕ → List ℕ → ℕ → List ℕ

@@ -2,15 +2,15 @@
 ghost use mathlib.Core.Path.{_≡_};
 ghost use Prim.Native.Nat.{_+_, _*_, _%_, _≤_, _<_};
 ghost use lib.ListN.{length, set};
-ghost use Rattle.lent.specs.Chunk.{stride, count, opAt, markAt, originAt};
+ghost use Rattle.lent.specs.Chunk.{stride, chunkCount, opAt, markAt, originAt};
 ghost use Rattle.positions.specs.Remap.{live, Remap};
-ghost use Rattle.compact.specs.Tables.{operandOf, compacted, Compacted};
+ghost use Rattle.compact.specs.Tables.{movedOperand, compacted, Compacted};
 use lent::STRIDE;
 
 // The operand of instruction i: a jump's follows.
 fn operand_of(code: &[u16], dead: &[u8], remap: &[u32], i: usize) -> u16
-    requires { ⌜ (i < count (now code)) × Remap (now dead) (now remap) ⌝ }
-    ensures { λ r. ⌜ r ≡ operandOf (now (dead .entry)) (now (code .entry)) i ⌝ }
+    requires { ⌜ (i < chunkCount (now code)) × Remap (now dead) (now remap) ⌝ }
+    ensures { λ r. ⌜ r ≡ movedOperand (now (dead .entry)) (now (code .entry)) i ⌝ }
 {
     let v = lent::operand_at(code, i);
     if lent::is_jump(code, i) {
@@ -21,9 +21,9 @@ fn operand_of(code: &[u16], dead: &[u8], remap: &[u32], i: usize) -> u16
 
 // Instruction i moves down to `to`.
 fn shift(code: &mut [u16], dead: &[u8], remap: &[u32], i: usize, to: usize)
-    requires { ⌜ (i < count (now code)) × (to ≤ i) × Remap (now dead) (now remap) ⌝ }
+    requires { ⌜ (i < chunkCount (now code)) × (to ≤ i) × Remap (now dead) (now remap) ⌝ }
     ensures { λ _. ⌜ now (code .exit) ≡ set (set (set (set (now (code .entry)) (stride * to) (opAt (now (code .entry)) i)) (stride * to + 1)
-        (markAt (now (code .entry)) i)) (stride * to + 2) (operandOf (now (dead .entry)) (now (code .entry)) i)) (stride * to + 3)
+        (markAt (now (code .entry)) i)) (stride * to + 2) (movedOperand (now (dead .entry)) (now (code .entry)) i)) (stride * to + 3)
         (originAt (now (code .entry)) i) ⌝ }
 {
     let op = lent::op_at(code, i);

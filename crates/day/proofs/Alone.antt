@@ -9,7 +9,7 @@ use Rattle.code.specs.declared.Checked.the-variants as stage
 use Rattle.blocks.specs.Blocks.{stepsOf}
 use Rattle.trace.specs.Trace.{verdictOf}
 use Rattle.day.specs.Count.{readsIn, levelsIn}
-use Rattle.day.specs.Day.{stagesOf, Day, refused, check, filler, move, told}
+use Rattle.day.specs.Day.{replayStages, Day, refused, check, filler, move, told}
 use Rattle.trace.specs.declared.Verdict.{Verdict}
 use Rattle.trace.specs.declared.Verdict.the-variants as found
 use Rattle.day.specs.declared.DayAnswer.{DayAnswer}
@@ -31,7 +31,7 @@ module _ (w : List ℕ) (regs : ℕ) (tries t old : List ℕ) where
   answer (stage.Count n) found.Fine = Is (stepsOf t) (levelsIn w t (stepsOf t))
 
   settled : {new : List ℕ} {r : DayAnswer} → Day w regs tries t old new r
-      → (new ≡ left (stagesOf w regs tries (length old)) (verdictOf w tries t)) × (r ≡ answer (stagesOf w regs tries (length old)) (verdictOf w tries t))
+      → (new ≡ left (replayStages w regs tries (length old)) (verdictOf w tries t)) × (r ≡ answer (replayStages w regs tries (length old)) (verdictOf w tries t))
   unfolding left answer
   settled (refused {r = r} e) = (sym (ap (λ (c : Checked). left c (verdictOf w tries t)) e), sym (ap (λ (c : Checked). answer c (verdictOf w tries t)) e))
   settled (check e f) = (sym (ap₂ left e f), sym (ap₂ answer e f))

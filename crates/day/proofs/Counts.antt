@@ -28,7 +28,7 @@ use Rattle.steps.specs.Level.{isLevel}
 use Rattle.steps.specs.Step.{StepAt, named}
 use Rattle.steps.specs.declared.Step.{Step}
 use Rattle.blocks.specs.Blocks.{slotAt}
-use Rattle.day.specs.Count.{Low, Lower, Once, Thrice, Stepped, Zeros, readsIn, levelsIn, Counted, Walkable}
+use Rattle.day.specs.Count.{CanRise, Lower, CountedOnce, Thrice, Stepped, ZeroReads, readsIn, levelsIn, Tallied, Walkable}
 
 and-false : (t : Bool) → t && false ≡ false
 and-false true = refl
@@ -43,29 +43,29 @@ held-trans m x y z p q = record { same = q .same ∙ p .same; tail = q .tail ∙
 -- ---- one register
 
 module _ (regs : ℕ) (l : List ℕ) (t : Bool) (r : ℕ) where
-  pub bump-yes : Low regs l → not t ≡ false → r < regs → (x : ℕ) → x ≡ getD l r 0 → Once regs l (set l r (x + 1)) t r
+  pub bump-yes : CanRise regs l → not t ≡ false → r < regs → (x : ℕ) → x ≡ getD l r 0 → CountedOnce regs l (set l r (x + 1)) t r
   bump-yes low e h x q = record { held = record { same = length-set l r (x + 1); tail = drop-set-lt regs l r (x + 1) h }; each = λ p k. rw (not-false t e) (at p (ℕ-discrete p r)) }
     where
       at : (p : ℕ) → Dec (p ≡ r) → getD (set l r (x + 1)) p 0 ≡ getD l p 0 + boolByte (eqb p r)
       at p (yes f) = rw (f, eq-eqb r r refl) (getD-set-same l r (x + 1) 0 (omega (arith, low .room)) ∙ ap (λ (y : ℕ). y + 1) q)
       at p (no n) = rw (ne-eqb p r n) (getD-set-other l r p (x + 1) 0 n ∙ sym (add-zero (getD l p 0)))
 
-  pub bump-not : not t ≡ true → Once regs l l t r
+  pub bump-not : not t ≡ true → CountedOnce regs l l t r
   bump-not e = record { held = held-refl regs l; each = λ p k. rw (not-true t e) (sym (add-zero (getD l p 0))) }
 
-  pub bump-out : not t ≡ false → regs ≤ r → Once regs l l t r
+  pub bump-out : not t ≡ false → regs ≤ r → CountedOnce regs l l t r
   bump-out e h = record { held = held-refl regs l; each = λ p k. rw (not-false t e, ne-eqb p r (λ q. omega arith)) (sym (add-zero (getD l p 0))) }
 
 pub ruleset bumps = (bump-yes, bump-not, bump-out)
 
-pub low-first : (regs : ℕ) (l : List ℕ) → Lower regs l → Low regs l
+pub low-first : (regs : ℕ) (l : List ℕ) → Lower regs l → CanRise regs l
 low-first regs l h = record { room = h .room; each = λ p k. omega (arith, h .each p k) }
 
 byte-le : (t : Bool) → boolByte t ≤ 1
 byte-le true = omega arith
 byte-le false = omega arith
 
-pub low-second : (regs : ℕ) (l l′ : List ℕ) (t : Bool) (r : ℕ) → Lower regs l → Once regs l l′ t r → Low regs l′
+pub low-second : (regs : ℕ) (l l′ : List ℕ) (t : Bool) (r : ℕ) → Lower regs l → CountedOnce regs l l′ t r → CanRise regs l′
 low-second regs l l′ t r h b = record {
   room = omega (arith, h .room, b .held .same);
   each = λ p k. omega (
@@ -76,7 +76,7 @@ low-second regs l l′ t r h b = record {
   );
 }
 
-pub low-third : (regs : ℕ) (l l′ l″ : List ℕ) (t : Bool) (r : ℕ) (u : Bool) (q : ℕ) → Lower regs l → Once regs l l′ t r → Once regs l′ l″ u q → Low regs l″
+pub low-third : (regs : ℕ) (l l′ l″ : List ℕ) (t : Bool) (r : ℕ) (u : Bool) (q : ℕ) → Lower regs l → CountedOnce regs l l′ t r → CountedOnce regs l′ l″ u q → CanRise regs l″
 low-third regs l l′ l″ t r u q h b d = record {
   room = omega (arith, h .room, b .held .same, d .held .same);
   each = λ p k. omega (arith, h .each p k, b .each p k, byte-le (t && eqb p r), d .each p k, byte-le (u && eqb p q));
@@ -130,9 +130,9 @@ among-three x y z p u v r =
 
 -- three registers are counted, each once
 pub three-counts : (regs : ℕ) (x y z : Bool) (u v r : ℕ) (l l₁ l₂ l₃ : List ℕ)
-    → Once regs l l₁ x u
-    → Once regs l₁ l₂ (y && not (x && eqb v u)) v
-    → Once regs l₂ l₃ ((z && not (x && eqb r u)) && not (y && eqb r v)) r
+    → CountedOnce regs l l₁ x u
+    → CountedOnce regs l₁ l₂ (y && not (x && eqb v u)) v
+    → CountedOnce regs l₂ l₃ ((z && not (x && eqb r u)) && not (y && eqb r v)) r
     → Thrice regs l l₃ x u y v z r
 three-counts regs x y z u v r l l₁ l₂ l₃ b₁ b₂ b₃ = record {
   held = held-trans regs l l₂ l₃ (held-trans regs l l₁ l₂ (b₁ .held) (b₂ .held)) (b₃ .held);
@@ -183,7 +183,7 @@ many-le f zero = zero-le
 many-le f (suc n) = let e = many-le f n in omega (arith, byte-le (f n))
 
 module _ (w t : List ℕ) (regs : ℕ) (old : List ℕ) (m : ℕ) where
-  pub counting-start : Walkable w t m → Zeros regs old → Counting w t regs old old 0 m 0
+  pub counting-start : Walkable w t m → ZeroReads regs old → Counting w t regs old old 0 m 0
   unfolding readsIn levelsIn many
   counting-start k h = record { le = zero-le; walk = k; room = h .room; held = held-refl regs old; each = h .each; met = refl }
 
@@ -218,7 +218,7 @@ module _ (w t : List ℕ) (regs : ℕ) (old : List ℕ) (m : ℕ) where
       met = rw (add-one s) (ap₂ (λ (y z : ℕ). y + z) (c .met) (xe ∙ ap boolByte (le ∙ ap isLevel (ie ∙ ap (insAt w) e))));
     }
 
-    pub counting-end : m ≤ s → Counted w t regs old m new levels
+    pub counting-end : m ≤ s → Tallied w t regs old m new levels
     counting-end h = let q : s ≡ m = omega (arith, c .le) in record {
       reads = filled-by (readsIn w t m) regs old new (c .room) (c .held) (λ p l. c .each p l ∙ ap (λ (n : ℕ). readsIn w t n p) q);
       met = c .met ∙ ap (levelsIn w t) q;
@@ -227,7 +227,7 @@ module _ (w t : List ℕ) (regs : ℕ) (old : List ℕ) (m : ℕ) where
 pub ruleset countings = (counting-start, counting-more, counting-end)
 
 -- reads set to 0 first
-pub zeros-of : (regs : ℕ) (old new : List ℕ) → regs ≤ length old → new ≡ replicate regs 0 ++ drop regs old → Zeros regs new
+pub zeros-of : (regs : ℕ) (old new : List ℕ) → regs ≤ length old → new ≡ replicate regs 0 ++ drop regs old → ZeroReads regs new
 zeros-of regs old new h e = record {
   room = omega (
     arith,
@@ -238,5 +238,5 @@ zeros-of regs old new h e = record {
 }
 
 pub counted-over : (w t : List ℕ) (regs : ℕ) (old mid : List ℕ) (m : ℕ) (new : List ℕ) (levels : ℕ) → mid ≡ replicate regs 0 ++ drop regs old
-    → Counted w t regs mid m new levels → Counted w t regs old m new levels
+    → Tallied w t regs mid m new levels → Tallied w t regs old m new levels
 counted-over w t regs old mid m new levels e c = record { reads = c .reads ∙ ap (λ (x : List ℕ). table (readsIn w t m) regs ++ x) (ap (drop regs) e ∙ cleared-tail regs old); met = c .met }

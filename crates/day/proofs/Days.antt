@@ -17,8 +17,8 @@ use Rattle.code.proofs.Checks.{counted, checked}
 use Rattle.code.proofs.Stages.{regs-before, tries-before, room-before, room-there}
 use Rattle.blocks.specs.Blocks.{slotAt, fillerAt, stepsOf}
 use Rattle.trace.specs.Trace.{verdictOf, Recorded}
-use Rattle.day.specs.Count.{readsIn, levelsIn, Counted, Walkable}
-use Rattle.day.specs.Day.{stagesOf, Day, refused, check, filler, move, told}
+use Rattle.day.specs.Count.{readsIn, levelsIn, Tallied, Walkable}
+use Rattle.day.specs.Day.{replayStages, Day, refused, check, filler, move, told}
 use Rattle.trace.specs.declared.Verdict.{Verdict}
 use Rattle.trace.specs.declared.Verdict.the-variants as found
 use Rattle.day.specs.declared.DayAnswer.{DayAnswer}
@@ -51,9 +51,9 @@ before-first f (suc m) k j lo hi = go (f k) refl hi (λ a b. before-first f m (s
 
 -- ---- the tests
 
-module _ (w : List ℕ) (regs : ℕ) (tries : List ℕ) (a n : ℕ) (h : stagesOf w regs tries a ≡ stage.Count n) where
+module _ (w : List ℕ) (regs : ℕ) (tries : List ℕ) (a n : ℕ) (h : replayStages w regs tries a ≡ stage.Count n) where
   all : stage.Count n ≡ roomOf (triedOf (registersOf (checkOf w) regs) tries) 1 a regs
-  unfolding stagesOf
+  unfolding replayStages
   all = sym h
 
   four : triedOf (registersOf (checkOf w) regs) tries ≡ stage.Count n
@@ -68,16 +68,16 @@ module _ (w : List ℕ) (regs : ℕ) (tries : List ℕ) (a n : ℕ) (h : stagesO
   pub day-valid : Valid w
   day-valid = checked w n (sym one)
 
-  pub day-count : stagesOf w regs tries a ≡ stage.Count (count w)
+  pub day-count : replayStages w regs tries a ≡ stage.Count (count w)
   day-count = h ∙ ap stage.Count (counted w n (sym one))
 
-pub day-whole : (w : List ℕ) (regs : ℕ) (tries : List ℕ) (a n : ℕ) → stagesOf w regs tries a ≡ stage.Count n → Whole w
+pub day-whole : (w : List ℕ) (regs : ℕ) (tries : List ℕ) (a n : ℕ) → replayStages w regs tries a ≡ stage.Count n → Whole w
 day-whole w regs tries a n h = day-valid w regs tries a n h .whole
 
 module _ (w : List ℕ) (regs : ℕ) (tries t old : List ℕ) (c v u s : Checked) (e : c ≡ checkOf w) (f : v ≡ registersOf c regs) (g : u ≡ triedOf v tries)
     (k : s ≡ roomOf u 1 (length old) regs) where
-  chain : s ≡ stagesOf w regs tries (length old)
-  unfolding stagesOf
+  chain : s ≡ replayStages w regs tries (length old)
+  unfolding replayStages
   chain = k ∙ ap (λ (x : Checked). roomOf x 1 (length old) regs) (g ∙ ap (λ (x : Checked). triedOf x tries) (f ∙ ap (λ (x : Checked). registersOf x regs) e))
 
   pub day-no : (r : Refusal) → s ≡ stage.No r → Day w regs tries t old old (No r)
@@ -85,15 +85,15 @@ module _ (w : List ℕ) (regs : ℕ) (tries t old : List ℕ) (c v u s : Checked
 
 pub day-on : (w : List ℕ) (regs : ℕ) (tries : List ℕ) (a : ℕ) (c v u s : Checked) → c ≡ checkOf w → v ≡ registersOf c regs → u ≡ triedOf v tries
     → s ≡ roomOf u 1 a regs → (n : ℕ) → s ≡ stage.Count n
-    → stagesOf w regs tries a ≡ stage.Count (count w)
-unfolding stagesOf
+    → replayStages w regs tries a ≡ stage.Count (count w)
+unfolding replayStages
 day-on w regs tries a c v u s e f g k n h =
     day-count w regs tries a n
     (sym (k ∙ ap (λ (x : Checked). roomOf x 1 a regs) (g ∙ ap (λ (x : Checked). triedOf x tries) (f ∙ ap (λ (x : Checked). registersOf x regs) e))) ∙ h)
 
 -- ---- the trace
 
-module _ (w : List ℕ) (regs : ℕ) (tries t old : List ℕ) (ok : stagesOf w regs tries (length old) ≡ stage.Count (count w)) (v : Verdict)
+module _ (w : List ℕ) (regs : ℕ) (tries t old : List ℕ) (ok : replayStages w regs tries (length old) ≡ stage.Count (count w)) (v : Verdict)
     (e : v ≡ verdictOf w tries t) where
   pub day-check : (b : ℕ) → v ≡ found.Check b → Day w regs tries t old old (Check b)
   day-check b h = check ok (sym e ∙ h)
@@ -104,7 +104,7 @@ module _ (w : List ℕ) (regs : ℕ) (tries t old : List ℕ) (ok : stagesOf w r
   pub day-move : (s : ℕ) → v ≡ found.Move s → Day w regs tries t old old (Move s)
   day-move s h = move ok (sym e ∙ h)
 
-  pub day-told : v ≡ found.Fine → (m : ℕ) → m ≡ stepsOf t → (new : List ℕ) (levels : ℕ) → Counted w t regs old m new levels
+  pub day-told : v ≡ found.Fine → (m : ℕ) → m ≡ stepsOf t → (new : List ℕ) (levels : ℕ) → Tallied w t regs old m new levels
       → Day w regs tries t old new (Is m levels)
   day-told h m p new levels d = rw (d .reads, d .met, p) (told ok (sym e ∙ h))
 
@@ -114,7 +114,7 @@ unfolding stepsOf
 steps-below w tries t r s l = r .below s (omega (arith, first-le (fillerAt t) (127 * (length t / 512)) 0))
     (before-first (fillerAt t) (127 * (length t / 512)) 0 s zero-le (omega arith))
 
-pub day-walk : (w : List ℕ) (regs : ℕ) (tries t : List ℕ) (a : ℕ) → stagesOf w regs tries a ≡ stage.Count (count w) → (v : Verdict) → v ≡ verdictOf w tries t
+pub day-walk : (w : List ℕ) (regs : ℕ) (tries t : List ℕ) (a : ℕ) → replayStages w regs tries a ≡ stage.Count (count w) → (v : Verdict) → v ≡ verdictOf w tries t
     → v ≡ found.Fine → (m : ℕ) → m ≡ stepsOf t
     → length t < 18446744073709551616 → Walkable w t m
 unfolding stepsOf

@@ -16,7 +16,7 @@ use Rattle.steps.specs.Level.{isLevel}
 use Rattle.blocks.specs.Blocks.{slotAt}
 
 -- the counts of the first registers can still rise
-pub record Low (regs : ℕ) (reads : List ℕ) : Type 0 where
+pub record CanRise (regs : ℕ) (reads : List ℕ) : Type 0 where
   pub room : regs ≤ length reads
   pub each : (p : ℕ) → p < regs → getD reads p 0 < 18446744073709551615
 
@@ -24,12 +24,12 @@ pub record Lower (regs : ℕ) (reads : List ℕ) : Type 0 where
   pub room : regs ≤ length reads
   pub each : (p : ℕ) → p < regs → getD reads p 0 < 9223372036854775808
 
-pub record Zeros (regs : ℕ) (reads : List ℕ) : Type 0 where
+pub record ZeroReads (regs : ℕ) (reads : List ℕ) : Type 0 where
   pub room : regs ≤ length reads
   pub each : (p : ℕ) → p < regs → getD reads p 0 ≡ 0
 
 -- register r, if t says so and it is one of the first, is counted once more
-pub record Once (regs : ℕ) (old new : List ℕ) (t : Bool) (r : ℕ) : Type 0 where
+pub record CountedOnce (regs : ℕ) (old new : List ℕ) (t : Bool) (r : ℕ) : Type 0 where
   pub held : Held regs old new
   pub each : (p : ℕ) → p < regs → getD new p 0 ≡ getD old p 0 + boolByte (t && eqb p r)
 
@@ -51,7 +51,7 @@ readsIn w t m r = many (λ s. among r (usedAt w (slotAt t s))) m
 unfoldable pub levelsIn : List ℕ → List ℕ → ℕ → ℕ
 levelsIn w t m = many (λ s. isLevel (insAt w (slotAt t s))) m
 
-pub record Counted (w t : List ℕ) (regs : ℕ) (old : List ℕ) (m : ℕ) (new : List ℕ) (levels : ℕ) : Type 0 where
+pub record Tallied (w t : List ℕ) (regs : ℕ) (old : List ℕ) (m : ℕ) (new : List ℕ) (levels : ℕ) : Type 0 where
   pub reads : new ≡ filledTo (readsIn w t m) regs old
   pub met : levels ≡ levelsIn w t m
 

@@ -18,15 +18,15 @@ use Rattle.day.specs.declared.DayAnswer.{DayAnswer}
 use Rattle.day.specs.declared.DayAnswer.the-variants.{Is, No, Check, Filler, Move}
 
 -- 1, 2, 3, 4, then 5 for the reads
-unfoldable pub stagesOf : List ℕ → ℕ → List ℕ → ℕ → Checked
-stagesOf w regs tries reads = roomOf (triedOf (registersOf (checkOf w) regs) tries) 1 reads regs
+unfoldable pub replayStages : List ℕ → ℕ → List ℕ → ℕ → Checked
+replayStages w regs tries reads = roomOf (triedOf (registersOf (checkOf w) regs) tries) 1 reads regs
 
 module _ (w : List ℕ) (regs : ℕ) (tries t old : List ℕ) where
   -- what the call leaves in the reads, and what it answers
   pub data Day : List ℕ → DayAnswer → Type 0 where
-    refused : {r : Refusal} → stagesOf w regs tries (length old) ≡ stage.No r → Day old (No r)
-    check : {b : ℕ} → stagesOf w regs tries (length old) ≡ stage.Count (count w) → verdictOf w tries t ≡ found.Check b → Day old (Check b)
-    filler : {b : ℕ} → stagesOf w regs tries (length old) ≡ stage.Count (count w) → verdictOf w tries t ≡ found.Filler b → Day old (Filler b)
-    move : {s : ℕ} → stagesOf w regs tries (length old) ≡ stage.Count (count w) → verdictOf w tries t ≡ found.Move s → Day old (Move s)
-    told : stagesOf w regs tries (length old) ≡ stage.Count (count w) → verdictOf w tries t ≡ found.Fine
+    refused : {r : Refusal} → replayStages w regs tries (length old) ≡ stage.No r → Day old (No r)
+    check : {b : ℕ} → replayStages w regs tries (length old) ≡ stage.Count (count w) → verdictOf w tries t ≡ found.Check b → Day old (Check b)
+    filler : {b : ℕ} → replayStages w regs tries (length old) ≡ stage.Count (count w) → verdictOf w tries t ≡ found.Filler b → Day old (Filler b)
+    move : {s : ℕ} → replayStages w regs tries (length old) ≡ stage.Count (count w) → verdictOf w tries t ≡ found.Move s → Day old (Move s)
+    told : replayStages w regs tries (length old) ≡ stage.Count (count w) → verdictOf w tries t ≡ found.Fine
         → Day (filledTo (readsIn w t (stepsOf t)) regs old) (Is (stepsOf t) (levelsIn w t (stepsOf t)))

@@ -9,8 +9,8 @@ ghost use mir.Val.{boolByte};
 ghost use mathlib.Core.List.{_++_};
 ghost use Rattle.code.specs.Answers.{refusalOf};
 ghost use Rattle.day.specs.Answers.{dayTold};
-ghost use Rattle.day.specs.Day.{stagesOf, Day};
-ghost use Rattle.day.specs.Count.{Low, Lower, Once, Thrice, Stepped, Zeros, Counted, Walkable};
+ghost use Rattle.day.specs.Day.{replayStages, Day};
+ghost use Rattle.day.specs.Count.{CanRise, Lower, CountedOnce, Thrice, Stepped, ZeroReads, Tallied, Walkable};
 use code::Answer;
 use code::Checked;
 use code::Refusal;
@@ -66,7 +66,7 @@ pub fn day(code: &[u16], regs: usize, tries: &[u32], t: &[u8], reads: &mut [u64]
 
 // The same, where nothing is refused before the trace is read.
 fn replayed(code: &[u16], regs: usize, tries: &[u32], t: &[u8], reads: &mut [u64]) -> DayAnswer
-    requires { ⌜ stagesOf (now code) regs (now tries) (length (now reads)) ≡ Checked.Count (count (now code)) ⌝ }
+    requires { ⌜ replayStages (now code) regs (now tries) (length (now reads)) ≡ Checked.Count (count (now code)) ⌝ }
     ensures { λ r. ⌜ Day (now (code .entry)) regs (now (tries .entry)) (now (t .entry)) (now (reads .entry)) (now (reads .exit)) r ⌝ }
 {
     let verdict = trace::judge(code, tries, t);
@@ -99,8 +99,8 @@ fn short(x: u16) -> usize
 
 // Register r is read once more, if t says so.
 fn once_more(reads: &mut [u64], regs: usize, t: bool, r: usize)
-    requires { ⌜ Low regs (now reads) ⌝ }
-    ensures { λ _. ⌜ Once regs (now (reads .entry)) (now (reads .exit)) t r ⌝ }
+    requires { ⌜ CanRise regs (now reads) ⌝ }
+    ensures { λ _. ⌜ CountedOnce regs (now (reads .entry)) (now (reads .exit)) t r ⌝ }
 {
     if !t {
         return;
@@ -167,7 +167,7 @@ fn clear(reads: &mut [u64], regs: usize)
 // The reads of so many steps, and how many of them are levels.
 fn count_all(reads: &mut [u64], regs: usize, code: &[u16], t: &[u8], steps: usize) -> usize
     requires { ⌜ Walkable (now code) (now t) steps × (regs ≤ length (now reads)) ⌝ }
-    ensures { λ r. ⌜ Counted (now (code .entry)) (now (t .entry)) regs (now (reads .entry)) steps (now (reads .exit)) r ⌝ }
+    ensures { λ r. ⌜ Tallied (now (code .entry)) (now (t .entry)) regs (now (reads .entry)) steps (now (reads .exit)) r ⌝ }
 {
     clear(reads, regs);
     tally(reads, regs, code, t, steps)
@@ -175,8 +175,8 @@ fn count_all(reads: &mut [u64], regs: usize, code: &[u16], t: &[u8], steps: usiz
 
 // The same, from reads that are all 0.
 fn tally(reads: &mut [u64], regs: usize, code: &[u16], t: &[u8], steps: usize) -> usize
-    requires { ⌜ Walkable (now code) (now t) steps × Zeros regs (now reads) ⌝ }
-    ensures { λ r. ⌜ Counted (now (code .entry)) (now (t .entry)) regs (now (reads .entry)) steps (now (reads .exit)) r ⌝ }
+    requires { ⌜ Walkable (now code) (now t) steps × ZeroReads regs (now reads) ⌝ }
+    ensures { λ r. ⌜ Tallied (now (code .entry)) (now (t .entry)) regs (now (reads .entry)) steps (now (reads .exit)) r ⌝ }
 {
     let roles = roles::table();
     let mut levels = 0;

@@ -7,7 +7,7 @@ use lib.ListN.{length}
 use Rattle.laws.specs.Table.{Held}
 use Rattle.code.specs.declared.Answer.{Answer}
 use Rattle.code.specs.declared.Checked.the-variants.{Count}
-use Rattle.lent.specs.Check.{checkOf}
+use Rattle.lent.specs.Check.{chunkCheckOf}
 use Rattle.lent.specs.declared.Counts.{Counts}
 use Rattle.optimizer.specs.Fold.{Called}
 use Rattle.optimizer.specs.declared.Folded.{Folded}
@@ -18,7 +18,7 @@ use Rattle.clear.specs.Clear as clearing
 use Rattle.clear.specs.Clear.{ClearAnswer, clearCall, clearTold}
 use Rattle.optimizer.proofs.Again.{again}
 use Rattle.clear.proofs.Answers.{answered}
-use Rattle.refold.specs.Lending.{Lending, lending, leaving, foldOf, Folds}
+use Rattle.refold.specs.Lending.{Lending, lending, foldLeaving, foldOf, Folds}
 use Rattle.refold.specs.Lendable.{cutAt, countsLeft, Lendable, clearable, clearedBuffers, withConstants, countsCleared, Chained}
 use Rattle.refold.specs.Left.{PoolLeft, FoldBeyond, NoneDied, asLent, TriesLeft, LandingsLeft}
 use Rattle.refold.proofs.Lends.{lends, pool-stays, stays-beyond, refusal-leaves, idle-call}
@@ -41,7 +41,7 @@ module _ (strict : Bool) (c : Counts) (b : Lending) (r : Answer) (a : Lending) (
   pub answered-fold : r .refusal ≡ 0 → Folds strict b c (foldedOf r) a
   answered-fold z = go (x .told) (x .is) (x .allowed)
     where
-      go : (v : FoldAnswer) → r ≡ foldTold v → leaving v a ≡ foldOf strict b c → Folds strict b c (foldedOf r) a
+      go : (v : FoldAnswer) → r ≡ foldTold v → foldLeaving v a ≡ foldOf strict b c → Folds strict b c (foldedOf r) a
       go (Is f) e h = rw e (sym h)
       go (No q) e h = absurd (refused-not q (sym (ap (λ (s : Answer). s .refusal) e) ∙ z))
 
@@ -55,14 +55,14 @@ module _ (strict : Bool) (c : Counts) (b : Lending) (r : Answer) (a : Lending) (
   fold-refusal : settles.Refusal r → a ≡ b
   fold-refusal h = go (x .told) (x .is) (x .allowed)
     where
-      go : (v : FoldAnswer) → r ≡ foldTold v → leaving v a ≡ foldOf strict b c → a ≡ b
+      go : (v : FoldAnswer) → r ≡ foldTold v → foldLeaving v a ≡ foldOf strict b c → a ≡ b
       go (Is f) e y = absurd (h (ap (λ (s : Answer). s .refusal) e))
       go (No q) e y = refusal-leaves strict b c q a (sym y)
 
   fold-beyond : FoldBeyond c b a
   fold-beyond = go (x .told) (x .allowed)
     where
-      go : (v : FoldAnswer) → leaving v a ≡ foldOf strict b c → FoldBeyond c b a
+      go : (v : FoldAnswer) → foldLeaving v a ≡ foldOf strict b c → FoldBeyond c b a
       go (Is f) y = stays-beyond strict b c f a (sym y)
       go (No q) y =
           let d = b .buffers in
@@ -97,18 +97,18 @@ fold-settles strict c =
 
 -- ---- clearing, answered
 
-module _ (m : ℕ) (b : clearing.Buffers) (r : Answer) (a : clearing.Buffers) (x : ClearCall m b r a) where
-  pub answered-clear : r .refusal ≡ 0 → clearCall b m ≡ clearing.outcome (clearing.Is (r .first)) a
+module _ (m : ℕ) (b : clearing.PoolBuffers) (r : Answer) (a : clearing.PoolBuffers) (x : ClearCall m b r a) where
+  pub answered-clear : r .refusal ≡ 0 → clearCall b m ≡ clearing.clearOutcome (clearing.Is (r .first)) a
   answered-clear z = go (x .told) (x .is) (x .allowed)
     where
-      go : (v : ClearAnswer) → r ≡ clearTold v → clearing.outcome v a ≡ clearCall b m → clearCall b m ≡ clearing.outcome (clearing.Is (r .first)) a
+      go : (v : ClearAnswer) → r ≡ clearTold v → clearing.clearOutcome v a ≡ clearCall b m → clearCall b m ≡ clearing.clearOutcome (clearing.Is (r .first)) a
       go (clearing.Is n) e h = rw e (sym h)
       go (clearing.No q) e h = absurd (refused-not q (sym (ap (λ (s : Answer). s .refusal) e) ∙ z))
 
-  pub clear-answers : (n : ℕ) (y : clearing.Buffers) → clearCall b m ≡ clearing.outcome (clearing.Is n) y → (r ≡ clearTold (clearing.Is n)) × (a ≡ y)
+  pub clear-answers : (n : ℕ) (y : clearing.PoolBuffers) → clearCall b m ≡ clearing.clearOutcome (clearing.Is n) y → (r ≡ clearTold (clearing.Is n)) × (a ≡ y)
   clear-answers n y e =
       let h = x .allowed ∙ e in
-      (x .is ∙ ap (λ (o : clearing.Outcome). clearTold (o .answer)) h, ap (λ (o : clearing.Outcome). o .after) h)
+      (x .is ∙ ap (λ (o : clearing.ClearOutcome). clearTold (o .answer)) h, ap (λ (o : clearing.ClearOutcome). o .after) h)
 
 -- ---- from refusal 0
 
@@ -133,7 +133,7 @@ module _ (strict : Bool) (c : Counts) (b : Lending) (r : Answer) (a : Lending) (
   pub pool-kept : PoolLeft (b .buffers) c f (a .buffers)
   pool-kept = pool-stays strict b c f a answer
 
-  pub none-died : NoneDied (b .buffers) (a .buffers) → leaving (Is f) a ≡ asLent b c
+  pub none-died : NoneDied (b .buffers) (a .buffers) → foldLeaving (Is f) a ≡ asLent b c
   none-died h = sym answer ∙ idle-call strict b c f a answer h
 
   pub folds-next : FoldsNext c r a
@@ -179,5 +179,5 @@ module _ (strict : Bool) (c : Counts) (b : Lending) (r : Answer) (a : Lending) (
       fold-answers strict′ d (clearedBuffers b x′) t y v g k i .0
 
   -- the whole code passes tests 1 and 2 again
-  pub code-again : (n : ℕ) → checkOf (b .buffers .code) ≡ Count n → checkOf (a .buffers .code) ≡ Count n
-  code-again n e = ap (λ (o : Called). checkOf (o .result .after .code)) (sym answer) ∙ again strict (b .buffers) (b .tries) (b .landings) c n e
+  pub code-again : (n : ℕ) → chunkCheckOf (b .buffers .code) ≡ Count n → chunkCheckOf (a .buffers .code) ≡ Count n
+  code-again n e = ap (λ (o : Called). chunkCheckOf (o .result .after .code)) (sym answer) ∙ again strict (b .buffers) (b .tries) (b .landings) c n e

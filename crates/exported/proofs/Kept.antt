@@ -14,7 +14,7 @@ use Rattle.flow.specs.Flow.{Flow}
 use Rattle.flow.specs.Sweep.{Found}
 use Rattle.flow.proofs.Answer.{start-closed}
 use Rattle.steps.specs.Code.{flow}
-use Rattle.rows.specs.Route.{firstOf, rowsIn, Rows}
+use Rattle.rows.specs.Route.{routeStart, rowsIn, Rows}
 use Rattle.rows.proofs.Least.{rows-least, rows-below, row-last, rows-regs, rows-few}
 use Rattle.kept.specs.Lists.{listsTo, offsetsTo, over}
 use Rattle.kept.specs.Answers.{scratchFor, ListsLeft, Outcome, refused, short, told}
@@ -87,7 +87,7 @@ lists-settle f start bits some w regs tries =
     }
 
 pub kept-settles : (bits : ℕ) (some : 0 < bits) (w : List ℕ) (regs : ℕ) (tries : List ℕ) (wide : Bool) → KeptSettles bits w regs tries wide
-kept-settles bits some w regs tries wide = lists-settle (flow regs w) (firstOf bits wide regs w) bits some w regs tries
+kept-settles bits some w regs tries wide = lists-settle (flow regs w) (routeStart bits wide regs w) bits some w regs tries
 
 -- ---- an answer
 
@@ -107,7 +107,7 @@ told-of f start bits w regs tries b r a x z = go (x .told .told) (x .told .is) (
 module _ (bits : ℕ) (w : List ℕ) (regs : ℕ) (tries : List ℕ) (wide : Bool) (b : Lists) (r : Answer) (a : Lists) (x : KeptCall bits w regs tries wide b r a)
     (z : r .refusal ≡ 0) where
   out : Outcome bits w regs tries wide (b .rows) (b .offsets) (b .list) (a .rows) (a .offsets) (a .list) (Is (r .first) (r .second) (r .third))
-  out = told-of (flow regs w) (firstOf bits wide regs w) bits w regs tries b r a x z .out
+  out = told-of (flow regs w) (routeStart bits wide regs w) bits w regs tries b r a x z .out
 
   found : Rows bits wide regs w (a .rows) (r .second) (r .third)
   found = left bits w regs tries wide (b .rows) (b .offsets) (b .list) out (r .first) (r .second) (r .third) refl .scratch .found
@@ -117,7 +117,7 @@ module _ (bits : ℕ) (w : List ℕ) (regs : ℕ) (tries : List ℕ) (wide : Boo
   kept-holds =
       record {
         least = rows-least bits wide regs w (a .rows) (r .second) (r .third) found;
-        closed = start-closed (flow regs w) (firstOf bits wide regs w);
+        closed = start-closed (flow regs w) (routeStart bits wide regs w);
         below = rows-below bits wide regs w (a .rows) (r .second) (r .third) found;
         last = row-last bits wide regs w (a .rows) (r .second) (r .third) found;
         within = rows-regs bits wide regs w (a .rows) (r .second) (r .third) found;

@@ -14,7 +14,7 @@ use Rattle.flow.specs.Flow.{Least}
 use Rattle.flow.specs.Sweep.{strays}
 use Rattle.flow.proofs.Bits.{bit-lt}
 use Rattle.steps.specs.Code.{flow}
-use Rattle.rows.specs.Route.{firstOf}
+use Rattle.rows.specs.Route.{routeStart}
 use Rattle.needed.specs.Path.{Needs}
 use Rattle.needed.specs.Answers.{uptoOf}
 use Rattle.needed.proofs.Rows.{needs-row, row-needs}
@@ -39,7 +39,7 @@ needed-truth w regs k q b r a x z = told-truth w (uptoOf (registersOf (checkOf w
 
 -- the forced wide route begins at 0, and stays there
 pub wide-zero : (bits regs : ℕ) (w : List ℕ) → startAt bits true regs w ≡ 0
-unfolding firstOf
+unfolding routeStart
 wide-zero bits regs w = go (ltb 0 (strays (flow regs w) 0))
   where
     go : (t : Bool) → cond {A = ℕ} t 0 0 ≡ 0

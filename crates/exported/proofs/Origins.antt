@@ -5,7 +5,7 @@ use mathlib.Core.Bool.{Bool}
 use mathlib.Core.List.{List}
 use lib.ListN.{take}
 use Rattle.code.specs.declared.Answer.{Answer}
-use Rattle.lent.specs.Chunk.{stride, count, originAt}
+use Rattle.lent.specs.Chunk.{stride, chunkCount, originAt}
 use Rattle.lent.specs.declared.Counts.{Counts}
 use Rattle.clear.specs.Clear as clearing
 use Rattle.named.specs.Unused.{before}
@@ -26,16 +26,16 @@ pub origins-folded : (strict : Bool) (c : Counts) (b : Lending) (r : Answer) (a 
 origins-folded strict c b r a x z = origins-after strict b c (foldedOf r) a (answered-fold strict c b r a x z)
 
 -- clearing moves none
-pub origins-cleared : (m : ℕ) (b : clearing.Buffers) (r : Answer) (a : clearing.Buffers) → ClearCall m b r a → r .refusal ≡ 0
-    → (k : ℕ) → k < count (b .code) → originAt (a .code) k ≡ originAt (b .code) k
+pub origins-cleared : (m : ℕ) (b : clearing.PoolBuffers) (r : Answer) (a : clearing.PoolBuffers) → ClearCall m b r a → r .refusal ≡ 0
+    → (k : ℕ) → k < chunkCount (b .code) → originAt (a .code) k ≡ originAt (b .code) k
 origins-cleared m b r a x z k h =
     ap (λ (w : List ℕ). originAt w k) (answered b m (r .first) a (answered-clear m b r a x z) .code) ∙ recoded-origin (before (b .code)) m (b .code) k h
 
 -- a fold, as a step of several
 folded : (strict : Bool) (c : Counts) (b : Lending) (r : Answer) (a : Lending) → FoldCall strict c b r a → r .refusal ≡ 0
-    → Carried (count (b .buffers .code)) (b .buffers .code) (r .first) (a .buffers .code)
+    → Carried (chunkCount (b .buffers .code)) (b .buffers .code) (r .first) (a .buffers .code)
 folded strict c b r a x z =
-    carried-fold (take (count (b .buffers .code)) (a .buffers .dead)) (b .buffers .code) (a .buffers .code) (r .first) (origins-folded strict c b r a x z)
+    carried-fold (take (chunkCount (b .buffers .code)) (a .buffers .dead)) (b .buffers .code) (a .buffers .code) (r .first) (origins-folded strict c b r a x z)
 
 -- ---- fold, clear, fold
 
@@ -44,27 +44,27 @@ module _ (strict : Bool) (c : Counts) (b : Lending) (r : Answer) (a : Lending) (
   front = take (stride * r .first) (a .buffers .code)
 
   -- as many instructions as answered
-  whole : count front ≡ r .first
+  whole : chunkCount front ≡ r .first
   whole = check-count front (r .first) (lends strict b c (foldedOf r) a (answered-fold strict c b r a x z) .code)
 
-  module _ (scratch : List ℕ) (s : Answer) (y : clearing.Buffers) (u : ClearCall (r .second) (clearable (foldedOf r) a scratch) s y)
+  module _ (scratch : List ℕ) (s : Answer) (y : clearing.PoolBuffers) (u : ClearCall (r .second) (clearable (foldedOf r) a scratch) s y)
       (zs : s .refusal ≡ 0) where
-    cleared : Carried (count (b .buffers .code)) (b .buffers .code) (r .first) (y .code)
+    cleared : Carried (chunkCount (b .buffers .code)) (b .buffers .code) (r .first) (y .code)
     cleared =
         carried-on (folded strict c b r a x z)
         (carried-on (carried-cut (a .buffers .code) (r .first))
         (carried-same (r .first) front (y .code)
         (λ k h. origins-cleared (r .second) (clearable (foldedOf r) a scratch) s y u zs k (rw whole h))))
 
-    left : count (y .code) ≡ r .first
+    left : chunkCount (y .code) ≡ r .first
     left =
         let lent = clearable (foldedOf r) a scratch in
-        ap (λ (w : List ℕ). count w) (answered lent (r .second) (s .first) y (answered-clear (r .second) lent s y u zs) .code)
+        ap (λ (w : List ℕ). chunkCount w) (answered lent (r .second) (s .first) y (answered-clear (r .second) lent s y u zs) .code)
         ∙ recoded-count (before front) (r .second) front
         ∙ whole
 
     again : (strict′ : Bool) (t : Answer) (v : Lending) → FoldCall strict′ (countsCleared (foldedOf r) c (s .first)) (clearedBuffers a y) t v
-        → t .refusal ≡ 0 → Carried (count (b .buffers .code)) (b .buffers .code) (t .first) (v .buffers .code)
+        → t .refusal ≡ 0 → Carried (chunkCount (b .buffers .code)) (b .buffers .code) (t .first) (v .buffers .code)
     again strict′ t v w zt =
         carried-on cleared (rw left at (folded strict′ (countsCleared (foldedOf r) c (s .first)) (clearedBuffers a y) t v w zt))
 

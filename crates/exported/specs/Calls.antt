@@ -12,7 +12,7 @@ use Rattle.flow.specs.Flow.{Flow}
 use Rattle.flow.specs.Words.{Small}
 use Rattle.kept.specs.Answers.{scratchFor}
 use Rattle.steps.specs.Code.{flow}
-use Rattle.rows.specs.Route.{firstOf}
+use Rattle.rows.specs.Route.{routeStart}
 use Rattle.lent.specs.declared.Counts.{Counts}
 use Rattle.clear.specs.Clear as clearing
 use Rattle.clear.specs.Clear.{ClearTold}
@@ -68,7 +68,7 @@ pub record ListsCall (f : Flow) (start bits : ℕ) (w : List ℕ) (regs : ℕ) (
   pub words : Small bits (a .rows)
 
 abbrev pub KeptCall : ℕ → List ℕ → ℕ → List ℕ → Bool → Lists → Answer → Lists → Type 0
-KeptCall bits w regs tries wide b r a = ListsCall (flow regs w) (firstOf bits wide regs w) bits w regs tries b r a
+KeptCall bits w regs tries wide b r a = ListsCall (flow regs w) (routeStart bits wide regs w) bits w regs tries b r a
 
 -- like `Settles`, with the one exception: refusal 5 for the list, buffer 3, comes after the rows are found, and the scratch holds them
 pub record ListsSettles (f : Flow) (start bits : ℕ) (w : List ℕ) (regs : ℕ) (tries : List ℕ) : Type 0 where
@@ -83,18 +83,18 @@ pub record ListsSettles (f : Flow) (start bits : ℕ) (w : List ℕ) (regs : ℕ
   pub list-beyond : (b : Lists) (r : Answer) (a : Lists) → ListsCall f start bits w regs tries b r a → r .refusal ≡ 0 → Held (r .first) (b .list) (a .list)
 
 abbrev pub KeptSettles : ℕ → List ℕ → ℕ → List ℕ → Bool → Type 0
-KeptSettles bits w regs tries wide = ListsSettles (flow regs w) (firstOf bits wide regs w) bits w regs tries
+KeptSettles bits w regs tries wide = ListsSettles (flow regs w) (routeStart bits wide regs w) bits w regs tries
 
 -- ---- fold and clear
 
 abbrev pub FoldCall : Bool → Counts → Lending → Answer → Lending → Type 0
 FoldCall strict c b r a = FoldTold strict (b .buffers) (b .tries) (b .landings) c r (a .buffers) (a .tries) (a .landings)
 
-abbrev pub ClearCall : ℕ → clearing.Buffers → Answer → clearing.Buffers → Type 0
+abbrev pub ClearCall : ℕ → clearing.PoolBuffers → Answer → clearing.PoolBuffers → Type 0
 ClearCall m b r a = ClearTold b m r a
 
 -- constants and scratch as far as there are constants
-pub record ClearBeyond (m : ℕ) (b a : clearing.Buffers) : Type 0 where
+pub record ClearBeyond (m : ℕ) (b a : clearing.PoolBuffers) : Type 0 where
   pub code : length (a .code) ≡ length (b .code)
   pub kinds : Held m (b .kinds) (a .kinds)
   pub words : Held m (b .words) (a .words)

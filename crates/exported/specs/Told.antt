@@ -15,20 +15,20 @@ use Rattle.flow.specs.Sweep.{row, backs, startOf}
 use Rattle.flow.specs.Demand.{Keeps, Lost, Once}
 use Rattle.steps.specs.Level.{isLevel}
 use Rattle.steps.specs.Code.{flow, jumpsBack}
-use Rattle.rows.specs.Route.{firstOf, rowsIn}
+use Rattle.rows.specs.Route.{routeStart, rowsIn}
 use Rattle.kept.specs.Level.{levelOf, keptAt}
 use Rattle.kept.specs.Lists.{partAt}
 use Rattle.lent.specs.Chunk as chunk
 use Rattle.lent.specs.Chunk.{opAt, markAt, operandAt, names}
 use Rattle.lent.specs.declared.Counts.{Counts}
 use Rattle.optimizer.specs.declared.Folded.{Folded}
-use Rattle.named.specs.Unused.{named, before, numbered, loaded}
+use Rattle.named.specs.Unused.{constantNamed, before, numbered, loaded}
 use Rattle.clear.specs.Clear as clearing
 use Rattle.refold.specs.Lending.{Lending}
 use Rattle.refold.specs.Lendable.{cutAt, countsLeft, clearable, clearedBuffers, withConstants, countsCleared}
 use Rattle.refold.specs.Refolded.{RefoldedAll}
 use Rattle.refold.specs.Origins.{Carried}
-use Rattle.runs.specs.Rule.{Rule}
+use Rattle.runs.specs.Rule.{WishRule}
 use Rattle.runs.specs.Kept.{Same}
 use Rattle.exported.specs.Calls.{Lists, FoldCall, ClearCall}
 
@@ -54,7 +54,7 @@ Truth P r = ((r .first ≡ 1) × P) ⊎ ((r .first ≡ 0) × (P → ⊥))
 
 -- where the sweeps began in the end
 abbrev pub startAt : ℕ → Bool → ℕ → List ℕ → ℕ
-startAt bits wide regs w = startOf (flow regs w) (firstOf bits wide regs w)
+startAt bits wide regs w = startOf (flow regs w) (routeStart bits wide regs w)
 
 -- row k, as it stands in the scratch
 abbrev pub rowLeft : ℕ → ℕ → List ℕ → Lists → ℕ → ℕ
@@ -111,19 +111,19 @@ FoldsNext c r a = (strict : Bool) (t : Answer) (y : Lending) → FoldCall strict
 abbrev pub ClearsNext : Counts → Answer → Lending → Type 0
 ClearsNext c r a =
     (scratch : List ℕ) → r .second ≤ length scratch
-    → (s : Answer) (x : clearing.Buffers) → ClearCall (r .second) (clearable (foldedOf r) a scratch) s x
+    → (s : Answer) (x : clearing.PoolBuffers) → ClearCall (r .second) (clearable (foldedOf r) a scratch) s x
     → (s .refusal ≡ 0)
     × ((strict : Bool) (t : Answer) (y : Lending) → FoldCall strict (countsCleared (foldedOf r) c (s .first)) (clearedBuffers a x) t y → t .refusal ≡ 0)
 
 -- what the clearing call is lent of b
-abbrev pub clearingOf : Lending → List ℕ → clearing.Buffers
-clearingOf b scratch = clearing.buffers (b .buffers .code) (b .buffers .kinds) (b .buffers .words) scratch
+abbrev pub clearingOf : Lending → List ℕ → clearing.PoolBuffers
+clearingOf b scratch = clearing.poolBuffers (b .buffers .code) (b .buffers .kinds) (b .buffers .words) scratch
 
 -- the chunk b is cleared before it is folded: both calls are answered, and the fold is as the one that answered r and left a
 abbrev pub FoldsSame : Bool → Lending → Counts → Answer → Lending → Type 0
 FoldsSame strict b c r a =
     (scratch : List ℕ) → c .constants ≤ length scratch
-    → (s : Answer) (x : clearing.Buffers) → ClearCall (c .constants) (clearingOf b scratch) s x
+    → (s : Answer) (x : clearing.PoolBuffers) → ClearCall (c .constants) (clearingOf b scratch) s x
     → (t : Answer) (y : Lending)
     → FoldCall strict (withConstants (s .first) c) (clearedBuffers b x) t y
     → (s .refusal ≡ 0) × (t .refusal ≡ 0) × RefoldedAll (foldedOf r) a (foldedOf t) y
@@ -131,7 +131,7 @@ FoldsSame strict b c r a =
 -- a chunk that the folding call accepts is accepted after clearing too, with the same buffers
 abbrev pub FoldsCleared : Lending → Counts → Type 0
 FoldsCleared b c =
-    (scratch : List ℕ) (s : Answer) (x : clearing.Buffers) → ClearCall (c .constants) (clearingOf b scratch) s x
+    (scratch : List ℕ) (s : Answer) (x : clearing.PoolBuffers) → ClearCall (c .constants) (clearingOf b scratch) s x
     → s .refusal ≡ 0
     → (strict : Bool) (t : Answer) (y : Lending)
     → FoldCall strict (withConstants (s .first) c) (clearedBuffers b x) t y → t .refusal ≡ 0
@@ -139,20 +139,20 @@ FoldsCleared b c =
 -- a run from an empty stack ends before the fold exactly when it ends after it, with the same stack or the same stop
 abbrev pub RunsKept : Lending → Answer → Lending → Type 0
 RunsKept b r a =
-    Same (b .buffers .code) (b .buffers .kinds) (b .buffers .words) (chunk.count (b .buffers .code))
+    Same (b .buffers .code) (b .buffers .kinds) (b .buffers .words) (chunk.chunkCount (b .buffers .code))
     (a .buffers .code) (a .buffers .kinds) (a .buffers .words) (r .first)
 
 -- the same of clearing by itself, which leaves such a chunk again
-pub record ClearsKept (b : clearing.Buffers) (r : Answer) (a : clearing.Buffers) : Type 0 where
-  pub same : Same (b .code) (b .kinds) (b .words) (chunk.count (b .code)) (a .code) (a .kinds) (a .words) (chunk.count (b .code))
-  pub rule : Rule (a .code) (r .first)
+pub record ClearsKept (b : clearing.PoolBuffers) (r : Answer) (a : clearing.PoolBuffers) : Type 0 where
+  pub same : Same (b .code) (b .kinds) (b .words) (chunk.chunkCount (b .code)) (a .code) (a .kinds) (a .words) (chunk.chunkCount (b .code))
+  pub rule : WishRule (a .code) (r .first)
 
 -- what a fold left is cleared, the code cut at the answered count and the constants as answered: it ends as b did; and so does what a strict fold of
 -- that leaves
 abbrev pub RunsCleared : Lending → Counts → Answer → Lending → Type 0
 RunsCleared b c r a =
-    (scratch : List ℕ) (s : Answer) (x : clearing.Buffers) → ClearCall (r .second) (clearable (foldedOf r) a scratch) s x → s .refusal ≡ 0
-    → Same (b .buffers .code) (b .buffers .kinds) (b .buffers .words) (chunk.count (b .buffers .code)) (x .code) (x .kinds) (x .words) (r .first)
+    (scratch : List ℕ) (s : Answer) (x : clearing.PoolBuffers) → ClearCall (r .second) (clearable (foldedOf r) a scratch) s x → s .refusal ≡ 0
+    → Same (b .buffers .code) (b .buffers .kinds) (b .buffers .words) (chunk.chunkCount (b .buffers .code)) (x .code) (x .kinds) (x .words) (r .first)
     × ((t : Answer) (y : Lending) → FoldCall true (countsCleared (foldedOf r) c (s .first)) (clearedBuffers a x) t y → t .refusal ≡ 0 → RunsKept b t y)
 
 -- what a fold left is cleared, the code cut at the answered count: every instruction has the origin of one of b's, in the same order; and so has every
@@ -160,45 +160,45 @@ RunsCleared b c r a =
 abbrev pub OriginsKept : Lending → Counts → Answer → Lending → Type 0
 OriginsKept b c r a =
     let w = b .buffers .code in
-    (scratch : List ℕ) (s : Answer) (x : clearing.Buffers) → ClearCall (r .second) (clearable (foldedOf r) a scratch) s x → s .refusal ≡ 0
-    → Carried (chunk.count w) w (r .first) (x .code)
+    (scratch : List ℕ) (s : Answer) (x : clearing.PoolBuffers) → ClearCall (r .second) (clearable (foldedOf r) a scratch) s x → s .refusal ≡ 0
+    → Carried (chunk.chunkCount w) w (r .first) (x .code)
     × ((strict : Bool) (t : Answer) (y : Lending) → FoldCall strict (countsCleared (foldedOf r) c (s .first)) (clearedBuffers a x) t y → t .refusal ≡ 0
-    → Carried (chunk.count w) w (t .first) (y .buffers .code))
+    → Carried (chunk.chunkCount w) w (t .first) (y .buffers .code))
 
 -- ---- clear
 
 -- of m constants, r .first are left: exactly those that some instruction with the mark names
-pub record ClearHolds (m : ℕ) (b : clearing.Buffers) (r : Answer) (a : clearing.Buffers) : Type 0 where
+pub record ClearHolds (m : ℕ) (b : clearing.PoolBuffers) (r : Answer) (a : clearing.PoolBuffers) : Type 0 where
   -- the count is how many are named, and never grows
   pub count : r .first ≡ before (b .code) m
   pub fewer : r .first ≤ m
   -- each named constant stands at the number of named ones before it, so in its order
-  pub kind : (i : ℕ) → i < m → named (b .code) i ≡ true → getD (a .kinds) (before (b .code) i) 0 ≡ getD (b .kinds) i 0
-  pub word : (i : ℕ) → i < m → named (b .code) i ≡ true → getD (a .words) (before (b .code) i) 0 ≡ getD (b .words) i 0
-  pub order : (i j : ℕ) → i < j → named (b .code) i ≡ true → before (b .code) i < before (b .code) j
+  pub kind : (i : ℕ) → i < m → constantNamed (b .code) i ≡ true → getD (a .kinds) (before (b .code) i) 0 ≡ getD (b .kinds) i 0
+  pub word : (i : ℕ) → i < m → constantNamed (b .code) i ≡ true → getD (a .words) (before (b .code) i) 0 ≡ getD (b .words) i 0
+  pub order : (i j : ℕ) → i < j → constantNamed (b .code) i ≡ true → before (b .code) i < before (b .code) j
   -- each place below the new count is one named constant's
-  pub onto : (j : ℕ) → j < r .first → (i : ℕ) × (i < m) × (named (b .code) i ≡ true) × (before (b .code) i ≡ j)
+  pub onto : (j : ℕ) → j < r .first → (i : ℕ) × (i < m) × (constantNamed (b .code) i ≡ true) × (before (b .code) i ≡ j)
   -- freed entries are 0
   pub kinds-freed : (j : ℕ) → r .first ≤ j → j < m → getD (a .kinds) j 0 ≡ 0
   pub words-freed : (j : ℕ) → r .first ≤ j → j < m → getD (a .words) j 0 ≡ 0
   -- opcodes and marks stay, and so do operands without the mark and operands at or past the count
-  pub ops : (k : ℕ) → k < chunk.count (b .code) → opAt (a .code) k ≡ opAt (b .code) k
-  pub marks : (k : ℕ) → k < chunk.count (b .code) → markAt (a .code) k ≡ markAt (b .code) k
-  pub plain : (k : ℕ) → k < chunk.count (b .code) → names (b .code) k ≡ false → operandAt (a .code) k ≡ operandAt (b .code) k
-  pub far : (k : ℕ) → k < chunk.count (b .code) → m ≤ operandAt (b .code) k → operandAt (a .code) k ≡ operandAt (b .code) k
+  pub ops : (k : ℕ) → k < chunk.chunkCount (b .code) → opAt (a .code) k ≡ opAt (b .code) k
+  pub marks : (k : ℕ) → k < chunk.chunkCount (b .code) → markAt (a .code) k ≡ markAt (b .code) k
+  pub plain : (k : ℕ) → k < chunk.chunkCount (b .code) → names (b .code) k ≡ false → operandAt (a .code) k ≡ operandAt (b .code) k
+  pub far : (k : ℕ) → k < chunk.chunkCount (b .code) → m ≤ operandAt (b .code) k → operandAt (a .code) k ≡ operandAt (b .code) k
   -- an operand with the mark, below the count, becomes its constant's new number
-  pub near : (k : ℕ) → k < chunk.count (b .code) → names (b .code) k ≡ true → operandAt (b .code) k < m
+  pub near : (k : ℕ) → k < chunk.chunkCount (b .code) → names (b .code) k ≡ true → operandAt (b .code) k < m
       → operandAt (a .code) k ≡ before (b .code) (operandAt (b .code) k)
   -- an instruction with the mark loads the same kind and word as before, or still none
-  pub loads-kind : (k : ℕ) → k < chunk.count (b .code) → names (b .code) k ≡ true
+  pub loads-kind : (k : ℕ) → k < chunk.chunkCount (b .code) → names (b .code) k ≡ true
       → loaded (a .kinds) (r .first) (operandAt (a .code) k) ≡ loaded (b .kinds) m (operandAt (b .code) k)
-  pub loads-word : (k : ℕ) → k < chunk.count (b .code) → names (b .code) k ≡ true
+  pub loads-word : (k : ℕ) → k < chunk.chunkCount (b .code) → names (b .code) k ≡ true
       → loaded (a .words) (r .first) (operandAt (a .code) k) ≡ loaded (b .words) m (operandAt (b .code) k)
   -- the scratch holds each constant's new number
   pub scratch : a .scratch ≡ numbered (before (b .code)) m (b .scratch)
 
 -- a clearing call that answered r and left a is asked again: the same answer, and nothing changes but the scratch, which then counts from 0
-pub record ClearedTwice (r : Answer) (a : clearing.Buffers) (s : Answer) (x : clearing.Buffers) : Type 0 where
+pub record ClearedTwice (r : Answer) (a : clearing.PoolBuffers) (s : Answer) (x : clearing.PoolBuffers) : Type 0 where
   pub answer : s ≡ r
   pub code : x .code ≡ a .code
   pub kinds : x .kinds ≡ a .kinds

@@ -7,13 +7,13 @@ use Rattle.code.specs.declared.Answer.{Answer}
 use Rattle.code.specs.declared.Refusal.{Refusal}
 use Rattle.groups.specs.Groups.{sumsOf}
 use Rattle.figures.specs.Figures.{bodyOf}
-use Rattle.figures.specs.Answers.{figuresIn, wrote, Reports, reports, reportedOf, addedOf, addCall, joinCall}
+use Rattle.figures.specs.Answers.{figuresIn, reportWritten, Reports, reports, reportedOf, addedOf, addCall, joinCall}
 use Rattle.groups.specs.declared.Figures.{Figures}
 use Rattle.groups.specs.declared.FiguresAnswer.{FiguresAnswer}
 use Rattle.groups.specs.declared.FiguresAnswer.the-variants.{Is, No, Offsets, Over}
 
 module _ (a b : ℕ) (old : List ℕ) (v : FiguresAnswer) (r : Answer) where
-  pub told-is : (f : Figures) (new : List ℕ) → v ≡ Is f → new ≡ wrote f old → r ≡ answerOf a b (f .kept) (f .levels) → reportedOf a b old v ≡ reports new r
+  pub told-is : (f : Figures) (new : List ℕ) → v ≡ Is f → new ≡ reportWritten f old → r ≡ answerOf a b (f .kept) (f .levels) → reportedOf a b old v ≡ reports new r
   unfolding reportedOf
   told-is f new h x y = rw (h, x, y)
 

@@ -26,12 +26,12 @@ figuresIn r = record {
   at = getD r 6 0;
 }
 
-abbrev pub wordsOf : Figures → List ℕ
-wordsOf f = f .bodies ∷ f .levels ∷ f .kept ∷ f .longest ∷ boolByte (f .found) ∷ f .body ∷ f .at ∷ []
+abbrev pub reportWords : Figures → List ℕ
+reportWords f = f .bodies ∷ f .levels ∷ f .kept ∷ f .longest ∷ boolByte (f .found) ∷ f .body ∷ f .at ∷ []
 
 -- figures written over the words of a report
-abbrev pub wrote : Figures → List ℕ → List ℕ
-wrote f old = sets old 0 (wordsOf f)
+abbrev pub reportWritten : Figures → List ℕ → List ℕ
+reportWritten f old = sets old 0 (reportWords f)
 
 -- what a call leaves in the report, and what it answers
 pub record Reports : Type 0 where
@@ -43,7 +43,7 @@ reports r a = record { report = r; answer = a }
 
 -- new figures are written, and sum and levels of the mean told last; a refusal writes nothing
 unfoldable pub reportedOf : ℕ → ℕ → List ℕ → FiguresAnswer → Reports
-reportedOf a b old (Is f) = reports (wrote f old) (answerOf a b (f .kept) (f .levels))
+reportedOf a b old (Is f) = reports (reportWritten f old) (answerOf a b (f .kept) (f .levels))
 reportedOf a b old (No r) = reports old (refusedOf r)
 reportedOf a b old (Offsets k) = reports old (refusalOf 15 k 0)
 reportedOf a b old (Over n) = reports old (refusalOf 13 n 0)

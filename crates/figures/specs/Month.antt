@@ -23,6 +23,6 @@ unfoldable pub reportOf : List Body → Figures
 reportOf bs = figuresOf (length bs) (metFrom 0 bs)
 
 -- seven words that hold the report of these bodies
-pub record Holds (report : List ℕ) (bs : List Body) : Type 0 where
+pub record HoldsReport (report : List ℕ) (bs : List Body) : Type 0 where
   pub long : length report ≡ 7
   pub is : figuresIn report ≡ reportOf bs

@@ -6,7 +6,7 @@ ghost use Rattle.code.specs.Ins.{count};
 ghost use Rattle.groups.specs.Groups.{figuresOf};
 ghost use Rattle.offsets.specs.Offsets.{Right};
 ghost use Rattle.figures.specs.Figures.{levelsTo, bodyFigures, bodyOf};
-ghost use Rattle.figures.specs.Answers.{figuresIn, wrote, reports, reportedOf, addedOf, addCall, joinCall};
+ghost use Rattle.figures.specs.Answers.{figuresIn, reportWritten, reports, reportedOf, addedOf, addCall, joinCall};
 ghost use Rattle.code.specs.Answers.{refusalOf};
 use code::Answer;
 use code::Checked;
@@ -47,7 +47,7 @@ fn figures_in(report: &[u64; 7]) -> Figures
 
 // Figures as a report's words.
 fn write(report: &mut [u64; 7], f: Figures)
-    ensures { λ _. ⌜ now (report .exit) ≡ wrote f (now (report .entry)) ⌝ }
+    ensures { λ _. ⌜ now (report .exit) ≡ reportWritten f (now (report .entry)) ⌝ }
 {
     report[0] = f.bodies;
     report[1] = f.levels;

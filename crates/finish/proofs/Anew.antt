@@ -7,12 +7,12 @@ use mathlib.Core.List.{List, _++_}
 use lib.ListN.{length, take, replicate}
 use lib.Seq.{length-take-le}
 use Rattle.laws.specs.All.{every, many}
-use Rattle.lent.specs.Chunk.{count, isPhi}
+use Rattle.lent.specs.Chunk.{chunkCount, isPhi}
 use Rattle.positions.specs.Remap.{alive}
 use Rattle.compact.specs.Tables.{Compacted}
 use Rattle.phi_pass.specs.Phi.{marked, pairsLeft, spread, indexed}
 use Rattle.phi_pass.proofs.Pairs.{spread-length, marked-length}
-use Rattle.finish.specs.Finish.{Tables, tables, sourcesAfter, mapCount, mapOf, sourcesOf, renewed, finished, Fit}
+use Rattle.finish.specs.Finish.{Tables, tables, sourcesAfter, mapCount, mapOf, sourcesOf, renewed, finished, TableRoom}
 use Rattle.finish.specs.declared.Left.{Left}
 
 pub took : (m : ℕ) (l : List ℕ) → m ≤ length l → m ≡ length (take m l)
@@ -32,7 +32,7 @@ module _ (w map sources stmts calls dead remap : List ℕ) (left : Left) where
       → s ≡ length (pairsLeft w (take (left .map) map) (take (left .sources) sources) dead)
       → sources′ ≡ sourcesAfter w (take (left .map) map) (take (left .sources) sources) dead (length sources)
       → Compacted dead w stmts calls n w′ remap′ stmts′ calls′
-      → k ≡ many (isPhi w′) (count w′)
+      → k ≡ many (isPhi w′) (chunkCount w′)
       → map′ ≡ indexed w′
       → m ≡ mapCount k n
       → tables w′ map′ sources′ stmts′ calls′ dead remap′ (record { instructions = n; map = m; sources = s })
@@ -41,7 +41,7 @@ module _ (w map sources stmts calls dead remap : List ℕ) (left : Left) where
   renews w′ map′ sources′ stmts′ calls′ remap′ n k m s a b c p q r = rw (r, p, q, a, b, c .stmt, c .call, c .remap, c .code, c .count)
 
   module _ (d : List ℕ) (e : d ≡ marked w (take (left .map) map) (take (left .sources) sources) dead) where
-    pub fit-marked : Fit (tables w map sources stmts calls dead remap left) → Fit (tables w map sources stmts calls d remap left)
+    pub fit-marked : TableRoom (tables w map sources stmts calls dead remap left) → TableRoom (tables w map sources stmts calls d remap left)
     fit-marked f =
         let l : length d ≡ length dead = ap length e ∙ marked-length w (take (left .map) map) (take (left .sources) sources) dead in
         record {

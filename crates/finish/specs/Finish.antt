@@ -6,7 +6,7 @@ use mathlib.Core.List.{List, _++_}
 use lib.Dec.{eqb}
 use lib.ListN.{length, take, replicate}
 use Rattle.laws.specs.All.{every, many}
-use Rattle.lent.specs.Chunk.{stride, count, isPhi}
+use Rattle.lent.specs.Chunk.{stride, chunkCount, isPhi}
 use Rattle.positions.specs.Remap.{alive, live, remapOf}
 use Rattle.compact.specs.Tables.{compacted}
 use Rattle.positions.specs.Moved.{placed}
@@ -63,13 +63,13 @@ renewed t =
       left =
           record {
             instructions = n;
-            map = mapCount (many (isPhi w) (count w)) n;
+            map = mapCount (many (isPhi w) (chunkCount w)) n;
             sources = length (sourcesLeft (t .code) (mapOf t) (sourcesOf t) (t .dead));
           };
     }
 
 -- the tables are there, with the room that folding needs
-pub record Fit (t : Tables) : Type 0 where
+pub record TableRoom (t : Tables) : Type 0 where
   pub code : length (t .code) ≡ stride * length (t .dead)
   pub few : length (t .dead) ≤ 65535
   pub map : length (t .map) ≡ length (t .dead)

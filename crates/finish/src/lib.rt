@@ -3,9 +3,9 @@ ghost use mathlib.Core.Path.{_≡_};
 ghost use Prim.Native.Nat.{_*_, _≤_};
 ghost use lib.ListN.{length, take};
 ghost use Rattle.laws.specs.All.{many};
-ghost use Rattle.lent.specs.Chunk.{stride, count, isPhi};
+ghost use Rattle.lent.specs.Chunk.{stride, chunkCount, isPhi};
 ghost use Rattle.phi_pass.specs.Phi.{marked};
-ghost use Rattle.finish.specs.Finish.{tables, sourcesLeft, sourcesAfter, mapCount, renewed, finished, Fit};
+ghost use Rattle.finish.specs.Finish.{tables, sourcesLeft, sourcesAfter, mapCount, renewed, finished, TableRoom};
 
 // How many instructions there are, entries of phi_map, and words of phi_sources.
 pub struct Left {
@@ -59,7 +59,7 @@ fn renew(
     remap: &mut [u32],
     left: Left,
 ) -> Left
-    requires { ⌜ Fit (tables (now code) (now «phi_map») (now «phi_sources») (now «stmt_pos») (now «call_byte_pos») (now dead) (now remap) left) ⌝ }
+    requires { ⌜ TableRoom (tables (now code) (now «phi_map») (now «phi_sources») (now «stmt_pos») (now «call_byte_pos») (now dead) (now remap) left) ⌝ }
     ensures { λ r. ⌜ tables (now (code .exit)) (now («phi_map» .exit)) (now («phi_sources» .exit)) (now («stmt_pos» .exit)) (now («call_byte_pos» .exit))
         (now (dead .entry)) (now (remap .exit)) r ≡ renewed (tables (now (code .entry)) (now («phi_map» .entry)) (now («phi_sources» .entry))
         (now («stmt_pos» .entry)) (now («call_byte_pos» .entry)) (now (dead .entry)) (now (remap .entry)) left) ⌝ }
@@ -76,7 +76,7 @@ fn renew(
 
 // Marks the Phis that die.
 fn mark_phis(code: &[u16], phi_map: &[u32], phi_sources: &[u16], dead: &mut [u8], left: Left)
-    requires { ⌜ (length (now dead) ≡ count (now code)) × (left .map ≤ length (now «phi_map»)) × (left .sources ≤ length (now «phi_sources»)) ⌝ }
+    requires { ⌜ (length (now dead) ≡ chunkCount (now code)) × (left .map ≤ length (now «phi_map»)) × (left .sources ≤ length (now «phi_sources»)) ⌝ }
     ensures { λ _. ⌜ now (dead .exit) ≡ marked (now (code .entry)) (take (left .map) (now («phi_map» .entry)))
         (take (left .sources) (now («phi_sources» .entry))) (now (dead .entry)) ⌝ }
 {
@@ -96,7 +96,7 @@ pub fn finish(
     remap: &mut [u32],
     left: Left,
 ) -> Left
-    requires { ⌜ Fit (tables (now code) (now «phi_map») (now «phi_sources») (now «stmt_pos») (now «call_byte_pos») (now dead) (now remap) left) ⌝ }
+    requires { ⌜ TableRoom (tables (now code) (now «phi_map») (now «phi_sources») (now «stmt_pos») (now «call_byte_pos») (now dead) (now remap) left) ⌝ }
     ensures { λ r. ⌜ tables (now (code .exit)) (now («phi_map» .exit)) (now («phi_sources» .exit)) (now («stmt_pos» .exit)) (now («call_byte_pos» .exit))
         (now (dead .exit)) (now (remap .exit)) r ≡ finished (tables (now (code .entry)) (now («phi_map» .entry)) (now («phi_sources» .entry))
         (now («stmt_pos» .entry)) (now («call_byte_pos» .entry)) (now (dead .entry)) (now (remap .entry)) left) ⌝ }

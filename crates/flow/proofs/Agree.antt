@@ -9,7 +9,7 @@ use native.Mathlib.Omega.{arith}
 use lib.ListN.{getD, drop}
 use Rattle.flow.specs.Set.{bit}
 use Rattle.flow.specs.Flow.{Flow, rowAt, reach, Solution, Closed}
-use Rattle.flow.specs.Run.{run, written, fileAfter, chosen}
+use Rattle.flow.specs.Run.{run, rewritten, fileAfter, chosen}
 use Rattle.flow.proofs.Bits.{bit-zero}
 use Rattle.flow.proofs.Rows.{In, joined-in, rowAt-bit}
 use Rattle.flow.proofs.Members.{listed-only}
@@ -37,7 +37,7 @@ module _ (f : Flow) (start : ℕ) (closed : Closed f start) (R : ℕ → ℕ) (s
       new : List ℕ
       new = getD news 0 []
 
-      go : (s ≡ f .size) ⊎ In s (f .after k) → Dec (0 < bit (f .givenUp k) r) → getD (written f k new a) r 0 ≡ getD (written f k new b) r 0
+      go : (s ≡ f .size) ⊎ In s (f .after k) → Dec (0 < bit (f .givenUp k) r) → getD (rewritten f k new a) r 0 ≡ getD (rewritten f k new b) r 0
       go p (yes g) = wrote-new (f .givenUp k) new a (f .regs) r lr g ∙ sym (wrote-new (f .givenUp k) new b (f .regs) r lr g)
       go p (no n) = wrote-kept (f .givenUp k) new a (f .regs) r lr (omega arith) ∙ e r lr had ∙ sym (wrote-kept (f .givenUp k) new b (f .regs) r lr (omega arith))
         where

@@ -16,7 +16,7 @@ use lib.Seq.{getD-set-same, getD-set-other, getD-take, getD-drop, drop-drop, ext
 use Rattle.flow.specs.Set.{minus}
 use Rattle.flow.specs.Flow.{Flow, joined, onto, rowAt}
 use Rattle.flow.specs.Sweep.{row, Put}
-use Rattle.flow.specs.Words.{value, Small, window, rowsOf, Holds, Stored}
+use Rattle.flow.specs.Words.{value, Small, window, rowsOf, Holds, WordsStored}
 use Rattle.flow.proofs.Bits.{and-not}
 use Rattle.flow.proofs.Rows.{zeros-at}
 use Rattle.flow.proofs.Words.{as-set, holds-one, holds-ext, holds-none, holds-lt, words-past}
@@ -92,7 +92,7 @@ rows-one w (suc m) (x ∷ buf) l = ap₂ (λ (y : ℕ) (ys : List ℕ). y ∷ ys
 -- ---- a set is stored over row k
 
 module _ (w words : ℕ) (pos : 0 < w) (m : ℕ) (buf out s : List ℕ) (k x : ℕ) (changed : Bool) (l : k < m) (sb : Small w buf)
-    (hs : Holds w s x) (lx : x < 2 ^ (words * w)) (st : Stored buf (k * words) words s out changed) where
+    (hs : Holds w s x) (lx : x < 2 ^ (words * w)) (st : WordsStored buf (k * words) words s out changed) where
   apart : (i j : ℕ) → i ≢ k → j < words → (i * words + j < k * words) ⊎ (k * words + words ≤ i * words + j)
   apart i j n lj = side (decLt i k)
     where

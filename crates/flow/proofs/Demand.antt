@@ -10,7 +10,7 @@ use lib.Seq.{getD-set-same, getD-set-other}
 use Rattle.flow.specs.Set.{bit}
 use Rattle.flow.specs.Flow.{Flow, Least, Closed}
 use Rattle.flow.specs.Kept.{Level, kept}
-use Rattle.flow.specs.Demand.{Agree, AgreeOn, Tells, Entry, Keeps, Lost}
+use Rattle.flow.specs.Demand.{Agree, AgreeOn, TellsApart, Entry, Keeps, Lost}
 use Rattle.flow.proofs.Rows.{In}
 use Rattle.flow.proofs.Agree.{alike}
 use Rattle.flow.proofs.Needed.{needed}
@@ -49,7 +49,7 @@ none-spare f l v keep r m = record {
   apart = λ news. w .4 news zeros other differ;
 }
   where
-    w : (k : ℕ) × (choices : List ℕ) × Entry v r k × (length choices ≤ f .size) × Tells f r k choices
+    w : (k : ℕ) × (choices : List ℕ) × Entry v r k × (length choices ≤ f .size) × TellsApart f r k choices
     w = keep .read r m
 
     zeros : List ℕ

@@ -13,7 +13,7 @@ use lib.Dec.{ltb, eqb}
 use lib.ListN.{length, getD, take, drop, set, length-set}
 use lib.Seq.{getD-set-same, getD-set-other, set-getD}
 use Rattle.laws.proofs.Branch.{or-false}
-use Rattle.flow.specs.Words.{value, Small, Holds, Stored}
+use Rattle.flow.specs.Words.{value, Small, Holds, WordsStored}
 use Rattle.flow.proofs.Tally.{or-some}
 use Rattle.flow.proofs.Words.{holds-ext, holds-or}
 use Rattle.flow.proofs.Buffer.{window-in, window-past, small-window}
@@ -62,11 +62,11 @@ module _ (w : ℕ) (pos : 0 < w) (words at : ℕ) (buf : List ℕ) (sb : Small w
 
 -- a row that is being stored
 module _ (buf : List ℕ) (at : ℕ) (s : List ℕ) where
-  pub stored-none : Stored buf at 0 s buf false
+  pub stored-none : WordsStored buf at 0 s buf false
   stored-none = record { long = refl; kept = λ x h. refl; new = λ j l. absurd (omega arith); quiet = λ e. refl; loud = λ e. absurd (false≢true e) }
 
-  pub stored-more : (j : ℕ) (out : List ℕ) (changed : Bool) → at + j < length out → Stored buf at j s out changed
-      → Stored buf at (j + 1) s (set out (at + j) (getD s j 0)) (not (eqb (getD out (at + j) 0) (getD s j 0)) || changed)
+  pub stored-more : (j : ℕ) (out : List ℕ) (changed : Bool) → at + j < length out → WordsStored buf at j s out changed
+      → WordsStored buf at (j + 1) s (set out (at + j) (getD s j 0)) (not (eqb (getD out (at + j) 0) (getD s j 0)) || changed)
   stored-more j out changed l p = record {
     long = length-set out (at + j) v ∙ p .long;
     kept = λ x h. getD-set-other out (at + j) x v 0 (⊎-elim (λ a e. omega arith) (λ a e. omega arith) h) ∙ p .kept x (⊎-elim (λ a. inl a) (λ a. inr (omega arith)) h);

@@ -14,7 +14,7 @@ use Rattle.flow.specs.Set.{bit}
 use Rattle.flow.specs.Flow.{Flow, rowAt, Solution, Least}
 use Rattle.flow.specs.Sweep.{tally}
 use Rattle.flow.specs.Run.{fileAfter, chosen}
-use Rattle.flow.specs.Demand.{Tells}
+use Rattle.flow.specs.Demand.{TellsApart}
 use Rattle.flow.proofs.Bits.{bit-lt, bit-zero, bit-ext}
 use Rattle.flow.proofs.Tally.{tally-more, tally-le}
 use Rattle.flow.proofs.Rows.{In, rowAt-bit, rowAt-mono, rowAt-from}
@@ -123,12 +123,12 @@ module _ (f : Flow) where
   -- ---- a register that is soon read is told by some choices
 
   module _ (r : ℕ) (lr : r < f .regs) where
-    tells-here : (k : ℕ) → k < f .size → 0 < bit (f .used k) r → Tells f r k (0 ∷ [])
+    tells-here : (k : ℕ) → k < f .size → 0 < bit (f .used k) r → TellsApart f r k (0 ∷ [])
     tells-here k l u news a b ne e =
         ne (values-tell f (f .used k) a b (head-eq-of-cons-eq (sym (reads-step f 0 [] news k a l) ∙ e ∙ reads-step f 0 [] news k b l)) r (listed-in (f .regs) (f .used k) r lr u))
 
-    tells-on : (k s choice : ℕ) (choices : List ℕ) → k < f .size → ((new file : List ℕ) → getD (fileAfter f k choice new file) r 0 ≡ getD file r 0) → chosen f k choice ≡ s → Tells f r s choices
-        → Tells f r k (choice ∷ choices)
+    tells-on : (k s choice : ℕ) (choices : List ℕ) → k < f .size → ((new file : List ℕ) → getD (fileAfter f k choice new file) r 0 ≡ getD file r 0) → chosen f k choice ≡ s → TellsApart f r s choices
+        → TellsApart f r k (choice ∷ choices)
     tells-on k s choice choices l g q tells news a b ne e =
         tells (drop 1 news) (next a) (next b) (λ h. ne (sym (same a) ∙ h ∙ same b)) (rw (← q) (tail-eq-of-cons-eq (sym (reads-step f choice choices news k a l) ∙ e ∙ reads-step f choice choices news k b l)))
       where
@@ -138,19 +138,19 @@ module _ (f : Flow) where
         same : (file : List ℕ) → getD (next file) r 0 ≡ getD file r 0
         same file = g (getD news 0 []) file
 
-    path : (i k : ℕ) → 0 < bit (soon f i k) r → (choices : List ℕ) × (length choices ≤ i) × Tells f r k choices
+    path : (i k : ℕ) → 0 < bit (soon f i k) r → (choices : List ℕ) × (length choices ≤ i) × TellsApart f r k choices
     unfolding soon
     path zero k h = absurd (omega (arith, bit-zero r))
     path (suc i) k h = go (decLt k (f .size)) (λ s h′. path i s h′)
       where
-        go : Dec (k < f .size) → ((s : ℕ) → 0 < bit (soon f i s) r → (choices : List ℕ) × (length choices ≤ i) × Tells f r s choices) → (choices : List ℕ) × (length choices ≤ suc i) × Tells f r k choices
+        go : Dec (k < f .size) → ((s : ℕ) → 0 < bit (soon f i s) r → (choices : List ℕ) × (length choices ≤ i) × TellsApart f r s choices) → (choices : List ℕ) × (length choices ≤ suc i) × TellsApart f r k choices
         go (no n) rec = absurd (omega (arith, h, ap (λ (x : ℕ). bit x r) (soon-past (suc i) k (omega arith)), bit-zero r))
         go (yes l) rec = at (decLt 0 (bit (f .used k) r))
           where
             now′ : bit (soon f (suc i) k) r ≡ bit (rowAt f (soon f i) k) r
             now′ = ap (λ (x : ℕ). bit x r) (soon-in i k l)
 
-            at : Dec (0 < bit (f .used k) r) → (choices : List ℕ) × (length choices ≤ suc i) × Tells f r k choices
+            at : Dec (0 < bit (f .used k) r) → (choices : List ℕ) × (length choices ≤ suc i) × TellsApart f r k choices
             at (yes u) = (0 ∷ [], omega arith, tells-here k l u)
             at (no u) =
                 let (s, b, v) = rowAt-from f (soon f i) k r (omega arith) (omega (arith, h, now′)) in
@@ -165,5 +165,5 @@ module _ (f : Flow) where
                     (λ m. let (c, q, e) = go-to f k s (m .0) in (c, q, λ new file. ap (λ (x : List ℕ). getD x r 0) (e new file) ∙ wrote-kept (f .givenUp k) new file (f .regs) r lr (m .1))) v
 
     -- every register of a least row is read, within as many steps as there are positions
-    pub needed : (start : ℕ) (R : ℕ → ℕ) → Least f start R → (k : ℕ) → start ≤ k → 0 < bit (R k) r → (choices : List ℕ) × (length choices ≤ f .size) × Tells f r k choices
+    pub needed : (start : ℕ) (R : ℕ → ℕ) → Least f start R → (k : ℕ) → start ≤ k → 0 < bit (R k) r → (choices : List ℕ) × (length choices ≤ f .size) × TellsApart f r k choices
     needed start R l k lo b = path (f .size) k (omega (arith, l .least (soon f (f .size)) (soon-solves start) k lo r))

@@ -13,7 +13,7 @@ use lib.ListN.{length, getD, drop}
 use Rattle.flow.specs.Set.{bit}
 use Rattle.flow.specs.Flow.{Flow, reach}
 use Rattle.flow.specs.Listed.{listed}
-use Rattle.flow.specs.Run.{run, reads, valuesOf, wrote, written, fileAfter, chosen}
+use Rattle.flow.specs.Run.{run, reads, valuesOf, wrote, rewritten, fileAfter, chosen}
 use Rattle.flow.specs.Demand.{Agree}
 
 -- ---- values
@@ -89,13 +89,13 @@ module _ (f : Flow) (k choice : ℕ) where
   Moves = ((new file : List ℕ) → fileAfter f k choice new file ≡ file) × List·Memᴰ (chosen f k choice) (f .raises k)
 
   abbrev pub Goes : Type 0
-  Goes = ((new file : List ℕ) → fileAfter f k choice new file ≡ written f k new file) × ((chosen f k choice ≡ f .size) ⊎ List·Memᴰ (chosen f k choice) (f .after k))
+  Goes = ((new file : List ℕ) → fileAfter f k choice new file ≡ rewritten f k new file) × ((chosen f k choice ≡ f .size) ⊎ List·Memᴰ (chosen f k choice) (f .after k))
 
   raised : choice < length (f .raises k) → (new file : List ℕ) → fileAfter f k choice new file ≡ file
-  raised l new file = ap (λ (t : Bool). cond t file (written f k new file)) (lt-ltb choice (length (f .raises k)) l)
+  raised l new file = ap (λ (t : Bool). cond t file (rewritten f k new file)) (lt-ltb choice (length (f .raises k)) l)
 
-  stepped : length (f .raises k) ≤ choice → (new file : List ℕ) → fileAfter f k choice new file ≡ written f k new file
-  stepped l new file = ap (λ (t : Bool). cond t file (written f k new file)) (le-ltb choice (length (f .raises k)) l)
+  stepped : length (f .raises k) ≤ choice → (new file : List ℕ) → fileAfter f k choice new file ≡ rewritten f k new file
+  stepped l new file = ap (λ (t : Bool). cond t file (rewritten f k new file)) (le-ltb choice (length (f .raises k)) l)
 
   pub moves : Moves ⊎ Goes
   moves = go (decLt choice (length (f .raises k)))
@@ -109,7 +109,7 @@ module _ (f : Flow) (k s : ℕ) where
   pub leave-for : List·Memᴰ s (f .raises k) → (choice : ℕ) × (chosen f k choice ≡ s) × ((new file : List ℕ) → fileAfter f k choice new file ≡ file)
   leave-for m = let (i, l, e) = pick-low (f .raises k) (f .after k) s (f .size) m in (i, e, raised f k i l)
 
-  pub go-to : List·Memᴰ s (f .after k) → (choice : ℕ) × (chosen f k choice ≡ s) × ((new file : List ℕ) → fileAfter f k choice new file ≡ written f k new file)
+  pub go-to : List·Memᴰ s (f .after k) → (choice : ℕ) × (chosen f k choice ≡ s) × ((new file : List ℕ) → fileAfter f k choice new file ≡ rewritten f k new file)
   go-to m = let (i, l, e) = pick-high (f .raises k) (f .after k) s (f .size) m in (i, e, stepped f k i l)
 
 module _ (f : Flow) (choice : ℕ) (choices : List ℕ) (news : List (List ℕ)) (k : ℕ) (file : List ℕ) where

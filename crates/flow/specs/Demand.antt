@@ -22,8 +22,8 @@ abbrev pub Alike : Flow → ℕ → List ℕ → List ℕ → Type 0
 Alike f k a b = (choices : List ℕ) (news : List (List ℕ)) → run f choices news k a ≡ run f choices news k b
 
 -- by these choices from k, any two files that differ at r are told apart by a value read, whatever is written
-abbrev pub Tells : Flow → ℕ → ℕ → List ℕ → Type 0
-Tells f r k choices = (news : List (List ℕ)) (a b : List ℕ) → getD a r 0 ≢ getD b r 0 → reads f choices news k a ≢ reads f choices news k b
+abbrev pub TellsApart : Flow → ℕ → ℕ → List ℕ → Type 0
+TellsApart f r k choices = (news : List (List ℕ)) (a b : List ℕ) → getD a r 0 ≢ getD b r 0 → reads f choices news k a ≢ reads f choices news k b
 
 -- where a level may go on and want r: at the resume point, unless r is the result register, or in a handler
 abbrev pub Entry : Level → ℕ → ℕ → Type 0
@@ -38,7 +38,7 @@ pub record Keeps (f : Flow) (l : List ℕ) (v : Level) : Type 0 where
   -- files that agree on the kept registers alone run alike in every handler around the level
   pub handled : (a b : List ℕ) → Agree l a b → (h : ℕ) → List·Memᴰ h (v .handlers) → Alike f h a b
   -- for each kept register there is a resume point or handler and at most n choices by which any two files that differ there are told apart
-  pub read : (r : ℕ) → List·Memᴰ r l → (k : ℕ) × (choices : List ℕ) × Entry v r k × (length choices ≤ f .size) × Tells f r k choices
+  pub read : (r : ℕ) → List·Memᴰ r l → (k : ℕ) × (choices : List ℕ) × Entry v r k × (length choices ≤ f .size) × TellsApart f r k choices
 
 -- Two files that agree on all kept registers but r, and on the result register if they go on at the resume point, and are told apart.
 pub record Lost (f : Flow) (l : List ℕ) (v : Level) (r : ℕ) : Type 0 where

@@ -19,12 +19,12 @@ wrote s new file r zero = []
 wrote s new file r (suc m) = cond (ltb 0 (bit s r)) (getD new r 0) (getD file r 0) ∷ wrote s new file (suc r) m
 
 -- the file once the given-up registers of k are written
-abbrev pub written : Flow → ℕ → List ℕ → List ℕ → List ℕ
-written f k new file = wrote (f .givenUp k) new file 0 (f .regs)
+abbrev pub rewritten : Flow → ℕ → List ℕ → List ℕ → List ℕ
+rewritten f k new file = wrote (f .givenUp k) new file 0 (f .regs)
 
 -- the first choices are the handlers that k may leave for, with the file as it is; the others have the given-up registers written
 abbrev pub fileAfter : Flow → ℕ → ℕ → List ℕ → List ℕ → List ℕ
-fileAfter f k choice new file = cond (ltb choice (length (f .raises k))) file (written f k new file)
+fileAfter f k choice new file = cond (ltb choice (length (f .raises k))) file (rewritten f k new file)
 
 -- the position that a choice picks of those that may come next; n if there is none such, as after a return
 abbrev pub chosen : Flow → ℕ → ℕ → ℕ

@@ -30,7 +30,7 @@ pub record Holds (w : ℕ) (s : List ℕ) (x : ℕ) : Type 0 where
   pub is : value w s ≡ x
 
 -- the first words of s are stored from `at` on, which leaves out; `changed` says whether one was another
-pub record Stored (buf : List ℕ) (at words : ℕ) (s out : List ℕ) (changed : Bool) : Type 0 where
+pub record WordsStored (buf : List ℕ) (at words : ℕ) (s out : List ℕ) (changed : Bool) : Type 0 where
   pub long : length out ≡ length buf
   pub kept : (x : ℕ) → (x < at) ⊎ (at + words ≤ x) → getD out x 0 ≡ getD buf x 0
   pub new : (j : ℕ) → j < words → getD out (at + j) 0 ≡ getD s j 0

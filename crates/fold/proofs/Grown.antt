@@ -9,18 +9,18 @@ use lib.Dec.{eqb}
 use lib.ListN.{length, getD}
 use mir.Val.{boolByte}
 use Rattle.laws.specs.All.{many}
-use Rattle.lent.specs.Chunk.{count, opAt, folds}
+use Rattle.lent.specs.Chunk.{chunkCount, opAt, folds}
 use Rattle.lent.specs.Check.{constantRoom}
 use Rattle.lent.proofs.Counting.{many-le}
 use Rattle.values.specs.declared.Val.{Val}
 use Rattle.values.specs.declared.Val.the-variants.{Int, Float as Real, Bool as Truth}
-use Rattle.chunk.specs.Pool.{Room, Stored, findOrPushConst}
+use Rattle.chunk.specs.Pool.{PushRoom, Stored, findOrPushConst}
 use Rattle.chunk.specs.declared.Kept.{Kept}
 use Rattle.chunk.specs.declared.Kept.the-variants.{At, Full}
 use Rattle.chunk.proofs.Store.{kept-few}
 use Rattle.landings.specs.Latest.{latest, isLanding}
 use Rattle.fold.specs.Plan.{Chunk, after, planAt}
-use Rattle.fold.specs.Pass.{Loading, loadOf, constLoad, landed, applied, tryFold, Bars, byTable, folded, foldAll, Readable, Ready, Lent}
+use Rattle.fold.specs.Pass.{Loading, loadOf, constLoad, landed, applied, tryFold, Bars, byTable, folded, foldAll, Readable, OperatorRoom, PassRoom}
 use Rattle.fold.specs.declared.Loaded.{Loaded}
 use Rattle.fold.specs.declared.Loaded.the-variants.{As, No}
 use Rattle.fold.specs.declared.Plan.{Plan}
@@ -106,17 +106,17 @@ many-here : (f : ℕ → Bool) (k : ℕ) → many f (suc k) ≡ many f k + boolB
 unfolding many
 many-here f k = refl
 
-module _ {bars : Bars} {s t : Chunk} {i n : ℕ} (h : Held bars s t i) (z : n ≡ count (s .code)) (l′ : i < n) (b : Lent s) where
-  l : i < count (s .code)
+module _ {bars : Bars} {s t : Chunk} {i n : ℕ} (h : Held bars s t i) (z : n ≡ chunkCount (s .code)) (l′ : i < n) (b : PassRoom s) where
+  l : i < chunkCount (s .code)
   l = omega arith
 
-  one : many (λ j. folds (opAt (s .code) j)) (suc i) ≤ operators s (count (s .code))
-  one = many-le (λ j. folds (opAt (s .code) j)) (suc i) (count (s .code)) l
+  one : many (λ j. folds (opAt (s .code) j)) (suc i) ≤ operators s (chunkCount (s .code))
+  one = many-le (λ j. folds (opAt (s .code) j)) (suc i) (chunkCount (s .code)) l
 
   here : operators s (suc i) ≡ operators s i + boolByte (folds (opAt (s .code) i))
   here = many-here (λ j. folds (opAt (s .code) j)) i
 
-  pub held-ready : Ready t i
+  pub held-ready : OperatorRoom t i
   held-ready =
       record {
         readable =
@@ -154,9 +154,9 @@ module _ {bars : Bars} {s t : Chunk} {i n : ℕ} (h : Held bars s t i) (z : n �
       }
 
 -- all n of them
-pub held-all : {bars : Bars} {s t : Chunk} {i n : ℕ} → Held bars s t i → n ≡ count (s .code) → n ≤ i → i ≤ n → t ≡ foldAll bars s
+pub held-all : {bars : Bars} {s t : Chunk} {i n : ℕ} → Held bars s t i → n ≡ chunkCount (s .code) → n ≤ i → i ≤ n → t ≡ foldAll bars s
 unfolding foldAll
-held-all {s = s} {i = i} h z a b = let e : count (s .code) ≡ i = omega arith in rw e (h .is)
+held-all {s = s} {i = i} h z a b = let e : chunkCount (s .code) ≡ i = omega arith in rw e (h .is)
 
 -- ---- with the last landing in hand
 
@@ -168,8 +168,8 @@ pub asked-none : (strict : Bool) (l : List ℕ) (s : Chunk) → Asked strict l s
 unfolding latest
 asked-none strict l s = record { held = held-none (byTable strict l) s; told = refl }
 
-module _ {strict : Bool} {l : List ℕ} {s t : Chunk} {last i n : ℕ} (h : Asked strict l s t last i) (z : n ≡ count (s .code)) (b : i < n) (f : Lent s) where
-  pub asked-ready : Ready t i
+module _ {strict : Bool} {l : List ℕ} {s t : Chunk} {last i n : ℕ} (h : Asked strict l s t last i) (z : n ≡ chunkCount (s .code)) (b : i < n) (f : PassRoom s) where
+  pub asked-ready : OperatorRoom t i
   asked-ready = held-ready (h .held) z b f
 
   pub asked-more : {more : ℕ} (u : Chunk) → more ≡ cond (isLanding strict l i) i last → u ≡ tryFold (after more) i t → length (u .code) ≡ length (t .code)
@@ -179,5 +179,5 @@ module _ {strict : Bool} {l : List ℕ} {s t : Chunk} {last i n : ℕ} (h : Aske
       let y : more ≡ latest (isLanding strict l) (suc i) = m ∙ ap (λ (x : ℕ). cond (isLanding strict l i) i x) (h .told) in
       record { held = held-more (h .held) z b f u (rw y at e) c d k w; told = rw (add-one i) y }
 
-pub asked-all : {strict : Bool} {l : List ℕ} {s t : Chunk} {last i n : ℕ} → Asked strict l s t last i → n ≡ count (s .code) → n ≤ i → i ≤ n → t ≡ foldAll (byTable strict l) s
+pub asked-all : {strict : Bool} {l : List ℕ} {s t : Chunk} {last i n : ℕ} → Asked strict l s t last i → n ≡ chunkCount (s .code) → n ≤ i → i ≤ n → t ≡ foldAll (byTable strict l) s
 asked-all h z a b = held-all (h .held) z a b

@@ -10,7 +10,7 @@ use lib.Seq.{getD-set-same, getD-set-other}
 use mir.Val.{boolByte}
 use borrow.Author.Tests.{eqb-true, eqb-false}
 use Rattle.code.specs.Op.{LoadConst, LoadTrue, LoadFalse}
-use Rattle.lent.specs.Chunk.{stride, count, opAt, markAt, operandAt, jumps}
+use Rattle.lent.specs.Chunk.{stride, chunkCount, opAt, markAt, operandAt, marksJump}
 use Rattle.landings.specs.Landings.{landingsOf, barred, Unmarked}
 use Rattle.landings.specs.Latest.{latest, isLanding}
 use Rattle.landings.proofs.Asked.{same-test}
@@ -28,27 +28,27 @@ use Rattle.fold.proofs.Put.{put-long, put-other, operand-other, jump-ot
 -- ---- a load that is put
 
 module _ (w : List ℕ) (p o x : ℕ) where
-  module _ (h : p < count w) (u : Unmarked w) (l : opAt w p ≡ LoadConst) where
+  module _ (h : p < chunkCount w) (u : Unmarked w) (l : opAt w p ≡ LoadConst) where
     put-jumps : SameJumps w (put w p o x)
     put-jumps = record { long = put-long w p o x; mark = mark; goal = λ k j. operand-other w p o x k (λ e. apart k e j) }
       where
-        mark : (k : ℕ) → jumps (put w p o x) k ≡ jumps w k
+        mark : (k : ℕ) → marksJump (put w p o x) k ≡ marksJump w k
         mark k = go (eqb k p) refl
           where
-            go : (b : Bool) → eqb k p ≡ b → jumps (put w p o x) k ≡ jumps w k
+            go : (b : Bool) → eqb k p ≡ b → marksJump (put w p o x) k ≡ marksJump w k
             go true e = let q = eqb-true k p e in rw q (jump-here w p o x h ∙ sym (u p l))
             go false e = jump-other w p o x k (eqb-false k p e)
 
-        apart : (k : ℕ) → k ≡ p → jumps w k ≡ true → ⊥
+        apart : (k : ℕ) → k ≡ p → marksJump w k ≡ true → ⊥
         apart k e j =
-            let f : jumps w k ≡ false = rw e (u p l) in
+            let f : marksJump w k ≡ false = rw e (u p l) in
             let z : _≡_ {A = ℕ} 0 1 = ap boolByte (sym f ∙ j) in
             omega arith
 
     put-unmarked : Unmarked (put w p o x)
     put-unmarked k e = go (eqb k p) refl
       where
-        go : (b : Bool) → eqb k p ≡ b → jumps (put w p o x) k ≡ false
+        go : (b : Bool) → eqb k p ≡ b → marksJump (put w p o x) k ≡ false
         go true q = let s = eqb-true k p q in rw s (jump-here w p o x h)
         go false q = let n = eqb-false k p q in jump-other w p o x k n ∙ u k (sym (put-other w p o x k n) ∙ e)
 
@@ -58,7 +58,7 @@ pub record Calm (w w′ : List ℕ) : Type 0 where
   pub jumps : SameJumps w w′
   pub marks : Unmarked w′
 
-module _ (i : ℕ) (s : Chunk) (h : i < count (s .code)) (u : Unmarked (s .code)) where
+module _ (i : ℕ) (s : Chunk) (h : i < chunkCount (s .code)) (u : Unmarked (s .code)) where
   calm : Calm (s .code) (s .code)
   calm = record { jumps = same-refl (s .code); marks = u }
 
@@ -68,7 +68,7 @@ module _ (i : ℕ) (s : Chunk) (h : i < count (s .code)) (u : Unmarked (s .code)
     where
       by : (a : Loaded) (ks ws : List ℕ) → Calm (s .code) (landed a ks ws p q i s .code)
       by (As o x m) ks ws =
-          let f : p < count (s .code) = omega (arith, y .first) in
+          let f : p < chunkCount (s .code) = omega (arith, y .first) in
           record { jumps = put-jumps (s .code) p o x f u (y .load); marks = put-unmarked (s .code) p o x f u (y .load) }
       by No ks ws = calm
 
@@ -90,7 +90,7 @@ module _ (i : ℕ) (s : Chunk) (h : i < count (s .code)) (u : Unmarked (s .code)
 -- ---- the pass
 
 module _ (s : Chunk) (u : Unmarked (s .code)) where
-  pub pass-calm : (bars : Bars) (k : ℕ) → k ≤ count (s .code) → Calm (s .code) (folded bars k s .code)
+  pub pass-calm : (bars : Bars) (k : ℕ) → k ≤ chunkCount (s .code) → Calm (s .code) (folded bars k s .code)
   unfolding folded
   pass-calm bars zero h = record { jumps = same-refl (s .code); marks = u }
   pass-calm bars (suc k) h =
@@ -99,7 +99,7 @@ module _ (s : Chunk) (u : Unmarked (s .code)) where
       record { jumps = same-twice (c .jumps) (d .jumps); marks = d .marks }
 
   -- the table is true after every fold
-  pub still-true : (bars : Bars) (tries : List ℕ) (k : ℕ) → k ≤ count (s .code) → landingsOf (folded bars k s .code) tries ≡ landingsOf (s .code) tries
+  pub still-true : (bars : Bars) (tries : List ℕ) (k : ℕ) → k ≤ chunkCount (s .code) → landingsOf (folded bars k s .code) tries ≡ landingsOf (s .code) tries
   still-true bars tries k h = landings-same (s .code) (folded bars k s .code) tries (pass-calm bars k h .jumps)
 
   -- and strict mode by the table makes the folds of strict mode by the scan
@@ -110,7 +110,7 @@ module _ (s : Chunk) (u : Unmarked (s .code)) where
     abbrev scan : Bars
     scan = byScan strict tries
 
-    same-so-far : (k : ℕ) → k ≤ count (s .code) → folded table k s ≡ folded scan k s
+    same-so-far : (k : ℕ) → k ≤ chunkCount (s .code) → folded table k s ≡ folded scan k s
     unfolding folded
     same-so-far zero h = refl
     same-so-far (suc k) h =
@@ -124,4 +124,4 @@ module _ (s : Chunk) (u : Unmarked (s .code)) where
 
     pub same-folds : foldAll table s ≡ foldAll scan s
     unfolding foldAll
-    same-folds = same-so-far (count (s .code)) (omega arith)
+    same-folds = same-so-far (chunkCount (s .code)) (omega arith)

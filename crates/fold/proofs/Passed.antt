@@ -10,7 +10,7 @@ use lib.ListN.{length, getD, set, length-set}
 use lib.Seq.{getD-set-same}
 use borrow.Author.Tests.{eqb-true, eqb-false}
 use Rattle.code.specs.Op.{Phi}
-use Rattle.lent.specs.Chunk.{count, isPhi}
+use Rattle.lent.specs.Chunk.{chunkCount, isPhi}
 use Rattle.values.specs.declared.Val.{Val}
 use Rattle.values.specs.declared.Val.the-variants.{Int, Float as Real, Bool as Truth}
 use Rattle.chunk.specs.Pool.{findOrPushConst}
@@ -98,7 +98,7 @@ no-load (Int z) kinds words n e = ap fromPool (full-stays kinds words n (Int z) 
 no-load (Real x) kinds words n e = ap fromPool (full-stays kinds words n (Real x) (no-kept (findOrPushConst kinds words n (Real x) .kept) e))
 no-load (Truth b) kinds words n e = absurd (let z : _≡_ {A = ℕ} 0 1 = cc in omega arith)
 
-module _ (i : ℕ) (s : Chunk) (hc : i < count (s .code)) (hd : i < length (s .dead)) where
+module _ (i : ℕ) (s : Chunk) (hc : i < chunkCount (s .code)) (hd : i < length (s .dead)) where
   module _ (p q o x : ℕ) (h : Planned s i p q) (b : eqb o Phi ≡ false) where
     phi-put : (k : ℕ) → isPhi (put (s .code) p o x) k ≡ isPhi (s .code) k
     phi-put k = go (eqb k p) refl
@@ -142,8 +142,8 @@ module _ (i : ℕ) (s : Chunk) (hc : i < count (s .code)) (hd : i < length (s .d
 
 -- ---- the pass
 
-module _ (bars : Bars) (s : Chunk) (h : count (s .code) ≤ length (s .dead)) where
-  some-passed : (k : ℕ) → k ≤ count (s .code) → Passed s (folded bars k s)
+module _ (bars : Bars) (s : Chunk) (h : chunkCount (s .code) ≤ length (s .dead)) where
+  some-passed : (k : ℕ) → k ≤ chunkCount (s .code) → Passed s (folded bars k s)
   unfolding folded
   some-passed zero l = same s
   some-passed (suc k) l =
@@ -152,4 +152,4 @@ module _ (bars : Bars) (s : Chunk) (h : count (s .code) ≤ length (s .dead)) wh
 
   pub all-passed : Passed s (foldAll bars s)
   unfolding foldAll
-  all-passed = some-passed (count (s .code)) (omega arith)
+  all-passed = some-passed (chunkCount (s .code)) (omega arith)

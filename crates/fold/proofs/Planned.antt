@@ -10,15 +10,15 @@ use Rattle.laws.specs.Page.{Row, among, look}
 use Rattle.laws.proofs.Branch.{or-false}
 use Rattle.laws.proofs.Keys.{every}
 use Rattle.code.specs.Op.{LoadConst}
-use Rattle.lent.specs.Chunk.{count, opAt, folds}
+use Rattle.lent.specs.Chunk.{chunkCount, opAt, folds}
 use Rattle.values.specs.Folds.{foldBinop}
 use Rattle.values.specs.declared.Val.{Val}
 use Rattle.values.specs.declared.Maybe.{Maybe}
 use Rattle.values.specs.declared.Maybe.the-variants.{Is, Nothing}
 use Rattle.values.specs.declared.Op.{Op}
-use Rattle.chunk.specs.Pool.{Room}
-use Rattle.fold.specs.Plan.{Chunk, page, kindOf, prevLive, operandOf, blocked, withFound, withVal, foldUnary, tryFoldBinop, tryFoldUnary, planFor, planAt}
-use Rattle.fold.specs.Pass.{Readable, Ready}
+use Rattle.chunk.specs.Pool.{PushRoom}
+use Rattle.fold.specs.Plan.{Chunk, operatorPage, kindOf, prevLive, operandOf, blocked, withFound, withVal, foldUnary, tryFoldBinop, tryFoldUnary, planFor, planAt}
+use Rattle.fold.specs.Pass.{Readable, OperatorRoom}
 use Rattle.operands.specs.declared.Found.{Found}
 use Rattle.operands.specs.declared.Found.the-variants.{At, Nowhere}
 use Rattle.fold.specs.declared.Kind.{Kind}
@@ -48,12 +48,12 @@ unnamed-other o (r ∷ rs) e =
     rw (p .0) (unnamed-other o rs (p .1))
 
 pub named-folds : (o : ℕ) → (kindOf o ≡ Other → ⊥) → folds o ≡ true
-unfolding page kindOf folds
-named-folds o n = go (among o (keys page)) refl
+unfolding operatorPage kindOf folds
+named-folds o n = go (among o (keys operatorPage)) refl
   where
-    go : (t : Bool) → among o (keys page) ≡ t → folds o ≡ true
-    go true e = every folds (keys page) o refl e
-    go false e = absurd (n (unnamed-other o page e))
+    go : (t : Bool) → among o (keys operatorPage) ≡ t → folds o ≡ true
+    go true e = every folds (keys operatorPage) o refl e
+    go false e = absurd (n (unnamed-other o operatorPage e))
 
 -- ---- a plan's places
 
@@ -122,15 +122,15 @@ module _ (bars : ℕ → Bool) (i : ℕ) (s : Chunk) {p q : ℕ} {v : Val} where
 
 -- ---- so they are there, and there is room for the result
 
-module _ (bars : ℕ → Bool) (i : ℕ) (s : Chunk) {plan : Plan} {p q : ℕ} {v : Val} (e : plan ≡ planAt bars i s) (f : plan ≡ Put p q v) (r : Ready s i) where
+module _ (bars : ℕ → Bool) (i : ℕ) (s : Chunk) {plan : Plan} {p q : ℕ} {v : Val} (e : plan ≡ planAt bars i s) (f : plan ≡ Put p q v) (r : OperatorRoom s i) where
   is : Planned s i p q
   is = planned bars i s (sym e ∙ f)
 
-  pub first-there : p < count (s .code)
+  pub first-there : p < chunkCount (s .code)
   first-there = omega (arith, is .first, r .readable .here)
 
   pub second-there : q < length (s .dead)
   second-there = omega (arith, is .second, r .readable .marked)
 
-  pub room-there : Room (s .kinds) (s .words) (s .constants)
+  pub room-there : PushRoom (s .kinds) (s .words) (s .constants)
   room-there = r .room (is .operator)

@@ -8,7 +8,7 @@ use lib.Dec.{eqb}
 use lib.ListN.{length, getD, set, length-set}
 use lib.Seq.{getD-set-same, getD-set-other}
 use Rattle.code.specs.Op.{LoadConst}
-use Rattle.lent.specs.Chunk.{stride, count, opAt, markAt, operandAt, originAt, jumps}
+use Rattle.lent.specs.Chunk.{stride, chunkCount, opAt, markAt, operandAt, originAt, marksJump}
 use Rattle.fold.specs.Pass.{markOf, put}
 
 module _ (w : List ℕ) (p o x : ℕ) where
@@ -43,10 +43,10 @@ module _ (w : List ℕ) (p o x : ℕ) where
     pub operand-other : operandAt (put w p o x) k ≡ operandAt w k
     operand-other = word-other 2 (omega arith)
 
-    pub jump-other : jumps (put w p o x) k ≡ jumps w k
+    pub jump-other : marksJump (put w p o x) k ≡ marksJump w k
     jump-other = ap (λ (m : ℕ). eqb (m % 2) 1) mark-other
 
-  module _ (h : p < count w) where
+  module _ (h : p < chunkCount w) where
     pub put-here : opAt (put w p o x) p ≡ o
     unfolding put
     put-here =
@@ -67,7 +67,7 @@ module _ (w : List ℕ) (p o x : ℕ) where
         (rw (length-set (set w (stride * p) o) (stride * p + 1) (markOf o), length-set w (stride * p) o) (omega arith))
 
     -- a load that is put has no jump mark
-    pub jump-here : jumps (put w p o x) p ≡ false
+    pub jump-here : marksJump (put w p o x) p ≡ false
     unfolding markOf
     jump-here = ap (λ (m : ℕ). eqb (m % 2) 1) mark-here ∙ go (eqb o LoadConst)
       where

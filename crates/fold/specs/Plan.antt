@@ -32,8 +32,8 @@ abbrev pub chunk : (code dead kinds words : List ℕ) → ℕ → Chunk
 chunk code dead kinds words constants = record { code = code; dead = dead; kinds = kinds; words = words; constants = constants }
 
 -- the operators
-unfoldable pub page : List (Row Kind)
-page =
+unfoldable pub operatorPage : List (Row Kind)
+operatorPage =
     ((op.Add ∷ []) ↝ Binop Add)
     ∷ ((op.Sub ∷ []) ↝ Binop Sub)
     ∷ ((op.Mul ∷ []) ↝ Binop Mul)
@@ -56,8 +56,8 @@ page =
     ∷ []
 
 unfoldable pub kindOf : ℕ → Kind
-unfolding page
-kindOf o = look Other o page
+unfolding operatorPage
+kindOf o = look Other o operatorPage
 
 -- each missing operand ends the attempt
 abbrev pub withFound : Found → (ℕ → Plan) → Plan

@@ -5,7 +5,7 @@ use values::Maybe;
 use values::Op;
 use values::Val;
 ghost use mathlib.Core.Path.{_≡_};
-ghost use Rattle.values.specs.Folds.{Sound};
+ghost use Rattle.values.specs.Folds.{SoundInt};
 ghost use Rattle.fold.specs.Plan.{chunk, kindOf, after, foldUnary, tryFoldBinop, tryFoldUnary, planAt};
 ghost use Rattle.fold.specs.Pass.{Readable};
 
@@ -142,7 +142,7 @@ fn try_fold_unary(
 }
 
 fn fold_unary(minus: bool, v: Val) -> Maybe
-    requires { ⌜ Sound v ⌝ }
+    requires { ⌜ SoundInt v ⌝ }
     ensures { λ r. ⌜ r ≡ foldUnary minus v ⌝ }
 {
     if minus {

@@ -12,11 +12,11 @@ use Rattle.code.specs.declared.Refusal.{Refusal}
 use Rattle.code.specs.declared.Refusal.the-variants as refusal
 use Rattle.code.specs.declared.Checked.{Checked}
 use Rattle.code.specs.declared.Checked.the-variants.{Count, No as Refused}
-use Rattle.lent.specs.Chunk.{count}
+use Rattle.lent.specs.Chunk.{chunkCount}
 use Rattle.lent.specs.Check.{sourceRoom, tallyOf, readyOf}
 use Rattle.lent.specs.declared.Counts.{Counts}
 use Rattle.lent.specs.declared.Lens.{Lens}
-use Rattle.optimizer.specs.Fold.{buffers, lensOf, outcome, settled, foldLent, called, Held}
+use Rattle.optimizer.specs.Fold.{buffers, lensOf, foldOutcome, settled, foldLent, called, FoldRoom}
 use Rattle.optimizer.specs.declared.Folded.{Folded}
 use Rattle.optimizer.specs.Fold.{Is, No}
 use Rattle.optimizer.proofs.Tested.{held-of, table-there}
@@ -52,13 +52,13 @@ failed (Refused q) h = (q, refl)
 
 -- what the tests leave, over the lengths of the buffers
 pub record Fits (w : List ℕ) (c : Counts) (l : Lens) (landings : ℕ) : Type 0 where
-  pub map : count w ≤ l .map
+  pub map : chunkCount w ≤ l .map
   pub sources : sourceRoom (c .sources) (tallyOf w .phis) ≤ l .sources
   pub stmts : c .stmts ≤ l .stmts
   pub calls : c .calls ≤ l .calls
-  pub dead : count w ≤ l .dead
-  pub remap : count w + 1 ≤ l .remap
-  pub room : count w + 1 ≤ landings
+  pub dead : chunkCount w ≤ l .dead
+  pub remap : chunkCount w + 1 ≤ l .remap
+  pub room : chunkCount w + 1 ≤ landings
 
 module _ (w tries kinds words : List ℕ) (c : Counts) (l : Lens) (landings : ℕ) (a : Answer)
     (e : a ≡ testedTold (readyOf w tries kinds words c l landings)) (z : a .refusal ≤ 0) where
@@ -84,7 +84,7 @@ module _ (w tries kinds words : List ℕ) (c : Counts) (l : Lens) (landings : �
 
 module _ (code kinds words map sources stmts calls dead remap tries : List ℕ) (c : Counts) (landings : ℕ) (a : Answer)
     (e : a ≡ testedTold (readyOf code tries kinds words c (lensOf (buffers code kinds words map sources stmts calls dead remap)) landings)) where
-  pub held : a .refusal ≤ 0 → Held (buffers code kinds words map sources stmts calls dead remap) c
+  pub held : a .refusal ≤ 0 → FoldRoom (buffers code kinds words map sources stmts calls dead remap) c
   held z =
       let v = readyOf code tries kinds words c (lensOf (buffers code kinds words map sources stmts calls dead remap)) landings in
       let (n, h) = passed v (rw e at z) in
@@ -111,15 +111,15 @@ module _ (code kinds words map sources stmts calls dead remap tries landings : L
   pub telling : (strict : Bool) → a .refusal ≤ 0 → (s : ℕ) (f : Folded) (r : Answer)
       (code′ kinds′ words′ map′ sources′ stmts′ calls′ dead′ remap′ tries′ landings′ : List ℕ)
       → s ≡ sourceRoom (c .sources) (tallyOf code .phis)
-      → settled (outcome f (buffers code′ kinds′ words′ map′ sources′ stmts′ calls′ dead′ remap′)) tries′ landings′
+      → settled (foldOutcome f (buffers code′ kinds′ words′ map′ sources′ stmts′ calls′ dead′ remap′)) tries′ landings′
       ≡ foldLent strict tries
-      (buffers code kinds words (take (count code) map) (take s sources) (take (c .stmts) stmts) (take (c .calls) calls) (take (count code) dead)
-      (take (count code + 1) remap)) c
+      (buffers code kinds words (take (chunkCount code) map) (take s sources) (take (c .stmts) stmts) (take (c .calls) calls) (take (chunkCount code) dead)
+      (take (chunkCount code + 1) remap)) c
       → r ≡ foldedTold f
       → FoldTold strict (buffers code kinds words map sources stmts calls dead remap) tries landings c r
-      (buffers code′ kinds′ words′ (map′ ++ drop (count code) map) (sources′ ++ drop s sources) (stmts′ ++ drop (c .stmts) stmts)
-      (calls′ ++ drop (c .calls) calls) (dead′ ++ drop (count code) dead) (remap′ ++ drop (count code + 1) remap))
-      tries′ (landings′ ++ drop (count code + 1) landings)
+      (buffers code′ kinds′ words′ (map′ ++ drop (chunkCount code) map) (sources′ ++ drop s sources) (stmts′ ++ drop (c .stmts) stmts)
+      (calls′ ++ drop (c .calls) calls) (dead′ ++ drop (chunkCount code) dead) (remap′ ++ drop (chunkCount code + 1) remap))
+      tries′ (landings′ ++ drop (chunkCount code + 1) landings)
   telling strict z s f r code′ kinds′ words′ map′ sources′ stmts′ calls′ dead′ remap′ tries′ landings′ x y i =
       let (n, h) = passed found (rw e at z) in
       record {

@@ -7,7 +7,7 @@ use Rattle.code.specs.Answers.{asked, answerOf, refusedOf}
 use Rattle.code.specs.declared.Answer.{Answer}
 use Rattle.code.specs.declared.Checked.{Checked}
 use Rattle.lent.specs.declared.Counts.{Counts}
-use Rattle.optimizer.specs.Fold.{Buffers, outcome, called, foldCall}
+use Rattle.optimizer.specs.Fold.{Buffers, foldOutcome, called, foldCall}
 use Rattle.optimizer.specs.declared.Folded.{Folded}
 use Rattle.optimizer.specs.Fold.{FoldAnswer}
 use Rattle.optimizer.specs.Fold.{Is, No}
@@ -28,5 +28,5 @@ foldTold (No r) = refusedOf r
 pub record FoldTold (strict : Bool) (b : Buffers) (tries landings : List ℕ) (c : Counts) (r : Answer)
     (b′ : Buffers) (tries′ landings′ : List ℕ) : Type 0 where
   pub told : FoldAnswer
-  pub allowed : called (outcome told b′) tries′ landings′ ≡ foldCall strict b tries landings c
+  pub allowed : called (foldOutcome told b′) tries′ landings′ ≡ foldCall strict b tries landings c
   pub is : r ≡ foldTold told

@@ -10,13 +10,13 @@ use lib.Dec.{ltb}
 use lib.ListN.{length, getD, take, drop, set, length-set, length-append, take-append-drop}
 use lib.Seq.{sets, sets-eq, length-sets, getD-set-same, getD-set-other, getD-at, take-at, take-take, length-take-le}
 use Rattle.area.specs.Area.{freeOf, needOf}
-use Rattle.saver.specs.Saver.{Saver, saver, Ends, ends, regsOf, usedOf}
+use Rattle.saver.specs.Saver.{Saver, saver, Ends, ends, regsOf, inUse}
 use Rattle.leaves.specs.Leaving.{Back}
 use Rattle.taken.specs.Lists.{firstStrange}
 use Rattle.area.specs.Area.{pairsOf, entryOf, putBack, topOf}
 use Rattle.saver.specs.Saver.{entered, enterOf}
-use Rattle.leaves.specs.Leaving.{written, leftBy, leaveOf}
-use Rattle.frames.specs.Frames.{Sound, Event, enters, writes, leaves, restored, Play, done, enter, write, leave, Matched, none, over, frame, Same}
+use Rattle.leaves.specs.Leaving.{resultWritten, leftBy, leaveOf}
+use Rattle.frames.specs.Frames.{Sound, CallEvent, enters, writes, leaves, restored, Play, done, enter, write, leave, Matched, none, over, frame, SameRoom}
 use Rattle.saver.specs.declared.SaverAnswer.{SaverAnswer}
 use Rattle.saver.specs.declared.SaverAnswer.the-variants.{Used, Registers, Listed, Full}
 use Rattle.area.specs.declared.Top.{Top}
@@ -27,15 +27,15 @@ use Rattle.frames.proofs.Words.{pairs-length, entry-length, back-length
 pub record Accepted (s : Saver) (l : List ℕ) (q : ℕ) : Type 0 where
   pub few : regsOf s ≤ 64
   pub fine : length l ≤ firstStrange (regsOf s) l
-  pub room : needOf l ≤ freeOf (usedOf s)
-  pub is : enterOf s l q ≡ ends (entered s l q) (Used (usedOf s + needOf l))
+  pub room : needOf l ≤ freeOf (inUse s)
+  pub is : enterOf s l q ≡ ends (entered s l q) (Used (inUse s + needOf l))
 
 pub accepted : (s : Saver) (l : List ℕ) (q u : ℕ) → enterOf s l q .answer ≡ Used u → Accepted s l q
 unfolding enterOf
-accepted s l q u e = go (ltb 64 (regsOf s)) refl (ltb (firstStrange (regsOf s) l) (length l)) refl (ltb (freeOf (usedOf s)) (needOf l)) refl e
+accepted s l q u e = go (ltb 64 (regsOf s)) refl (ltb (firstStrange (regsOf s) l) (length l)) refl (ltb (freeOf (inUse s)) (needOf l)) refl e
   where
-    go : (a : Bool) → ltb 64 (regsOf s) ≡ a → (b : Bool) → ltb (firstStrange (regsOf s) l) (length l) ≡ b → (c : Bool) → ltb (freeOf (usedOf s)) (needOf l) ≡ c
-        → cond a (ends s (Registers (regsOf s))) (cond b (ends s (Listed (firstStrange (regsOf s) l))) (cond c (ends s (Full (freeOf (usedOf s)))) (ends (entered s l q) (Used (usedOf s + needOf l))))) .answer ≡ Used u
+    go : (a : Bool) → ltb 64 (regsOf s) ≡ a → (b : Bool) → ltb (firstStrange (regsOf s) l) (length l) ≡ b → (c : Bool) → ltb (freeOf (inUse s)) (needOf l) ≡ c
+        → cond a (ends s (Registers (regsOf s))) (cond b (ends s (Listed (firstStrange (regsOf s) l))) (cond c (ends s (Full (freeOf (inUse s)))) (ends (entered s l q) (Used (inUse s + needOf l))))) .answer ≡ Used u
         → Accepted s l q
     go true p b q′ c r h = let z : _≡_ {A = ℕ} 0 1 = cc in absurd (omega arith)
     go false p true q′ c r h = let z : _≡_ {A = ℕ} 0 1 = cc in absurd (omega arith)
@@ -43,7 +43,7 @@ accepted s l q u e = go (ltb 64 (regsOf s)) refl (ltb (firstStrange (regsOf s) l
     go false p false q′ false r h = record {
       few = ltb-false 64 (regsOf s) p;
       fine = ltb-false (firstStrange (regsOf s) l) (length l) q′;
-      room = ltb-false (freeOf (usedOf s)) (needOf l) r;
+      room = ltb-false (freeOf (inUse s)) (needOf l) r;
       is = rw (p, q′, r);
     }
 
@@ -112,81 +112,81 @@ module _ (s : Saver) (ok : Sound s) (l : List ℕ) (q : ℕ) (a : Accepted s l q
   long : length E ≡ 2 * length l + 2
   long = entry-length (s .file) l q
 
-  pub fits : usedOf s + needOf l ≤ 4096
+  pub fits : inUse s + needOf l ≤ 4096
   fits = omega (arith, long, a .room, ok .room)
 
   is₁ : s₁ ≡ entered s l q
   is₁ = ap (λ (e : Ends). e .left) (a .is)
 
   regs₁ : regsOf s₁ ≡ regsOf s
-  regs₁ = ap regsOf is₁ ∙ getD-set-other (s .head) 1 0 (usedOf s + needOf l) 0 (λ e. omega arith)
+  regs₁ = ap regsOf is₁ ∙ getD-set-other (s .head) 1 0 (inUse s + needOf l) 0 (λ e. omega arith)
 
-  pub used₁ : usedOf (enterOf s l q .left) ≡ usedOf s + needOf l
-  used₁ = ap usedOf is₁ ∙ getD-set-same (s .head) 1 (usedOf s + needOf l) 0 (omega (arith, ok .heads))
+  pub used₁ : inUse (enterOf s l q .left) ≡ inUse s + needOf l
+  used₁ = ap inUse is₁ ∙ getD-set-same (s .head) 1 (inUse s + needOf l) 0 (omega (arith, ok .heads))
 
   pub entered-sound : Sound (enterOf s l q .left)
   entered-sound = record {
     few = omega (arith, regs₁, ok .few);
     room = omega (arith, used₁, fits);
-    heads = ap (λ (x : Saver). length (x .head)) is₁ ∙ length-set (s .head) 1 (usedOf s + needOf l) ∙ ok .heads;
-    areas = ap (λ (x : Saver). length (x .area)) is₁ ∙ length-sets (s .area) (usedOf s) E ∙ ok .areas;
+    heads = ap (λ (x : Saver). length (x .head)) is₁ ∙ length-set (s .head) 1 (inUse s + needOf l) ∙ ok .heads;
+    areas = ap (λ (x : Saver). length (x .area)) is₁ ∙ length-sets (s .area) (inUse s) E ∙ ok .areas;
     files = ap (λ (x : Saver). length (x .file)) is₁ ∙ ok .files;
   }
 
-  saved₁ : take (usedOf s + needOf l) (s₁ .area) ≡ take (usedOf s) (s .area) ++ E
-  saved₁ = ap (λ (x : Saver). take (usedOf s + needOf l) (x .area)) is₁
-      ∙ ap (take (usedOf s + needOf l)) (sets-eq E (s .area) (usedOf s) (omega (arith, long, fits, ok .areas)))
-      ∙ take-at (take (usedOf s) (s .area) ++ E) (drop (usedOf s + length E) (s .area)) (usedOf s + needOf l)
-      (omega (arith, length-append (take (usedOf s) (s .area)) E, long, length-take-le (usedOf s) (s .area) (omega (arith, ok .room, ok .areas))))
+  saved₁ : take (inUse s + needOf l) (s₁ .area) ≡ take (inUse s) (s .area) ++ E
+  saved₁ = ap (λ (x : Saver). take (inUse s + needOf l) (x .area)) is₁
+      ∙ ap (take (inUse s + needOf l)) (sets-eq E (s .area) (inUse s) (omega (arith, long, fits, ok .areas)))
+      ∙ take-at (take (inUse s) (s .area) ++ E) (drop (inUse s + length E) (s .area)) (inUse s + needOf l)
+      (omega (arith, length-append (take (inUse s) (s .area)) E, long, length-take-le (inUse s) (s .area) (omega (arith, ok .room, ok .areas))))
 
   -- what stood below the entry still does
-  pub below₁ : take (usedOf s) (enterOf s l q .left .area) ≡ take (usedOf s) (s .area)
-  below₁ = sym (take-take (usedOf s) (usedOf s + needOf l) (s₁ .area) (omega arith)) ∙ ap (take (usedOf s)) saved₁
-      ∙ take-at (take (usedOf s) (s .area)) E (usedOf s) (length-take-le (usedOf s) (s .area) (omega (arith, ok .room, ok .areas)))
+  pub below₁ : take (inUse s) (enterOf s l q .left .area) ≡ take (inUse s) (s .area)
+  below₁ = sym (take-take (inUse s) (inUse s + needOf l) (s₁ .area) (omega arith)) ∙ ap (take (inUse s)) saved₁
+      ∙ take-at (take (inUse s) (s .area)) E (inUse s) (length-take-le (inUse s) (s .area) (omega (arith, ok .room, ok .areas)))
 
-  pub stands₁ : take (usedOf s + needOf l) (enterOf s l q .left .area) ≡ take (usedOf s) (enterOf s l q .left .area) ++ entryOf (s .file) l q
+  pub stands₁ : take (inUse s + needOf l) (enterOf s l q .left .area) ≡ take (inUse s) (enterOf s l q .left .area) ++ entryOf (s .file) l q
   stands₁ = saved₁ ∙ ap (λ (x : List ℕ). x ++ E) (sym below₁)
 
-  module _ (t : Saver) (m : Same (enterOf s l q .left) t) where
+  module _ (t : Saver) (m : SameRoom (enterOf s l q .left) t) where
     -- as the call is left, the same words are in use
-    saved₂ : take (usedOf s + needOf l) (t .area) ≡ take (usedOf s + needOf l) (s₁ .area)
+    saved₂ : take (inUse s + needOf l) (t .area) ≡ take (inUse s + needOf l) (s₁ .area)
     saved₂ = ap (λ (n : ℕ). take n (t .area)) (sym used₁) ∙ m .saved ∙ ap (λ (n : ℕ). take n (s₁ .area)) used₁
 
-    below₂ : take (usedOf s) (t .area) ≡ take (usedOf s) (s .area)
-    below₂ = sym (take-take (usedOf s) (usedOf s + needOf l) (t .area) (omega arith)) ∙ ap (take (usedOf s)) saved₂
-        ∙ take-take (usedOf s) (usedOf s + needOf l) (s₁ .area) (omega arith) ∙ below₁
+    below₂ : take (inUse s) (t .area) ≡ take (inUse s) (s .area)
+    below₂ = sym (take-take (inUse s) (inUse s + needOf l) (t .area) (omega arith)) ∙ ap (take (inUse s)) saved₂
+        ∙ take-take (inUse s) (inUse s + needOf l) (s₁ .area) (omega arith) ∙ below₁
 
-    stands₂ : take (usedOf s + needOf l) (t .area) ≡ take (usedOf s) (t .area) ++ E
+    stands₂ : take (inUse s + needOf l) (t .area) ≡ take (inUse s) (t .area) ++ E
     stands₂ = saved₂ ∙ saved₁ ∙ ap (λ (x : List ℕ). x ++ E) (sym below₂)
 
-    found : topOf (usedOf t) (t .area) ≡ Entry (usedOf s) (length l) q
-    found = ap (λ (n : ℕ). topOf n (t .area)) (m .used ∙ used₁) ∙ entry-found (t .area) (m .sound .areas) (usedOf s) (s .file) l q fits stands₂
+    found : topOf (inUse t) (t .area) ≡ Entry (inUse s) (length l) q
+    found = ap (λ (n : ℕ). topOf n (t .area)) (m .used ∙ used₁) ∙ entry-found (t .area) (m .sound .areas) (inUse s) (s .file) l q fits stands₂
 
-    part : (g : List ℕ) → putBack (regsOf s) (t .area) (usedOf s) (length l) g ≡ restored (regsOf s) (s .file) l g
-    part = entry-back (t .area) (m .sound .areas) (usedOf s) (s .file) l q fits stands₂ (regsOf s)
+    part : (g : List ℕ) → putBack (regsOf s) (t .area) (inUse s) (length l) g ≡ restored (regsOf s) (s .file) l g
+    part = entry-back (t .area) (m .sound .areas) (inUse s) (s .file) l q fits stands₂ (regsOf s)
 
     regs₂ : regsOf t ≡ regsOf s
     regs₂ = m .regs ∙ regs₁
 
     abbrev back-to : Back → List ℕ
-    back-to back = written (regsOf s) q back (restored (regsOf s) (s .file) l (t .file))
+    back-to back = resultWritten (regsOf s) q back (restored (regsOf s) (s .file) l (t .file))
 
     -- the leaving is not refused; it puts back what this entry put aside, and frees its room
     pub leaving : (back : Back)
-        → leaveOf t back ≡ ends (saver (set (t .head) 1 (usedOf s)) (t .area) (written (regsOf s) q back (restored (regsOf s) (s .file) l (t .file))))
-        (Used (usedOf s))
+        → leaveOf t back ≡ ends (saver (set (t .head) 1 (inUse s)) (t .area) (resultWritten (regsOf s) q back (restored (regsOf s) (s .file) l (t .file))))
+        (Used (inUse s))
     unfolding leaveOf leftBy
     leaving back = rw (le-ltb 64 (regsOf t) (m .sound .few), found, regs₂, part)
 
     abbrev s₃ : Back → Saver
-    s₃ back = saver (set (t .head) 1 (usedOf s)) (t .area) (back-to back)
+    s₃ back = saver (set (t .head) 1 (inUse s)) (t .area) (back-to back)
 
-    same₃ : (back : Back) → Same s (s₃ back)
+    same₃ : (back : Back) → SameRoom s (s₃ back)
     same₃ back = record {
       sound = record {
         few = omega (arith, regs, ok .few);
         room = omega (arith, used, ok .room);
-        heads = length-set (t .head) 1 (usedOf s) ∙ m .sound .heads;
+        heads = length-set (t .head) 1 (inUse s) ∙ m .sound .heads;
         areas = m .sound .areas;
         files = written-length (regsOf s) q back (restored (regsOf s) (s .file) l (t .file)) ∙ back-length (regsOf s) (s .file) l (t .file) ∙ m .sound .files;
       };
@@ -196,18 +196,18 @@ module _ (s : Saver) (ok : Sound s) (l : List ℕ) (q : ℕ) (a : Accepted s l q
     }
       where
         regs : regsOf (s₃ back) ≡ regsOf s
-        regs = getD-set-other (t .head) 1 0 (usedOf s) 0 (λ e. omega arith) ∙ regs₂
+        regs = getD-set-other (t .head) 1 0 (inUse s) 0 (λ e. omega arith) ∙ regs₂
 
-        used : usedOf (s₃ back) ≡ usedOf s
-        used = getD-set-same (t .head) 1 (usedOf s) 0 (omega (arith, m .sound .heads))
+        used : inUse (s₃ back) ≡ inUse s
+        used = getD-set-same (t .head) 1 (inUse s) 0 (omega (arith, m .sound .heads))
 
-    pub left-same : (back : Back) → Same s (leaveOf t back .left)
-    left-same back = subst (λ (e : Ends). Same s (e .left)) (sym (leaving back)) (same₃ back)
+    pub left-same : (back : Back) → SameRoom s (leaveOf t back .left)
+    left-same back = subst (λ (e : Ends). SameRoom s (e .left)) (sym (leaving back)) (same₃ back)
 
-pub same-refl : (s : Saver) → Sound s → Same s s
+pub same-refl : (s : Saver) → Sound s → SameRoom s s
 same-refl s ok = record { sound = ok; regs = refl; used = refl; saved = refl }
 
-pub same-trans : (s t u : Saver) → Same s t → Same t u → Same s u
+pub same-trans : (s t u : Saver) → SameRoom s t → SameRoom t u → SameRoom s u
 same-trans s t u a b = record {
   sound = b .sound;
   regs = b .regs ∙ a .regs;
@@ -216,17 +216,17 @@ same-trans s t u a b = record {
 }
 
 -- events played in two parts
-pub split : (es fs : List Event) {s t : Saver} → Play s (es ++ fs) t → (m : Saver) × Play s es m × Play m fs t
+pub split : (es fs : List CallEvent) {s t : Saver} → Play s (es ++ fs) t → (m : Saver) × Play s es m × Play m fs t
 split [] fs {s} p = (s, done, p)
 split (enters l q ∷ es) fs (enter e p) = let (m, a, b) = split es fs p in (m, enter e a, b)
 split (writes new ∷ es) fs (write e p) = let (m, a, b) = split es fs p in (m, write e a, b)
 split (leaves back ∷ es) fs (leave p) = let (m, a, b) = split es fs p in (m, leave a, b)
 
-leave-play : {s t : Saver} {back : Back} {es : List Event} → Play s (leaves back ∷ es) t → Play (leaveOf s back .left) es t
+leave-play : {s t : Saver} {back : Back} {es : List CallEvent} → Play s (leaves back ∷ es) t → Play (leaveOf s back .left) es t
 leave-play (leave p) = p
 
 -- after matched entries and leavings the same room is in use, by the same words
-pub matched : {es : List Event} {s t : Saver} → Matched es → Sound s → Play s es t → Same s t
+pub matched : {es : List CallEvent} {s t : Saver} → Matched es → Sound s → Play s es t → SameRoom s t
 matched {s = s} none ok done = same-refl s ok
 matched {s = s} {t = t} (over {new = new} m) ok (write e p) =
     let r = matched m (record { few = ok .few; room = ok .room; heads = ok .heads; areas = ok .areas; files = e ∙ ok .files }) p in

@@ -8,11 +8,11 @@ use lib.Dec.{ltb}
 use lib.ListN.{length, getD, take, set, length-set}
 use lib.Seq.{take-take, getD-set-same, getD-set-other}
 use Rattle.area.specs.Area.{needOf}
-use Rattle.saver.specs.Saver.{Saver, saver, Ends, ends, regsOf, usedOf}
+use Rattle.saver.specs.Saver.{Saver, saver, Ends, ends, regsOf, inUse}
 use Rattle.leaves.specs.Leaving.{Back}
 use Rattle.area.specs.Area.{entryOf, putIn, putBack, topOf}
 use Rattle.saver.specs.Saver.{madeHead, enterOf}
-use Rattle.leaves.specs.Leaving.{written, leftBy, leaveOf}
+use Rattle.leaves.specs.Leaving.{resultWritten, leftBy, leaveOf}
 use Rattle.frames.specs.Frames.{Sound, Open, made, entered, overwritten, left}
 use Rattle.saver.specs.declared.SaverAnswer.the-variants.{Used, Nothing}
 use Rattle.area.specs.declared.Top.{Top}
@@ -42,16 +42,16 @@ back-length regs area (suc m) p g = back-length regs area m (suc (suc p)) (putIn
 
 -- the newest of n + 1 entries is left
 module _ (s : Saver) (ok : Sound s) (u : ℕ) (file l : List ℕ) (q : ℕ) (f : u + needOf l ≤ 4096)
-    (so : take (u + needOf l) (s .area) ≡ take u (s .area) ++ entryOf file l q) (e : usedOf s ≡ u + needOf l) (back : Back) where
+    (so : take (u + needOf l) (s .area) ≡ take u (s .area) ++ entryOf file l q) (e : inUse s ≡ u + needOf l) (back : Back) where
   abbrev to : List ℕ
-  to = written (regsOf s) q back (putBack (regsOf s) (s .area) u (length l) (s .file))
+  to = resultWritten (regsOf s) q back (putBack (regsOf s) (s .area) u (length l) (s .file))
 
   leaves-it : leaveOf s back ≡ ends (saver (set (s .head) 1 u) (s .area) to) (Used u)
   unfolding leaveOf leftBy
   leaves-it = rw (le-ltb 64 (regsOf s) (ok .few), e, entry-found (s .area) (ok .areas) u file l q f so)
 
-  used-then : usedOf (leaveOf s back .left) ≡ u
-  used-then = ap (λ (x : Ends). usedOf (x .left)) leaves-it ∙ getD-set-same (s .head) 1 u 0 (omega (arith, ok .heads))
+  used-then : inUse (leaveOf s back .left) ≡ u
+  used-then = ap (λ (x : Ends). inUse (x .left)) leaves-it ∙ getD-set-same (s .head) 1 u 0 (omega (arith, ok .heads))
 
   regs-then : regsOf (leaveOf s back .left) ≡ regsOf s
   regs-then = ap (λ (x : Ends). regsOf (x .left)) leaves-it ∙ getD-set-other (s .head) 1 0 u 0 (λ z. omega arith)
@@ -67,7 +67,7 @@ module _ (s : Saver) (ok : Sound s) (u : ℕ) (file l : List ℕ) (q : ℕ) (f :
   }
 
 -- what every saver is that was made and used
-standing : {s : Saver} {n : ℕ} → Open s n → Sound s × Tower (s .area) n (usedOf s)
+standing : {s : Saver} {n : ℕ} → Open s n → Sound s × Tower (s .area) n (inUse s)
 standing (made ok e) = (ok, ground e)
 standing (entered {s = s} o l q u e) =
     let (ok, t) = standing o in
@@ -82,11 +82,11 @@ standing (left {s = s} o back) =
     let (ok, t) = standing o in
     down s ok back t
   where
-    down : {n : ℕ} (s : Saver) → Sound s → (back : Back) → Tower (s .area) (suc n) (usedOf s)
-        → Sound (leaveOf s back .left) × Tower (leaveOf s back .left .area) n (usedOf (leaveOf s back .left))
+    down : {n : ℕ} (s : Saver) → Sound s → (back : Back) → Tower (s .area) (suc n) (inUse s)
+        → Sound (leaveOf s back .left) × Tower (leaveOf s back .left .area) n (inUse (leaveOf s back .left))
     down {n} s ok back (floor {u = u} file l q t f so e) = (
       sound-then s ok u file l q f so e back,
-      subst (λ (x : Ends). Tower (x .left .area) n (usedOf (leaveOf s back .left))) (sym (leaves-it s ok u file l q f so e back))
+      subst (λ (x : Ends). Tower (x .left .area) n (inUse (leaveOf s back .left))) (sym (leaves-it s ok u file l q f so e back))
           (subst (λ (w : ℕ). Tower (s .area) n w) (sym (used-then s ok u file l q f so e back)) t),
     )
 
@@ -102,14 +102,14 @@ none-open {s} o back = let (ok, t) = standing o in bare ok (zero-used t)
     zero-used : {w : ℕ} → Tower (s .area) 0 w → w ≡ 0
     zero-used (ground e) = e
 
-    bare : Sound s → usedOf s ≡ 0 → leaveOf s back ≡ ends s Nothing
+    bare : Sound s → inUse s ≡ 0 → leaveOf s back ≡ ends s Nothing
     bare ok e = rw (le-ltb 64 (regsOf s) (ok .few), e)
 
 -- with a call open it is not
 pub some-open : {s : Saver} {n : ℕ} → Open s (suc n) → (back : Back) → (u : ℕ) × (leaveOf s back .answer ≡ Used u)
 some-open {s} o back = let (ok, t) = standing o in found ok t
   where
-    found : {n : ℕ} → Sound s → Tower (s .area) (suc n) (usedOf s) → (u : ℕ) × (leaveOf s back .answer ≡ Used u)
+    found : {n : ℕ} → Sound s → Tower (s .area) (suc n) (inUse s) → (u : ℕ) × (leaveOf s back .answer ≡ Used u)
     found ok (floor {u = u} file l q t f so e) = (u, ap (λ (x : Ends). x .answer) (leaves-it s ok u file l q f so e back))
 
 -- what `make` leaves is such a saver

@@ -17,9 +17,9 @@ use Rattle.flow.specs.Kept.{Level}
 use Rattle.flow.specs.Demand.{Agree, AgreeOn, Alike, Keeps}
 use Rattle.flow.proofs.Bits.{bit-zero, pow-other}
 use Rattle.area.specs.Area.{freeOf, putIn}
-use Rattle.saver.specs.Saver.{Saver, Ends, regsOf, usedOf, enterOf}
-use Rattle.leaves.specs.Leaving.{Back, returned, thrown, written, leaveOf}
-use Rattle.frames.specs.Frames.{fileOf, restored, Sound, Event, Play, Matched, Same}
+use Rattle.saver.specs.Saver.{Saver, Ends, regsOf, inUse, enterOf}
+use Rattle.leaves.specs.Leaving.{Back, returned, thrown, resultWritten, leaveOf}
+use Rattle.frames.specs.Frames.{fileOf, restored, Sound, CallEvent, Play, Matched, SameRoom}
 use Rattle.saver.specs.declared.SaverAnswer.the-variants.{Used}
 use Rattle.frames.proofs.Words.{in-length, in-same, in-other, back-length, back-kept, written-length}
 use Rattle.frames.proofs.Frames.{Accepted, accepted, entered-sound, leaving, left-same, matched}
@@ -27,26 +27,26 @@ use Rattle.frames.proofs.Listed.{fine-in}
 
 -- s is entered with the list l and the result register q; what happens then, nested entries and leavings and registers overwritten, is well
 -- bracketed and ends in t
-module _ (s : Saver) (ok : Sound s) (l : List ℕ) (q u : ℕ) (entry : enterOf s l q .answer ≡ Used u) (es : List Event) (bracketed : Matched es) (t : Saver)
+module _ (s : Saver) (ok : Sound s) (l : List ℕ) (q u : ℕ) (entry : enterOf s l q .answer ≡ Used u) (es : List CallEvent) (bracketed : Matched es) (t : Saver)
     (play : Play (enterOf s l q .left) es t) where
   a : Accepted s l q
   a = accepted s l q u entry
 
-  m : Same (enterOf s l q .left) t
+  m : SameRoom (enterOf s l q .left) t
   m = matched bracketed (entered-sound s ok l q a) play
 
   -- the leaving is not refused, whichever it is
-  pub answers : (back : Back) → leaveOf t back .answer ≡ Used (usedOf s)
+  pub answers : (back : Back) → leaveOf t back .answer ≡ Used (inUse s)
   answers back = ap (λ (e : Ends). e .answer) (leaving s ok l q a t m back)
 
-  pub frame-same : (back : Back) → Same s (leaveOf t back .left)
+  pub frame-same : (back : Back) → SameRoom s (leaveOf t back .left)
   frame-same back = left-same s ok l q a t m back
 
   -- freed room serves the next entry
-  pub room-back : (back : Back) → freeOf (usedOf (leaveOf t back .left)) ≡ freeOf (usedOf s)
+  pub room-back : (back : Back) → freeOf (inUse (leaveOf t back .left)) ≡ freeOf (inUse s)
   room-back back = ap freeOf (frame-same back .used)
 
-  file-is : (back : Back) → leaveOf t back .left .file ≡ written (regsOf s) q back (restored (regsOf s) (s .file) l (t .file))
+  file-is : (back : Back) → leaveOf t back .left .file ≡ resultWritten (regsOf s) q back (restored (regsOf s) (s .file) l (t .file))
   file-is back = ap (λ (e : Ends). e .left .file) (leaving s ok l q a t m back)
 
   abbrev kept : List ℕ
@@ -56,7 +56,7 @@ module _ (s : Saver) (ok : Sound s) (l : List ℕ) (q u : ℕ) (entry : enterOf 
   kept-long = omega (arith, back-length (regsOf s) (s .file) l (t .file), m .sound .files, ok .few)
 
   -- a register of the file, as it then is
-  now-at : (back : Back) (r : ℕ) → r < regsOf s → getD (fileOf (leaveOf t back .left)) r 0 ≡ getD (written (regsOf s) q back kept) r 0
+  now-at : (back : Back) (r : ℕ) → r < regsOf s → getD (fileOf (leaveOf t back .left)) r 0 ≡ getD (resultWritten (regsOf s) q back kept) r 0
   now-at back r h =
       ap (λ (n : ℕ). getD (take n (leaveOf t back .left .file)) r 0) (frame-same back .regs)
       ∙ getD-take (regsOf s) (leaveOf t back .left .file) r 0 h

@@ -11,7 +11,7 @@ use lib.Dec.{ltb}
 use lib.ListN.{length, getD, take, drop, set, length-set, length-append}
 use lib.Seq.{getD-set-same, getD-set-other, getD-at}
 use Rattle.area.specs.Area.{pairsOf, entryOf, putIn, putBack}
-use Rattle.leaves.specs.Leaving.{Back, returned, thrown, written}
+use Rattle.leaves.specs.Leaving.{Back, returned, thrown, resultWritten}
 use Rattle.frames.specs.Frames.{restored}
 
 pub pairs-length : (file l : List ℕ) → length (pairsOf file l) ≡ 2 * length l
@@ -71,7 +71,7 @@ module _ (regs : ℕ) where
       long : regs ≤ length next
       long = omega (arith, in-length r (getD f r 0) g)
 
-  pub written-length : (q : ℕ) (b : Back) (g : List ℕ) → length (written regs q b g) ≡ length g
+  pub written-length : (q : ℕ) (b : Back) (g : List ℕ) → length (resultWritten regs q b g) ≡ length g
   written-length q (returned v) g = in-length q v g
   written-length q thrown g = refl
 

@@ -4,7 +4,7 @@ use mathlib.Core.Path.{_≡_}
 use mathlib.Core.List.{List, [], _∷_, _++_}
 use lib.ListN.{length, getD, take}
 use Rattle.area.specs.Area.{putIn}
-use Rattle.saver.specs.Saver.{Saver, saver, regsOf, usedOf, enterOf}
+use Rattle.saver.specs.Saver.{Saver, saver, regsOf, inUse, enterOf}
 use Rattle.leaves.specs.Leaving.{Back, leaveOf}
 use Rattle.saver.specs.declared.SaverAnswer.the-variants.{Used}
 
@@ -20,42 +20,42 @@ restored regs f (r ∷ l) g = restored regs f l (putIn regs r (getD f r 0) g)
 -- what every saver is that was made and used: a file of at most 64, and no more words in use than there are
 pub record Sound (s : Saver) : Type 0 where
   pub few : regsOf s ≤ 64
-  pub room : usedOf s ≤ 4096
+  pub room : inUse s ≤ 4096
   pub heads : length (s .head) ≡ 2
   pub areas : length (s .area) ≡ 4096
   pub files : length (s .file) ≡ 64
 
 -- a call is entered with a list and a result register; registers are overwritten; a call is left
-pub data Event : Type 0 where
-  enters : List ℕ → ℕ → Event
-  writes : List ℕ → Event
-  leaves : Back → Event
+pub data CallEvent : Type 0 where
+  enters : List ℕ → ℕ → CallEvent
+  writes : List ℕ → CallEvent
+  leaves : Back → CallEvent
 
 -- From one saver to another by events in order. An entry here is one that is not refused; overwriting keeps the file's length; a leaving is
 -- whatever the call makes of it.
-pub data Play : Saver → List Event → Saver → Type 0 where
+pub data Play : Saver → List CallEvent → Saver → Type 0 where
   done : {s : Saver} → Play s [] s
-  enter : {s t : Saver} {l : List ℕ} {q u : ℕ} {es : List Event} → enterOf s l q .answer ≡ Used u → Play (enterOf s l q .left) es t → Play s (enters l q ∷ es) t
-  write : {s t : Saver} {new : List ℕ} {es : List Event} → length new ≡ length (s .file) → Play (saver (s .head) (s .area) new) es t
+  enter : {s t : Saver} {l : List ℕ} {q u : ℕ} {es : List CallEvent} → enterOf s l q .answer ≡ Used u → Play (enterOf s l q .left) es t → Play s (enters l q ∷ es) t
+  write : {s t : Saver} {new : List ℕ} {es : List CallEvent} → length new ≡ length (s .file) → Play (saver (s .head) (s .area) new) es t
       → Play s (writes new ∷ es) t
-  leave : {s t : Saver} {back : Back} {es : List Event} → Play (leaveOf s back .left) es t → Play s (leaves back ∷ es) t
+  leave : {s t : Saver} {back : Back} {es : List CallEvent} → Play (leaveOf s back .left) es t → Play s (leaves back ∷ es) t
 
 -- well bracketed: each entry has its leaving, and what happens between them is well bracketed too
-pub data Matched : List Event → Type 0 where
+pub data Matched : List CallEvent → Type 0 where
   none : Matched []
-  over : {new : List ℕ} {es : List Event} → Matched es → Matched (writes new ∷ es)
-  frame : {l : List ℕ} {q : ℕ} {es fs : List Event} (back : Back) → Matched es → Matched fs → Matched (enters l q ∷ (es ++ (leaves back ∷ fs)))
+  over : {new : List ℕ} {es : List CallEvent} → Matched es → Matched (writes new ∷ es)
+  frame : {l : List ℕ} {q : ℕ} {es fs : List CallEvent} (back : Back) → Matched es → Matched fs → Matched (enters l q ∷ (es ++ (leaves back ∷ fs)))
 
 -- the same room is in use, by the same words, and the file is as long
-pub record Same (s t : Saver) : Type 0 where
+pub record SameRoom (s t : Saver) : Type 0 where
   pub sound : Sound t
   pub regs : regsOf t ≡ regsOf s
-  pub used : usedOf t ≡ usedOf s
-  pub saved : take (usedOf s) (t .area) ≡ take (usedOf s) (s .area)
+  pub used : inUse t ≡ inUse s
+  pub saved : take (inUse s) (t .area) ≡ take (inUse s) (s .area)
 
 -- a saver that was made and used, with so many calls open: entered and not yet left
 pub data Open : Saver → ℕ → Type 0 where
-  made : {s : Saver} → Sound s → usedOf s ≡ 0 → Open s 0
+  made : {s : Saver} → Sound s → inUse s ≡ 0 → Open s 0
   entered : {s : Saver} {n : ℕ} → Open s n → (l : List ℕ) (q u : ℕ) → enterOf s l q .answer ≡ Used u → Open (enterOf s l q .left) (suc n)
   overwritten : {s : Saver} {n : ℕ} → Open s n → (new : List ℕ) → length new ≡ length (s .file) → Open (saver (s .head) (s .area) new) n
   left : {s : Saver} {n : ℕ} → Open s (suc n) → (back : Back) → Open (leaveOf s back .left) n

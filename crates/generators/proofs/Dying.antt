@@ -13,12 +13,12 @@ use Rattle.code.specs.Op.{Phi}
 use Rattle.code.specs.Ins.{insAt}
 use Rattle.code.specs.declared.Ins.{Ins}
 use Rattle.laid.specs.Section.{laid}
-use Rattle.paths.specs.Search.{Says, Settles}
-use Rattle.phis.specs.Phi.{Dead, Room}
+use Rattle.paths.specs.Search.{Says, SearchSettles}
+use Rattle.phis.specs.Phi.{Dead, PhiRoom}
 use Rattle.generators.specs.Generator.{made, returnsOutside, PhisDead, Clear, GenPure}
 
 -- the first m words of a list, cleared
-module _ (w a b x y : List ℕ) (room : Room w a b) (e : x ≡ clearedTo (length w / 6 + 1) a) (f : y ≡ clearedTo (length w / 6 + 1) b) where
+module _ (w a b x y : List ℕ) (room : PhiRoom w a b) (e : x ≡ clearedTo (length w / 6 + 1) a) (f : y ≡ clearedTo (length w / 6 + 1) b) where
   pub clear : Clear w x y
   clear =
       record {
@@ -33,7 +33,7 @@ module _ (w a b x y : List ℕ) (room : Room w a b) (e : x ≡ clearedTo (length
         waiting = rw f (sym (cleared-twice (length w / 6 + 1) b));
       }
 
-  pub settled : (c : Bool) (x′ y′ : List ℕ) → Settles (PhisDead w (length w / 6)) (length w / 6 + 1) x y c x′ y′ → Settles (PhisDead w (length w / 6)) (length w / 6 + 1) a b c x′ y′
+  pub settled : (c : Bool) (x′ y′ : List ℕ) → SearchSettles (PhisDead w (length w / 6)) (length w / 6 + 1) x y c x′ y′ → SearchSettles (PhisDead w (length w / 6)) (length w / 6 + 1) a b c x′ y′
   settled c x′ y′ s =
       record {
         says = s .says;
@@ -66,7 +66,7 @@ fails P false t s = s
 fails P true t s = absurd (true≢false t)
 
 module _ (w a b x y : List ℕ) (k : ℕ) (s : Walked w a b x y k) where
-  pub room-at : Room w x y
+  pub room-at : PhiRoom w x y
   room-at = rw (s .marks, s .waiting) (s .clear .room)
 
   pub marks-length : length x ≡ length a
@@ -75,7 +75,7 @@ module _ (w a b x y : List ℕ) (k : ℕ) (s : Walked w a b x y k) where
   pub waiting-length : length y ≡ length b
   waiting-length = ap length (s .waiting)
 
-  pub ends : length w / 6 ≤ k → Settles (PhisDead w (length w / 6)) (length w / 6 + 1) a b true x y
+  pub ends : length w / 6 ≤ k → SearchSettles (PhisDead w (length w / 6)) (length w / 6 + 1) a b true x y
   ends h =
       let q : k ≡ length w / 6 = omega (arith, s .below) in
       record { says = rw q at (s .dead); marks = s .marks ∙ s .clear .marks; waiting = s .waiting ∙ s .clear .waiting }
@@ -91,7 +91,7 @@ module _ (w a b x y : List ℕ) (k : ℕ) (s : Walked w a b x y k) where
           dead = more w k (s .dead) (λ o. absurd (n (rw here o)));
         }
 
-    module _ (x′ y′ : List ℕ) (c : Bool) (d : Settles (Dead w k (i .a)) (length w / 6 + 1) x y c x′ y′) where
+    module _ (x′ y′ : List ℕ) (c : Bool) (d : SearchSettles (Dead w k (i .a)) (length w / 6 + 1) x y c x′ y′) where
       marks-stay : x′ ≡ a
       marks-stay = d .marks ∙ ap (λ (z : List ℕ). clearedTo (length w / 6 + 1) z) (s .marks) ∙ sym (s .clear .marks)
 
@@ -108,7 +108,7 @@ module _ (w a b x y : List ℕ) (k : ℕ) (s : Walked w a b x y k) where
             dead = more w k (s .dead) (λ o. rw here at (holds (Dead w k (i .a)) c t (d .says)));
           }
 
-      pub lives : i .op ≡ Phi → c ≡ false → Settles (PhisDead w (length w / 6)) (length w / 6 + 1) a b false x′ y′
+      pub lives : i .op ≡ Phi → c ≡ false → SearchSettles (PhisDead w (length w / 6)) (length w / 6 + 1) a b false x′ y′
       lives o t =
           record {
             says = λ p. fails (Dead w k (i .a)) c t (d .says) (rw here (p .dead k h (rw here at o)));
@@ -133,6 +133,6 @@ module _ (w : List ℕ) where
   all-four true false m o e s f g = λ p. s (p .dead)
   all-four false d m o e s f g = λ p. false≢true (e ∙ p .laid)
 
-  pub generator : (x y x′ y′ : List ℕ) (l d m o : Bool) → Settles (PhisDead w (length w / 6)) (length w / 6 + 1) x y d x′ y′ → l ≡ laid w true → m ≡ made w → o ≡ returnsOutside w
-      → Settles (GenPure w) (length w / 6 + 1) x y (l && d && not m && o) x′ y′
+  pub generator : (x y x′ y′ : List ℕ) (l d m o : Bool) → SearchSettles (PhisDead w (length w / 6)) (length w / 6 + 1) x y d x′ y′ → l ≡ laid w true → m ≡ made w → o ≡ returnsOutside w
+      → SearchSettles (GenPure w) (length w / 6 + 1) x y (l && d && not m && o) x′ y′
   generator x y x′ y′ l d m o s e f g = record { says = all-four l d m o e (s .says) f g; marks = s .marks; waiting = s .waiting }

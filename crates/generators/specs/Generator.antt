@@ -14,7 +14,7 @@ use Rattle.code.specs.declared.Ins.{Ins}
 use Rattle.laid.specs.Section.{laid}
 use Rattle.walks.specs.Returns.{returnsAt}
 use Rattle.walks.specs.There.{there}
-use Rattle.phis.specs.Phi.{Dead, Room}
+use Rattle.phis.specs.Phi.{Dead, PhiRoom}
 
 -- i makes a function
 unfoldable pub makes : Ins → Bool
@@ -33,12 +33,12 @@ unfoldable pub closes : Ins → Bool
 closes i = eqb (i .op) PopExcept || eqb (i .op) WithExit && eqb (i .x) 2
 
 -- i returns
-unfoldable pub leaves : Ins → Bool
-leaves i = eqb (i .op) ReturnR || eqb (i .op) ReturnValue
+unfoldable pub returnsFrom : Ins → Bool
+returnsFrom i = eqb (i .op) ReturnR || eqb (i .op) ReturnValue
 
 -- a return at k has as many closed as opened before it: more closed than opened is inside, too
 unfoldable pub outsideAt : List ℕ → ℕ → Bool
-outsideAt w k = not (not (eqb (many (there opens w) k) (many (there closes w) k)) && (leaves (insAt w k) || returnsAt w k))
+outsideAt w k = not (not (eqb (many (there opens w) k) (many (there closes w) k)) && (returnsFrom (insAt w k) || returnsAt w k))
 
 -- `returns_outside`: every return lies outside the `try`s and `with`s, read in the order they are laid
 unfoldable pub returnsOutside : List ℕ → Bool
@@ -57,6 +57,6 @@ pub record GenPure (w : List ℕ) : Type 0 where
 
 -- room for a search, and both buffers clear
 pub record Clear (w seen todo : List ℕ) : Type 0 where
-  pub room : Room w seen todo
+  pub room : PhiRoom w seen todo
   pub marks : seen ≡ clearedTo (length w / 6 + 1) seen
   pub waiting : todo ≡ clearedTo (length w / 6 + 1) todo

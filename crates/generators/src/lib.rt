@@ -3,9 +3,9 @@ ghost use mathlib.Core.Path.{_≡_};
 ghost use Prim.Native.Nat.{_+_, _/_};
 ghost use lib.ListN.{length};
 ghost use Rattle.code.specs.Check.{Whole};
-ghost use Rattle.paths.specs.Search.{Settles};
-ghost use Rattle.phis.specs.Phi.{Room};
-ghost use Rattle.generators.specs.Generator.{makes, made, opens, closes, leaves, returnsOutside, PhisDead, GenPure, Clear};
+ghost use Rattle.paths.specs.Search.{SearchSettles};
+ghost use Rattle.phis.specs.Phi.{PhiRoom};
+ghost use Rattle.generators.specs.Generator.{makes, made, opens, closes, returnsFrom, returnsOutside, PhisDead, GenPure, Clear};
 ghost use Rattle.generators.specs.Answers.{GenTold};
 use code::Answer;
 use code::Checked;
@@ -63,7 +63,7 @@ fn closes(i: Ins) -> bool
 }
 
 fn leaves(i: Ins) -> bool
-    ensures { λ b. ⌜ b ≡ leaves i ⌝ }
+    ensures { λ b. ⌜ b ≡ returnsFrom i ⌝ }
 {
     (i.op == ReturnR) | (i.op == ReturnValue)
 }
@@ -94,7 +94,7 @@ fn returns_outside(code: &[u16]) -> bool
 // Whether every Phi is dead; both buffers are clear, and stay so.
 fn walk_phis(code: &[u16], seen: &mut [u8], todo: &mut [u32]) -> bool
     requires { ⌜ Clear (now code) (now seen) (now todo) ⌝ }
-    ensures { λ b. ⌜ Settles (PhisDead (now (code .entry)) (length (now (code .entry)) / 6)) (length (now (code .entry)) / 6 + 1) (now (seen .entry)) (now (todo .entry)) b (now (seen .exit)) (now (todo .exit)) ⌝ }
+    ensures { λ b. ⌜ SearchSettles (PhisDead (now (code .entry)) (length (now (code .entry)) / 6)) (length (now (code .entry)) / 6 + 1) (now (seen .entry)) (now (todo .entry)) b (now (seen .exit)) (now (todo .exit)) ⌝ }
 {
     let n = code.len() / 6;
     let mut k = 0;
@@ -114,8 +114,8 @@ fn walk_phis(code: &[u16], seen: &mut [u8], todo: &mut [u32]) -> bool
 }
 
 fn phis_dead(code: &[u16], seen: &mut [u8], todo: &mut [u32]) -> bool
-    requires { ⌜ Room (now code) (now seen) (now todo) ⌝ }
-    ensures { λ b. ⌜ Settles (PhisDead (now (code .entry)) (length (now (code .entry)) / 6)) (length (now (code .entry)) / 6 + 1) (now (seen .entry)) (now (todo .entry)) b (now (seen .exit)) (now (todo .exit)) ⌝ }
+    requires { ⌜ PhiRoom (now code) (now seen) (now todo) ⌝ }
+    ensures { λ b. ⌜ SearchSettles (PhisDead (now (code .entry)) (length (now (code .entry)) / 6)) (length (now (code .entry)) / 6 + 1) (now (seen .entry)) (now (todo .entry)) b (now (seen .exit)) (now (todo .exit)) ⌝ }
 {
     let m = code.len() / 6 + 1;
     walks::clear_marks(seen, m);
@@ -125,8 +125,8 @@ fn phis_dead(code: &[u16], seen: &mut [u8], todo: &mut [u32]) -> bool
 
 // `gen_pure` in accepted code.
 fn generates(code: &[u16], seen: &mut [u8], todo: &mut [u32]) -> bool
-    requires { ⌜ Room (now code) (now seen) (now todo) ⌝ }
-    ensures { λ b. ⌜ Settles (GenPure (now (code .entry))) (length (now (code .entry)) / 6 + 1) (now (seen .entry)) (now (todo .entry)) b (now (seen .exit)) (now (todo .exit)) ⌝ }
+    requires { ⌜ PhiRoom (now code) (now seen) (now todo) ⌝ }
+    ensures { λ b. ⌜ SearchSettles (GenPure (now (code .entry))) (length (now (code .entry)) / 6 + 1) (now (seen .entry)) (now (todo .entry)) b (now (seen .exit)) (now (todo .exit)) ⌝ }
 {
     let dead = phis_dead(code, seen, todo);
     let laid = laid::all_laid(code, true);

@@ -19,10 +19,10 @@ use Rattle.flow.specs.Flow.{Flow}
 use Rattle.flow.specs.Sweep.{row, Found}
 use Rattle.flow.specs.Words.{value, rowsOf, Small}
 use Rattle.steps.specs.Code.{flow}
-use Rattle.rows.specs.Route.{wordsFor, firstOf, rowsIn, Rows}
+use Rattle.rows.specs.Route.{wordsFor, routeStart, rowsIn, Rows}
 use Rattle.rows.proofs.Routes.{words-few, words-enough}
 use Rattle.rows.proofs.Least.{rows-regs}
-use Rattle.kept.specs.Lists.{listsTo, offsetsTo, over, Width, Ready, Filled}
+use Rattle.kept.specs.Lists.{listsTo, offsetsTo, over, Width, LevelsRoom, Filled}
 use Rattle.kept.specs.Answers.{scratchFor, stagesOf, RowsLeft, ListsLeft, Outcome, refused, short, told}
 use Rattle.kept.specs.declared.KeptAnswer.{KeptAnswer}
 use Rattle.kept.specs.declared.KeptAnswer.the-variants.{Is, No}
@@ -76,7 +76,7 @@ module _ (bits hand : ℕ) (width : Width bits hand) (regs : ℕ) (w tries rows 
       past = drop-at part (drop ((count w + 1) * m) rows) (scratchFor bits regs w) long ∙ ap (λ (x : ℕ). drop x rows) need-is;
     }
 
-    pub ready-by : Small bits (part ++ drop ((count w + 1) * m) rows) → Ready bits hand regs w m (part ++ drop ((count w + 1) * m) rows)
+    pub ready-by : Small bits (part ++ drop ((count w + 1) * m) rows) → LevelsRoom bits hand regs w m (part ++ drop ((count w + 1) * m) rows)
     ready-by small = record {
       width = width;
       valid = accepted-valid bits w regs tries (length rows) (length offsets) n h;
@@ -115,19 +115,19 @@ module _ (bits hand : ℕ) (width : Width bits hand) (regs : ℕ) (w tries rows 
 
   -- by document 01's
   module _ (wide : Bool) (part : List ℕ) (full lost : ℕ) (f : Rows bits wide regs w part full lost) (l : length part ≡ length (take ((count w + 1) * m) rows)) where
-    pub ready : Small bits (part ++ drop ((count w + 1) * m) rows) → Ready bits hand regs w m (part ++ drop ((count w + 1) * m) rows)
-    ready = ready-by (flow regs w) (firstOf bits wide regs w) (rows-regs bits wide regs w) part full lost f l
+    pub ready : Small bits (part ++ drop ((count w + 1) * m) rows) → LevelsRoom bits hand regs w m (part ++ drop ((count w + 1) * m) rows)
+    ready = ready-by (flow regs w) (routeStart bits wide regs w) (rows-regs bits wide regs w) part full lost f l
 
     pub new-long : length (part ++ drop ((count w + 1) * m) rows) ≡ length rows
-    new-long = long-by (flow regs w) (firstOf bits wide regs w) (rows-regs bits wide regs w) part full lost f l
+    new-long = long-by (flow regs w) (routeStart bits wide regs w) (rows-regs bits wide regs w) part full lost f l
 
     module _ (list : List ℕ) (total : ℕ) (q : total ≡ length (listsTo regs w tries (rowsOf bits m (suc (count w)) (part ++ drop ((count w + 1) * m) rows)) (count w))) where
       pub out-short : length list < total → Outcome bits w regs tries wide rows offsets list (part ++ drop ((count w + 1) * m) rows) offsets list (No (Short 3 total))
-      out-short = short-by (flow regs w) (firstOf bits wide regs w) (rows-regs bits wide regs w) part full lost f l list total q
+      out-short = short-by (flow regs w) (routeStart bits wide regs w) (rows-regs bits wide regs w) part full lost f l list total q
 
       pub out-told : total ≤ length list → (o l′ : List ℕ) → Filled regs w tries (rowsOf bits m (suc (count w)) (part ++ drop ((count w + 1) * m) rows)) offsets list o l′
           → Outcome bits w regs tries wide rows offsets list (part ++ drop ((count w + 1) * m) rows) o l′ (Is total full lost)
-      out-told = told-by (flow regs w) (firstOf bits wide regs w) (rows-regs bits wide regs w) part full lost f l list total q
+      out-told = told-by (flow regs w) (routeStart bits wide regs w) (rows-regs bits wide regs w) part full lost f l list total q
 
 -- the tests decide
 module _ (bits : ℕ) (w : List ℕ) (regs : ℕ) (tries rows offsets : List ℕ) (v : Checked) (e : v ≡ stagesOf bits w regs tries (length rows) (length offsets)) where
@@ -138,4 +138,4 @@ module _ (bits : ℕ) (w : List ℕ) (regs : ℕ) (tries rows offsets : List ℕ
   no-by r h f start list = refused (sym e ∙ h)
 
   pub go-no : (r : Refusal) → v ≡ stage.No r → (wide : Bool) (list : List ℕ) → Outcome bits w regs tries wide rows offsets list rows offsets list (No r)
-  go-no r h wide list = no-by r h (flow regs w) (firstOf bits wide regs w) list
+  go-no r h wide list = no-by r h (flow regs w) (routeStart bits wide regs w) list

@@ -13,7 +13,7 @@ use Rattle.flow.specs.Sweep.{tally, below, backs, startOf}
 use Rattle.flow.proofs.Answer.{start-le}
 use Rattle.steps.specs.Code.{afterAt, jumpsBack, flow}
 use Rattle.steps.proofs.Follows.{back-at}
-use Rattle.rows.specs.Route.{firstOf}
+use Rattle.rows.specs.Route.{routeStart}
 use Rattle.rows.proofs.Least.{rows-few}
 use Rattle.kept.specs.Answers.{Outcome}
 use Rattle.kept.specs.declared.KeptAnswer.the-variants.{Is}
@@ -69,13 +69,13 @@ module _ (regs : ℕ) (w : List ℕ) where
 module _ (bits : ℕ) (w : List ℕ) (regs : ℕ) (tries : List ℕ) (wide : Bool) (rows offsets list a b c : List ℕ) (t full lost : ℕ)
     (p : Outcome bits w regs tries wide rows offsets list a b c (Is t full lost)) where
   abbrev begin : ℕ
-  begin = startOf (flow regs w) (firstOf bits wide regs w)
+  begin = startOf (flow regs w) (routeStart bits wide regs w)
 
   said : Left bits w regs tries wide rows offsets list a b c t full lost
   said = left bits w regs tries wide rows offsets list p t full lost refl
 
   within : begin ≤ count w
-  within = omega (arith, inside bits wide regs w, start-le (flow regs w) (firstOf bits wide regs w))
+  within = omega (arith, inside bits wide regs w, start-le (flow regs w) (routeStart bits wide regs w))
 
   pub sweeps-few : (full ≤ jumpsBack w + 2) × (lost ≤ 1)
   sweeps-few = let few = rows-few bits wide regs w a full lost (said .scratch .found) in (omega (arith, few .0, backs-few regs w begin within), few .1)

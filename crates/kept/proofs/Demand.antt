@@ -19,7 +19,7 @@ use Rattle.flow.proofs.Demand.{none-spare}
 use Rattle.flow.proofs.Kept.{kept-once}
 use Rattle.steps.specs.Level.{isLevel, firstLevel}
 use Rattle.steps.specs.Code.{flow}
-use Rattle.rows.specs.Route.{firstOf, rowsIn, Rows}
+use Rattle.rows.specs.Route.{routeStart, rowsIn, Rows}
 use Rattle.rows.proofs.Sweeps.{level-le}
 use Rattle.kept.specs.Level.{resumeOf, resultOf, levelOf, keptAt}
 use Rattle.kept.specs.Lists.{listsTo, offsetsTo, over, partAt}
@@ -46,16 +46,16 @@ first-le f (suc m) k j lo hi e = go (f k) refl (λ l. first-le f m (suc k) j l (
 
 -- sweeps begin no later than any level
 module _ (bits : ℕ) (wide : Bool) (regs : ℕ) (w : List ℕ) where
-  pub inside : firstOf bits wide regs w ≤ count w
-  unfolding firstOf
+  pub inside : routeStart bits wide regs w ≤ count w
+  unfolding routeStart
   inside = go (wide || ltb bits regs)
     where
       go : (t : Bool) → cond t 0 (firstLevel w) ≤ count w
       go true = zero-le
       go false = level-le w
 
-  pub before : (k : ℕ) → k < count w → isLevel (insAt w k) ≡ true → firstOf bits wide regs w ≤ k
-  unfolding firstOf firstLevel
+  pub before : (k : ℕ) → k < count w → isLevel (insAt w k) ≡ true → routeStart bits wide regs w ≤ k
+  unfolding routeStart firstLevel
   before k l e = go (wide || ltb bits regs)
     where
       go : (t : Bool) → cond t 0 (firstLevel w) ≤ k
@@ -103,10 +103,10 @@ module _ (f : Flow) (start bits : ℕ) (w : List ℕ) (regs : ℕ) (tries rows o
 -- by document 01's
 module _ (bits : ℕ) (w : List ℕ) (regs : ℕ) (tries : List ℕ) (wide : Bool) (rows offsets list : List ℕ) where
   abbrev pub Left : (a b c : List ℕ) (t full abandoned : ℕ) → Type 0
-  Left a b c t full abandoned = LeftBy (flow regs w) (firstOf bits wide regs w) bits w regs tries rows offsets list a b c t full abandoned
+  Left a b c t full abandoned = LeftBy (flow regs w) (routeStart bits wide regs w) bits w regs tries rows offsets list a b c t full abandoned
 
   pub left : {a b c : List ℕ} {r : KeptAnswer} → Outcome bits w regs tries wide rows offsets list a b c r → (t f g : ℕ) → r ≡ Is t f g → Left a b c t f g
-  left out t f g e = left-by (flow regs w) (firstOf bits wide regs w) bits w regs tries rows offsets list out t f g e
+  left out t f g e = left-by (flow regs w) (routeStart bits wide regs w) bits w regs tries rows offsets list out t f g e
 
 module _ (bits : ℕ) (w : List ℕ) (regs : ℕ) (tries : List ℕ) (wide : Bool) (rows offsets list : List ℕ) (new o l : List ℕ) (total full abandoned : ℕ)
     (out : Outcome bits w regs tries wide rows offsets list new o l (Is total full abandoned)) (k : ℕ) (inCode : k < count w) where
@@ -114,18 +114,18 @@ module _ (bits : ℕ) (w : List ℕ) (regs : ℕ) (tries : List ℕ) (wide : Boo
   answer = left bits w regs tries wide rows offsets list out total full abandoned refl
 
   pub stands : partAt o l k ≡ keptAt regs w tries (rowsIn bits regs w new) k
-  stands = stands-by (flow regs w) (firstOf bits wide regs w) bits w regs tries rows offsets list new o l total full abandoned out k inCode
+  stands = stands-by (flow regs w) (routeStart bits wide regs w) bits w regs tries rows offsets list new o l total full abandoned out k inCode
 
   pub no-level : isLevel (insAt w k) ≡ false → partAt o l k ≡ []
-  no-level = empty-by (flow regs w) (firstOf bits wide regs w) bits w regs tries rows offsets list new o l total full abandoned out k inCode
+  no-level = empty-by (flow regs w) (routeStart bits wide regs w) bits w regs tries rows offsets list new o l total full abandoned out k inCode
 
   module _ (level : isLevel (insAt w k) ≡ true) where
     pub level-list : partAt o l k ≡ kept regs (row (rowsIn bits regs w new)) (levelOf regs w tries k)
-    level-list = list-by (flow regs w) (firstOf bits wide regs w) bits w regs tries rows offsets list new o l total full abandoned out k inCode level
+    level-list = list-by (flow regs w) (routeStart bits wide regs w) bits w regs tries rows offsets list new o l total full abandoned out k inCode level
 
     -- demand 3: what stands in the lent list is enough for the level, and no register of it is idle
     pub demand-3 : Keeps (flow regs w) (partAt o l k) (levelOf regs w tries k)
-    demand-3 = subst (λ (x : List ℕ). Keeps (flow regs w) x (levelOf regs w tries k)) (sym level-list) (level-keeps (flow regs w) (firstOf bits wide regs w) (inside bits wide regs w) (rowsIn bits regs w new) full abandoned (answer .scratch .found) k (resumeOf w k) (resultOf regs w k) tries
+    demand-3 = subst (λ (x : List ℕ). Keeps (flow regs w) x (levelOf regs w tries k)) (sym level-list) (level-keeps (flow regs w) (routeStart bits wide regs w) (inside bits wide regs w) (rowsIn bits regs w new) full abandoned (answer .scratch .found) k (resumeOf w k) (resultOf regs w k) tries
         (before bits wide regs w k inCode level) inCode (resume-in w k (answer .valid) inCode .0))
 
     -- drop any register from any kept list: two files agree on what is left and are told apart

@@ -23,7 +23,7 @@ use Rattle.flow.proofs.Buffer.{row-inside, rows-at}
 use Rattle.flow.proofs.Written.{listing-append}
 use Rattle.steps.specs.Code.{setOf}
 use Rattle.kept.specs.Level.{resumeOf, resultOf, levelOf, Goes}
-use Rattle.kept.specs.Lists.{Ready}
+use Rattle.kept.specs.Lists.{LevelsRoom}
 use Rattle.steps.proofs.Resume.{resume-in}
 use Rattle.lists.proofs.Less.{scaled}
 use Rattle.lists.proofs.Walks.{listed-le}
@@ -31,7 +31,7 @@ use Rattle.lists.proofs.Handlers.{union-count, kept-wide}
 
 -- ---- the resume row less the result register
 
-module _ (bits hand regs : ℕ) (w : List ℕ) (words : ℕ) (rows : List ℕ) (k at result : ℕ) (ready : Ready bits hand regs w words rows) (l : k < count w) (g : Goes w k at result) where
+module _ (bits hand regs : ℕ) (w : List ℕ) (words : ℕ) (rows : List ℕ) (k at result : ℕ) (ready : LevelsRoom bits hand regs w words rows) (l : k < count w) (g : Goes w k at result) where
   at-in : at ≤ count w
   at-in = omega (arith, g .resumes, resume-in w k (ready .valid) l .1)
 
@@ -54,7 +54,7 @@ pub ruleset mains = (main-fits, main-small, main-is)
 
 -- ---- a level
 
-module _ (bits hand regs : ℕ) (w tries rows : List ℕ) (words k : ℕ) (ready : Ready bits hand regs w words rows)
+module _ (bits hand regs : ℕ) (w tries rows : List ℕ) (words k : ℕ) (ready : LevelsRoom bits hand regs w words rows)
     (s : List ℕ) (h : Holds bits s (minus (row (rowsOf bits words (suc (count w)) rows) (resumeOf w k)) (resultOf regs w k))) where
   abbrev Q : ℕ → ℕ
   Q = row (rowsOf bits words (suc (count w)) rows)

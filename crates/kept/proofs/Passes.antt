@@ -19,7 +19,7 @@ use Rattle.flow.specs.Kept.{kept}
 use Rattle.flow.proofs.Written.{written-start, written-end}
 use Rattle.steps.specs.Level.{isLevel}
 use Rattle.kept.specs.Level.{levelOf, keptAt}
-use Rattle.kept.specs.Lists.{listsTo, offsetsTo, over, Ready, Filled}
+use Rattle.kept.specs.Lists.{listsTo, offsetsTo, over, LevelsRoom, Filled}
 use Rattle.kept.proofs.Over.{over-long, over-paste, over-set}
 
 -- ---- one position

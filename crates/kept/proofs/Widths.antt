@@ -19,7 +19,7 @@ use Rattle.flow.proofs.Answer.{found-agree, start-le}
 use Rattle.flow.proofs.Tries.{handlers-past}
 use Rattle.steps.specs.Level.{isLevel}
 use Rattle.steps.specs.Code.{flow}
-use Rattle.rows.specs.Route.{firstOf, rowsIn, Rows}
+use Rattle.rows.specs.Route.{routeStart, rowsIn, Rows}
 use Rattle.kept.specs.Level.{resumeOf, levelOf, keptAt}
 use Rattle.kept.specs.Lists.{listsTo, offsetsTo, over}
 use Rattle.kept.specs.Answers.{Outcome}
@@ -52,10 +52,10 @@ module _ (w : List ℕ) (regs : ℕ) (tries : List ℕ) (valid : Valid w) (bits 
 
   -- where each route begins
   abbrev here : ℕ
-  here = firstOf bits wide regs w
+  here = routeStart bits wide regs w
 
   abbrev there : ℕ
-  there = firstOf bits′ wide′ regs w
+  there = routeStart bits′ wide′ regs w
 
   -- at or past both starts the rows are the same
   rows-same : (j : ℕ) → here ≤ j → there ≤ j → row R j ≡ row S j

@@ -13,7 +13,7 @@ use Rattle.code.specs.declared.Refusal.the-variants.{Short}
 use Rattle.flow.specs.Flow.{Flow}
 use Rattle.flow.specs.Sweep.{Found}
 use Rattle.steps.specs.Code.{flow}
-use Rattle.rows.specs.Route.{wordsFor, firstOf, rowsIn}
+use Rattle.rows.specs.Route.{wordsFor, routeStart, rowsIn}
 use Rattle.kept.specs.Lists.{listsTo, offsetsTo, over}
 use Rattle.kept.specs.declared.KeptAnswer.{KeptAnswer}
 use Rattle.kept.specs.declared.KeptAnswer.the-variants.{Is, No}
@@ -34,7 +34,7 @@ pub record RowsLeft (f : Flow) (start bits regs : ℕ) (w old new : List ℕ) (f
 
 -- document 01's equations, from where its route begins
 abbrev pub Scratch : ℕ → Bool → ℕ → (w old new : List ℕ) (full abandoned : ℕ) → Type 0
-Scratch bits wide regs w old new full abandoned = RowsLeft (flow regs w) (firstOf bits wide regs w) bits regs w old new full abandoned
+Scratch bits wide regs w old new full abandoned = RowsLeft (flow regs w) (routeStart bits wide regs w) bits regs w old new full abandoned
 
 module _ (bits : ℕ) (w : List ℕ) (regs : ℕ) (tries : List ℕ) where
   -- the flat list, by the rows in the scratch
@@ -61,4 +61,4 @@ module _ (f : Flow) (start bits : ℕ) (w : List ℕ) (regs : ℕ) (tries rows o
 -- the kept-register call of document 01
 abbrev pub Outcome : ℕ → List ℕ → ℕ → List ℕ → Bool → (rows offsets list new o l : List ℕ) → KeptAnswer → Type 0
 Outcome bits w regs tries wide rows offsets list new o l r =
-    ListsLeft (flow regs w) (firstOf bits wide regs w) bits w regs tries rows offsets list new o l r
+    ListsLeft (flow regs w) (routeStart bits wide regs w) bits w regs tries rows offsets list new o l r

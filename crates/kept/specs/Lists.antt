@@ -39,7 +39,7 @@ pub record Width (bits hand : ℕ) : Type 0 where
   pub span : hand * bits ≡ 1024
 
 -- what a pass over the levels relies on, with words of so many bits and so many of them in hand: valid code, its rows in so many words each, and no register at or above the count
-pub record Ready (bits hand regs : ℕ) (w : List ℕ) (words : ℕ) (buf : List ℕ) : Type 0 where
+pub record LevelsRoom (bits hand regs : ℕ) (w : List ℕ) (words : ℕ) (buf : List ℕ) : Type 0 where
   pub width : Width bits hand
   pub valid : Valid w
   pub few : regs ≤ 1024

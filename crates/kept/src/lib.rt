@@ -9,7 +9,7 @@ ghost use Rattle.flow.specs.Listed.{Listing};
 ghost use Rattle.flow.specs.Words.{Holds};
 ghost use Rattle.flow.specs.Kept.{kept as keptOf};
 ghost use Rattle.kept.specs.Level.{resumeOf, resultOf, levelOf, keptAt};
-ghost use Rattle.kept.specs.Lists.{rowsBy, listsTo, Ready, Filled};
+ghost use Rattle.kept.specs.Lists.{rowsBy, listsTo, LevelsRoom, Filled};
 ghost use Rattle.kept.specs.Answers.{stagesOf, Outcome};
 use code::Checked;
 use code::Refusal;
@@ -41,7 +41,7 @@ pub fn kept(
 
 // The resume row of the level at k, less its result register.
 fn main_row(code: &[u16], regs: usize, rows: &[u64], words: usize, k: usize) -> [u64; 16]
-    requires { ⌜ Ready 64 16 regs (now code) words (now rows) × (k < count (now code)) ⌝ }
+    requires { ⌜ LevelsRoom 64 16 regs (now code) words (now rows) × (k < count (now code)) ⌝ }
     ensures { λ s. ⌜ Holds 64 s (minus (row (rowsBy 64 words (now (code .entry)) (now (rows .entry))) (resumeOf (now (code .entry)) k)) (resultOf regs (now (code .entry)) k)) ⌝ }
 {
     let a = steps::after(code, k);
@@ -58,7 +58,7 @@ fn count_level(
     words: usize,
     k: usize,
 ) -> usize
-    requires { ⌜ Ready 64 16 regs (now code) words (now rows) × (k < count (now code)) ⌝ }
+    requires { ⌜ LevelsRoom 64 16 regs (now code) words (now rows) × (k < count (now code)) ⌝ }
     ensures { λ r. ⌜ (r ≡ length (keptOf regs (row (rowsBy 64 words (now (code .entry)) (now (rows .entry)))) (levelOf regs (now (code .entry)) (now (tries .entry)) k))) × (r ≤ 1024) ⌝ }
 {
     let main = main_row(code, regs, rows, words, k);
@@ -77,7 +77,7 @@ fn keep_level(
     out: &mut [u16],
     m: usize,
 ) -> usize
-    requires { ⌜ Ready 64 16 regs (now code) words (now rows) × (k < count (now code)) × (m + length (keptOf regs (row (rowsBy 64 words (now code) (now rows))) (levelOf regs (now code) (now tries) k)) ≤ length (now out)) ⌝ }
+    requires { ⌜ LevelsRoom 64 16 regs (now code) words (now rows) × (k < count (now code)) × (m + length (keptOf regs (row (rowsBy 64 words (now code) (now rows))) (levelOf regs (now code) (now tries) k)) ≤ length (now out)) ⌝ }
     ensures { λ r. ⌜ Listing (keptOf regs (row (rowsBy 64 words (now (code .entry)) (now (rows .entry)))) (levelOf regs (now (code .entry)) (now (tries .entry)) k)) (now (out .entry)) m (now (out .exit)) r ⌝ }
 {
     let main = main_row(code, regs, rows, words, k);
@@ -87,7 +87,7 @@ fn keep_level(
 
 // How many registers are kept at k.
 fn count_at(code: &[u16], regs: usize, tries: &[u32], rows: &[u64], words: usize, k: usize) -> usize
-    requires { ⌜ Ready 64 16 regs (now code) words (now rows) × (k < count (now code)) ⌝ }
+    requires { ⌜ LevelsRoom 64 16 regs (now code) words (now rows) × (k < count (now code)) ⌝ }
     ensures { λ r. ⌜ (r ≡ length (keptAt regs (now (code .entry)) (now (tries .entry)) (rowsBy 64 words (now (code .entry)) (now (rows .entry))) k)) × (r ≤ 1024) ⌝ }
 {
     if steps::level_at(code::ins_at(code, k)) {
@@ -107,7 +107,7 @@ fn keep_at(
     out: &mut [u16],
     m: usize,
 ) -> usize
-    requires { ⌜ Ready 64 16 regs (now code) words (now rows) × (k < count (now code)) × (m + length (keptAt regs (now code) (now tries) (rowsBy 64 words (now code) (now rows)) k) ≤ length (now out)) ⌝ }
+    requires { ⌜ LevelsRoom 64 16 regs (now code) words (now rows) × (k < count (now code)) × (m + length (keptAt regs (now code) (now tries) (rowsBy 64 words (now code) (now rows)) k) ≤ length (now out)) ⌝ }
     ensures { λ r. ⌜ Listing (keptAt regs (now (code .entry)) (now (tries .entry)) (rowsBy 64 words (now (code .entry)) (now (rows .entry))) k) (now (out .entry)) m (now (out .exit)) r ⌝ }
 {
     if steps::level_at(code::ins_at(code, k)) {
@@ -118,7 +118,7 @@ fn keep_at(
 
 // The sum of the list lengths.
 pub fn count_all(code: &[u16], regs: usize, tries: &[u32], rows: &[u64], words: usize) -> usize
-    requires { ⌜ Ready 64 16 regs (now code) words (now rows) ⌝ }
+    requires { ⌜ LevelsRoom 64 16 regs (now code) words (now rows) ⌝ }
     ensures { λ r. ⌜ (r ≡ length (listsTo regs (now (code .entry)) (now (tries .entry)) (rowsBy 64 words (now (code .entry)) (now (rows .entry))) (count (now (code .entry))))) × (r ≤ 67107840) ⌝ }
 {
     let n = code.len() / 6;
@@ -141,7 +141,7 @@ pub fn each_call(
     offsets: &mut [u32],
     list: &mut [u16],
 )
-    requires { ⌜ Ready 64 16 regs (now code) words (now rows) × (count (now code) < length (now offsets)) × (length (listsTo regs (now code) (now tries) (rowsBy 64 words (now code) (now rows)) (count (now code))) ≤ length (now list)) × (length (listsTo regs (now code) (now tries) (rowsBy 64 words (now code) (now rows)) (count (now code))) ≤ 67107840) ⌝ }
+    requires { ⌜ LevelsRoom 64 16 regs (now code) words (now rows) × (count (now code) < length (now offsets)) × (length (listsTo regs (now code) (now tries) (rowsBy 64 words (now code) (now rows)) (count (now code))) ≤ length (now list)) × (length (listsTo regs (now code) (now tries) (rowsBy 64 words (now code) (now rows)) (count (now code))) ≤ 67107840) ⌝ }
     ensures { λ _. ⌜ Filled regs (now (code .entry)) (now (tries .entry)) (rowsBy 64 words (now (code .entry)) (now (rows .entry))) (now (offsets .entry)) (now (list .entry)) (now (offsets .exit)) (now (list .exit)) ⌝ }
 {
     let n = code.len() / 6;

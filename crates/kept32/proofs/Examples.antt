@@ -24,7 +24,7 @@ use Rattle.flow.proofs.Answer.{again-at, last-same, last-straight}
 use Rattle.steps.specs.Level.{isLevel, firstLevel}
 use Rattle.steps.specs.Code as code
 use Rattle.steps.specs.Code.{storeOf, overPending, pastStore, restores, idle, usedAt, givenAt, afterAt, jumpsBack}
-use Rattle.rows.specs.Route.{firstOf}
+use Rattle.rows.specs.Route.{routeStart}
 use Rattle.kept.specs.Level.{resumeOf, resultAt, keptAt}
 use Rattle.kept.specs.Lists.{listsTo, offsetsTo}
 use Rattle.kept.specs.Answers.{Outcome, stagesOf, told}
@@ -60,7 +60,7 @@ pub record Examples : Type 0 where
 
 pub examples : Examples
 unfolding set.minus flow.joined rowAt sweep below tally value rowsOf first page ruleOf kindsOf hasRole isJump cases caseOf usedBy givenBy isLevel firstLevel
-    storeOf overPending pastStore restores idle usedAt givenAt afterAt firstOf listed handlersOf added resumeOf resultAt keptAt listsTo offsetsTo
+    storeOf overPending pastStore restores idle usedAt givenAt afterAt routeStart listed handlersOf added resumeOf resultAt keptAt listsTo offsetsTo
     stagesOf checkOf rules firstBadTry tryKept every many
 examples = record {
   apart = (

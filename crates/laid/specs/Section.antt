@@ -49,12 +49,12 @@ fits i prev next s t k n yields =
     (stackWork (i .op) || yields && yieldFits i next))
 
 -- a call's result is stored right after it, past the ArgsR of a wide one
-abbrev pub stored : List ℕ → ℕ → ℕ
-stored w k = k + 1 + boolByte (wide (insAt w k))
+abbrev pub storeFollows : List ℕ → ℕ → ℕ
+storeFollows w k = k + 1 + boolByte (wide (insAt w k))
 
 -- the rule, kept at k
 unfoldable pub laidAt : List ℕ → Bool → ℕ → Bool
-laidAt w yields k = fits (insAt w k) (insAt w (k - 1)) (insAt w (k + 1)) (insAt w (stored w k)) (insAt w (insAt w k .a)) k (count w) yields
+laidAt w yields k = fits (insAt w k) (insAt w (k - 1)) (insAt w (k + 1)) (insAt w (storeFollows w k)) (insAt w (insAt w k .a)) k (count w) yields
 
 -- `laid`: every instruction keeps its rule; without yields, `pure`
 unfoldable pub laid : List ℕ → Bool → Bool

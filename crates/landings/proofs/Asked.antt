@@ -15,8 +15,8 @@ use Rattle.laws.specs.Some.{some}
 use Rattle.laws.proofs.Each.{each-at, each-word}
 use Rattle.laws.proofs.Some.{passes-at}
 use Rattle.laws.proofs.Branch.{and-true}
-use Rattle.lent.specs.Chunk.{count, operandAt, jumps, lands}
-use Rattle.landings.specs.Landings.{handlerAt, jumpsTo, handledAt, landingsAt, landingsOf, landsAny, handles, handlesAny, barred}
+use Rattle.lent.specs.Chunk.{chunkCount, operandAt, marksJump, lands}
+use Rattle.landings.specs.Landings.{handlerAt, jumpLands, handlerLands, landingsAt, landingsOf, landsAny, handles, handlesAny, barred}
 use Rattle.landings.specs.Latest.{latest, isLanding}
 
 -- ---- two tests that hold together are one
@@ -100,13 +100,13 @@ many-there f (suc n) k h e = go (ltb k n) refl (λ l. many-there f n k l e)
 
 -- ---- the table
 
-pub table-long : (w tries : List ℕ) → length (landingsOf w tries) ≡ count w + 1
+pub table-long : (w tries : List ℕ) → length (landingsOf w tries) ≡ chunkCount w + 1
 unfolding landingsOf
-table-long w tries = each-word (landingsAt w tries) (count w + 1)
+table-long w tries = each-word (landingsAt w tries) (chunkCount w + 1)
 
-pub table-at : (w tries : List ℕ) (t : ℕ) → t ≤ count w → getD (landingsOf w tries) t 0 ≡ landingsAt w tries t
+pub table-at : (w tries : List ℕ) (t : ℕ) → t ≤ chunkCount w → getD (landingsOf w tries) t 0 ≡ landingsAt w tries t
 unfolding landingsOf
-table-at w tries t h = each-at (landingsAt w tries) (count w + 1) t (omega arith)
+table-at w tries t h = each-at (landingsAt w tries) (chunkCount w + 1) t (omega arith)
 
 not-zero : (x : ℕ) → not (eqb x 0) ≡ true → x ≡ 0 → ⊥
 not-zero x e z = let q : not true ≡ true = rw (eq-eqb x 0 z) at e in absurd (false≢true q)
@@ -125,25 +125,25 @@ either : (a b : Bool) → a || b ≡ true → (a ≡ true) ⊎ (b ≡ true)
 either true b e = inl refl
 either false b e = inr e
 
-module _ (w tries : List ℕ) (p i : ℕ) (h : i ≤ count w) where
+module _ (w tries : List ℕ) (p i : ℕ) (h : i ≤ chunkCount w) where
   -- a count above 0 in (p, i] is a jump or a handler there
   found : (t : ℕ) → p < t → t ≤ i → (landingsAt w tries t ≡ 0 → ⊥) → landsAny w p i || handlesAny tries p i ≡ true
   unfolding landingsAt landsAny lands handlesAny handles
-  found t low high n = go (eqb (many (jumpsTo w t) (count w)) 0) refl
+  found t low high n = go (eqb (many (jumpLands w t) (chunkCount w)) 0) refl
     where
-      go : (b : Bool) → eqb (many (jumpsTo w t) (count w)) 0 ≡ b → landsAny w p i || handlesAny tries p i ≡ true
+      go : (b : Bool) → eqb (many (jumpLands w t) (chunkCount w)) 0 ≡ b → landsAny w p i || handlesAny tries p i ≡ true
       go true e =
-          let z = eqb-true (many (jumpsTo w t) (count w)) 0 e in
-          let s = many-where (handledAt tries t) (length tries / 2) (λ y. n (omega arith)) in
+          let z = eqb-true (many (jumpLands w t) (chunkCount w)) 0 e in
+          let s = many-where (handlerLands tries t) (length tries / 2) (λ y. n (omega arith)) in
           let q = eqb-true (handlerAt tries (s .place)) t (s .passes) in
           or-right (landsAny w p i) (handlesAny tries p i)
           (passes-at (handles tries p i) (s .place) (length tries / 2) (s .below) (rw (q, lt-ltb p t low, le-leb t i high) refl))
       go false e =
-          let s = many-where (jumpsTo w t) (count w) (eqb-false (many (jumpsTo w t) (count w)) 0 e) in
-          let a = and-true (jumps w (s .place)) (eqb (operandAt w (s .place)) t) (s .passes) in
+          let s = many-where (jumpLands w t) (chunkCount w) (eqb-false (many (jumpLands w t) (chunkCount w)) 0 e) in
+          let a = and-true (marksJump w (s .place)) (eqb (operandAt w (s .place)) t) (s .passes) in
           let q = eqb-true (operandAt w (s .place)) t (a .1) in
           or-left (landsAny w p i) (handlesAny tries p i)
-          (passes-at (lands w p i) (s .place) (count w) (s .below) (rw (a .0, q, lt-ltb p t low, le-leb t i high) refl))
+          (passes-at (lands w p i) (s .place) (chunkCount w) (s .below) (rw (a .0, q, lt-ltb p t low, le-leb t i high) refl))
 
   -- and the other way
   pub record Landing : Type 0 where
@@ -158,15 +158,15 @@ module _ (w tries : List ℕ) (p i : ℕ) (h : i ≤ count w) where
     where
       jump : landsAny w p i ≡ true → Landing
       jump e =
-          let s = somewhere-of (lands w p i) (count w) e in
+          let s = somewhere-of (lands w p i) (chunkCount w) e in
           let x = operandAt w (s .place) in
-          let a = and-true (jumps w (s .place)) (ltb p x && leb x i) (s .passes) in
+          let a = and-true (marksJump w (s .place)) (ltb p x && leb x i) (s .passes) in
           let b = and-true (ltb p x) (leb x i) (a .1) in
           record {
             place = x;
             low = ltb-true p x (b .0);
             high = leb-true x i (b .1);
-            counted = omega (arith, many-there (jumpsTo w x) (count w) (s .place) (s .below) (rw (a .0, eq-eqb x x refl) refl));
+            counted = omega (arith, many-there (jumpLands w x) (chunkCount w) (s .place) (s .below) (rw (a .0, eq-eqb x x refl) refl));
           }
 
       handler : handlesAny tries p i ≡ true → Landing
@@ -178,7 +178,7 @@ module _ (w tries : List ℕ) (p i : ℕ) (h : i ≤ count w) where
             place = x;
             low = ltb-true p x (b .0);
             high = leb-true x i (b .1);
-            counted = omega (arith, many-there (handledAt tries x) (length tries / 2) (s .place) (s .below) (eq-eqb x x refl));
+            counted = omega (arith, many-there (handlerLands tries x) (length tries / 2) (s .place) (s .below) (eq-eqb x x refl));
           }
 
   -- strict mode by the table is strict mode by the scan

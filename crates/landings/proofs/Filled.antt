@@ -15,13 +15,13 @@ use Rattle.laws.specs.Each.{each}
 use Rattle.laws.proofs.Many.{many-more, many-few}
 use Rattle.laws.proofs.Each.{each-word, each-at}
 use Rattle.laws.proofs.Table.{fill-on}
-use Rattle.lent.specs.Chunk.{count, operandAt, jumps}
+use Rattle.lent.specs.Chunk.{chunkCount, operandAt, marksJump}
 use Rattle.lent.proofs.Counting.{zeros-at}
-use Rattle.landings.specs.Landings.{handlerAt, jumpsTo, handledAt, landingsAt, landingsOf, bumped, Counts, Low, Zeros, Jumped, Handled}
+use Rattle.landings.specs.Landings.{handlerAt, jumpLands, handlerLands, landingsAt, landingsOf, bumped, Counts, FewAt, Zeros, Jumped, Handled}
 
 -- ---- all 0
 
-zeros-low : (l : List ℕ) (m : ℕ) → l ≡ replicate m 0 → Low l 0
+zeros-low : (l : List ℕ) (m : ℕ) → l ≡ replicate m 0 → FewAt l 0
 zeros-low l m e = record { each = λ t. rw e (omega (arith, zeros-at m t)) }
 
 pub record Zeroed (l₀ l : List ℕ) (i : ℕ) : Type 0 where
@@ -92,9 +92,9 @@ pub jumped-none : (w l : List ℕ) → Jumped w l l 0
 unfolding many
 jumped-none w l = record { counts = record { long = refl; each = λ t h. omega arith } }
 
-module _ (w l₀ l : List ℕ) (k : ℕ) (d : Jumped w l₀ l k) {b : Bool} (e : b ≡ jumps w k) where
+module _ (w l₀ l : List ℕ) (k : ℕ) (d : Jumped w l₀ l k) {b : Bool} (e : b ≡ marksJump w k) where
   pub jumped-skip : not b ≡ true → Jumped w l₀ l (k + 1)
-  jumped-skip n = record { counts = skipped (jumpsTo w) (λ t. getD l₀ t 0) l (length l₀) k (d .counts) (λ t. rw (sym e, no b n) refl) }
+  jumped-skip n = record { counts = skipped (jumpLands w) (λ t. getD l₀ t 0) l (length l₀) k (d .counts) (λ t. rw (sym e, no b n) refl) }
     where
       no : (b : Bool) → not b ≡ true → b ≡ false
       no true h = sym h
@@ -103,27 +103,27 @@ module _ (w l₀ l : List ℕ) (k : ℕ) (d : Jumped w l₀ l k) {b : Bool} (e :
   module _ {v x : ℕ} (ex : x ≡ operandAt w k) (ev : v ≡ x) where
     pub jumped-more : {l′ : List ℕ} → not b ≡ false → l′ ≡ bumped l v → Jumped w l₀ l′ (k + 1)
     jumped-more n q =
-        record { counts = rw (q, ev, ex) (counted (jumpsTo w) (λ t. getD l₀ t 0) l (length l₀) k (d .counts) (operandAt w k) (λ t. rw (sym e, yes b n) refl)) }
+        record { counts = rw (q, ev, ex) (counted (jumpLands w) (λ t. getD l₀ t 0) l (length l₀) k (d .counts) (operandAt w k) (λ t. rw (sym e, yes b n) refl)) }
       where
         yes : (b : Bool) → not b ≡ false → b ≡ true
         yes true h = refl
         yes false h = sym h
 
-pub jumped-all : (w l₀ l : List ℕ) (k n : ℕ) → Jumped w l₀ l k → n ≡ count w → n ≤ k → k ≤ n → Jumped w l₀ l (count w)
-jumped-all w l₀ l k n d e h b = let q : count w ≡ k = omega arith in rw q d
+pub jumped-all : (w l₀ l : List ℕ) (k n : ℕ) → Jumped w l₀ l k → n ≡ chunkCount w → n ≤ k → k ≤ n → Jumped w l₀ l (chunkCount w)
+jumped-all w l₀ l k n d e h b = let q : chunkCount w ≡ k = omega arith in rw q d
 
 -- a count is small where each part is
-counts-low : (l : List ℕ) (m : ℕ) (f : ℕ → ℕ) (b : ℕ) → Counts l m f → ((t : ℕ) → f t ≤ b) → Low l b
+counts-low : (l : List ℕ) (m : ℕ) (f : ℕ → ℕ) (b : ℕ) → Counts l m f → ((t : ℕ) → f t ≤ b) → FewAt l b
 counts-low l m f b c h = record { each = λ t. go t (ltb t (length l)) refl }
   where
     go : (t : ℕ) (s : Bool) → ltb t (length l) ≡ s → getD l t 0 ≤ b
     go t true e = omega (arith, c .each t (omega (arith, ltb-true t (length l) e, c .long)), h t)
     go t false e = omega (arith, List·getD-eq-default l 0 (ltb-false t (length l) e))
 
-pub jumped-low : (w l₀ l : List ℕ) (k : ℕ) → Low l₀ 0 → Jumped w l₀ l k → Low l k
-jumped-low w l₀ l k z d = counts-low l (length l₀) (λ t. getD l₀ t 0 + many (jumpsTo w t) k) k (d .counts) (λ t. omega (arith, z .each t, many-few (jumpsTo w t) k))
+pub jumped-low : (w l₀ l : List ℕ) (k : ℕ) → FewAt l₀ 0 → Jumped w l₀ l k → FewAt l k
+jumped-low w l₀ l k z d = counts-low l (length l₀) (λ t. getD l₀ t 0 + many (jumpLands w t) k) k (d .counts) (λ t. omega (arith, z .each t, many-few (jumpLands w t) k))
 
-pub jump-fits : (w l₀ l : List ℕ) (k n x : ℕ) → Low l₀ 0 → Jumped w l₀ l k → k < n → n ≡ count w → length w < 2 ^ 64 → getD l x 0 + 1 < 2 ^ 64
+pub jump-fits : (w l₀ l : List ℕ) (k n x : ℕ) → FewAt l₀ 0 → Jumped w l₀ l k → k < n → n ≡ chunkCount w → length w < 2 ^ 64 → getD l x 0 + 1 < 2 ^ 64
 jump-fits w l₀ l k n x z d h e f = omega (arith, jumped-low w l₀ l k z d .each x)
 
 -- ---- the handlers
@@ -134,12 +134,12 @@ handled-none tries l = record { counts = record { long = refl; each = λ t h. om
 
 module _ (tries l₀ l : List ℕ) (k : ℕ) (d : Handled tries l₀ l k) where
   pub handled-more : {v : ℕ} {l′ : List ℕ} → v ≡ handlerAt tries k → l′ ≡ bumped l v → Handled tries l₀ l′ (k + 1)
-  handled-more e q = record { counts = rw (q, e) (counted (handledAt tries) (λ t. getD l₀ t 0) l (length l₀) k (d .counts) (handlerAt tries k) (λ t. refl)) }
+  handled-more e q = record { counts = rw (q, e) (counted (handlerLands tries) (λ t. getD l₀ t 0) l (length l₀) k (d .counts) (handlerAt tries k) (λ t. refl)) }
 
-  pub handled-low : (b : ℕ) → Low l₀ b → Low l (b + k)
-  handled-low b z = counts-low l (length l₀) (λ t. getD l₀ t 0 + many (handledAt tries t) k) (b + k) (d .counts) (λ t. omega (arith, z .each t, many-few (handledAt tries t) k))
+  pub handled-low : (b : ℕ) → FewAt l₀ b → FewAt l (b + k)
+  handled-low b z = counts-low l (length l₀) (λ t. getD l₀ t 0 + many (handlerLands tries t) k) (b + k) (d .counts) (λ t. omega (arith, z .each t, many-few (handlerLands tries t) k))
 
-  pub handle-fits : (n x : ℕ) → Low l₀ 65535 → k < n → n ≡ length tries / 2 → length tries < 2 ^ 64 → getD l x 0 + 1 < 2 ^ 64
+  pub handle-fits : (n x : ℕ) → FewAt l₀ 65535 → k < n → n ≡ length tries / 2 → length tries < 2 ^ 64 → getD l x 0 + 1 < 2 ^ 64
   handle-fits n x z h e f = omega (arith, handled-low 65535 z .each x)
 
 pub handled-all : (tries l₀ l : List ℕ) (k n : ℕ) → Handled tries l₀ l k → n ≡ length tries / 2 → n ≤ k → k ≤ n → Handled tries l₀ l (length tries / 2)
@@ -147,23 +147,23 @@ handled-all tries l₀ l k n d e h b = let q : length tries / 2 ≡ k = omega ar
 
 -- ---- the table
 
-pub zeros-are : (l : List ℕ) (m : ℕ) → Zeros l m → Low l 0
+pub zeros-are : (l : List ℕ) (m : ℕ) → Zeros l m → FewAt l 0
 zeros-are l m z = z .low
 
-module _ (w l₁ l₂ : List ℕ) (m : ℕ) (z : Zeros l₁ m) (j : Jumped w l₁ l₂ (count w)) where
-  pub jumps-low : count w ≤ 65535 → Low l₂ 65535
-  jumps-low f = let d = jumped-low w l₁ l₂ (count w) (z .low) j in record { each = λ t. omega (arith, d .each t) }
+module _ (w l₁ l₂ : List ℕ) (m : ℕ) (z : Zeros l₁ m) (j : Jumped w l₁ l₂ (chunkCount w)) where
+  pub jumps-low : chunkCount w ≤ 65535 → FewAt l₂ 65535
+  jumps-low f = let d = jumped-low w l₁ l₂ (chunkCount w) (z .low) j in record { each = λ t. omega (arith, d .each t) }
 
   module _ (tries l₃ : List ℕ) (h : Handled tries l₂ l₃ (length tries / 2)) where
     long₃ : length l₃ ≡ m
     long₃ = h .counts .long ∙ j .counts .long ∙ z .long
 
-    pub filled : m ≡ count w + 1 → l₃ ≡ landingsOf w tries
+    pub filled : m ≡ chunkCount w + 1 → l₃ ≡ landingsOf w tries
     unfolding landingsOf landingsAt
     filled e =
-        ext-getD 0 l₃ (each (λ t. landingsAt w tries t ∷ []) (count w + 1)) (long₃ ∙ e ∙ sym (each-word (landingsAt w tries) (count w + 1)))
+        ext-getD 0 l₃ (each (λ t. landingsAt w tries t ∷ []) (chunkCount w + 1)) (long₃ ∙ e ∙ sym (each-word (landingsAt w tries) (chunkCount w + 1)))
         (λ t b.
-        let s : t < count w + 1 = omega (arith, long₃) in
+        let s : t < chunkCount w + 1 = omega (arith, long₃) in
         h .counts .each t (omega (arith, h .counts .long))
         ∙ omega (arith, j .counts .each t (omega (arith, j .counts .long, h .counts .long)), z .low .each t)
-        ∙ sym (each-at (landingsAt w tries) (count w + 1) t s))
+        ∙ sym (each-at (landingsAt w tries) (chunkCount w + 1) t s))

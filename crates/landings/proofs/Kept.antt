@@ -10,32 +10,32 @@ use mir.Val.{boolByte}
 use Rattle.laws.specs.All.{many}
 use Rattle.laws.specs.Each.{each}
 use Rattle.laws.proofs.Each.{each-ext}
-use Rattle.lent.specs.Chunk.{stride, count, operandAt, jumps}
+use Rattle.lent.specs.Chunk.{stride, chunkCount, operandAt, marksJump}
 use Rattle.lent.proofs.Counting.{many-ext}
-use Rattle.landings.specs.Landings.{jumpsTo, handledAt, landingsAt, landingsOf}
+use Rattle.landings.specs.Landings.{jumpLands, handlerLands, landingsAt, landingsOf}
 
 -- the same jumps, to the same places
 pub record SameJumps (w w′ : List ℕ) : Type 0 where
   pub long : length w′ ≡ length w
-  pub mark : (k : ℕ) → jumps w′ k ≡ jumps w k
-  pub goal : (k : ℕ) → jumps w k ≡ true → operandAt w′ k ≡ operandAt w k
+  pub mark : (k : ℕ) → marksJump w′ k ≡ marksJump w k
+  pub goal : (k : ℕ) → marksJump w k ≡ true → operandAt w′ k ≡ operandAt w k
 
 module _ (w w′ tries : List ℕ) (s : SameJumps w w′) where
-  to-same : (t k : ℕ) → jumpsTo w′ t k ≡ jumpsTo w t k
-  to-same t k = rw (s .mark k) (go (jumps w k) refl)
+  to-same : (t k : ℕ) → jumpLands w′ t k ≡ jumpLands w t k
+  to-same t k = rw (s .mark k) (go (marksJump w k) refl)
     where
-      go : (b : Bool) → jumps w k ≡ b → b && eqb (operandAt w′ k) t ≡ b && eqb (operandAt w k) t
+      go : (b : Bool) → marksJump w k ≡ b → b && eqb (operandAt w′ k) t ≡ b && eqb (operandAt w k) t
       go true e = rw (s .goal k e) refl
       go false e = refl
 
   at-same : (t : ℕ) → landingsAt w′ tries t ≡ landingsAt w tries t
   unfolding landingsAt
-  at-same t = rw (s .long, many-ext (jumpsTo w′ t) (jumpsTo w t) (count w) (λ k h. to-same t k)) refl
+  at-same t = rw (s .long, many-ext (jumpLands w′ t) (jumpLands w t) (chunkCount w) (λ k h. to-same t k)) refl
 
   pub landings-same : landingsOf w′ tries ≡ landingsOf w tries
   unfolding landingsOf
   landings-same =
-      each-ext (λ t. landingsAt w′ tries t ∷ []) (λ t. landingsAt w tries t ∷ []) (count w′ + 1) (λ t h. ap (λ (x : ℕ). x ∷ []) (at-same t))
+      each-ext (λ t. landingsAt w′ tries t ∷ []) (λ t. landingsAt w tries t ∷ []) (chunkCount w′ + 1) (λ t h. ap (λ (x : ℕ). x ∷ []) (at-same t))
       ∙ ap (λ (m : ℕ). each (λ t. landingsAt w tries t ∷ []) (m / stride + 1)) (s .long)
 
 pub same-refl : (w : List ℕ) → SameJumps w w

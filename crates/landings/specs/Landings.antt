@@ -9,28 +9,28 @@ use Rattle.laws.specs.All.{many}
 use Rattle.laws.specs.Some.{some}
 use Rattle.laws.specs.Each.{each}
 use Rattle.code.specs.Op.{LoadConst}
-use Rattle.lent.specs.Chunk.{count, opAt, operandAt, jumps, lands}
+use Rattle.lent.specs.Chunk.{chunkCount, opAt, operandAt, marksJump, lands}
 
 -- the tries are pairs (s, h): the handler of try j
 abbrev pub handlerAt : List ℕ → ℕ → ℕ
 handlerAt tries j = getD tries (2 * j + 1) 0
 
 -- instruction k is a jump to t
-abbrev pub jumpsTo : List ℕ → ℕ → ℕ → Bool
-jumpsTo w t k = jumps w k && eqb (operandAt w k) t
+abbrev pub jumpLands : List ℕ → ℕ → ℕ → Bool
+jumpLands w t k = marksJump w k && eqb (operandAt w k) t
 
 -- the handler of try j stands at t
-abbrev pub handledAt : List ℕ → ℕ → ℕ → Bool
-handledAt tries t j = eqb (handlerAt tries j) t
+abbrev pub handlerLands : List ℕ → ℕ → ℕ → Bool
+handlerLands tries t j = eqb (handlerAt tries j) t
 
 -- how many jumps and handlers land on t
 unfoldable pub landingsAt : List ℕ → List ℕ → ℕ → ℕ
-landingsAt w tries t = many (jumpsTo w t) (count w) + many (handledAt tries t) (length tries / 2)
+landingsAt w tries t = many (jumpLands w t) (chunkCount w) + many (handlerLands tries t) (length tries / 2)
 
 -- for each position 0 to n
 unfoldable pub landingsOf : List ℕ → List ℕ → List ℕ
 unfolding landingsAt
-landingsOf w tries = each (λ t. landingsAt w tries t ∷ []) (count w + 1)
+landingsOf w tries = each (λ t. landingsAt w tries t ∷ []) (chunkCount w + 1)
 
 -- one landing more on t; one beyond n is not counted
 unfoldable pub bumped : List ℕ → ℕ → List ℕ
@@ -42,26 +42,26 @@ pub record Counts (l : List ℕ) (m : ℕ) (f : ℕ → ℕ) : Type 0 where
   pub each : (t : ℕ) → t < m → getD l t 0 ≡ f t
 
 -- no count above b
-pub record Low (l : List ℕ) (b : ℕ) : Type 0 where
+pub record FewAt (l : List ℕ) (b : ℕ) : Type 0 where
   pub each : (t : ℕ) → getD l t 0 ≤ b
 
 -- m zeros
 pub record Zeros (l : List ℕ) (m : ℕ) : Type 0 where
   pub long : length l ≡ m
-  pub low : Low l 0
+  pub low : FewAt l 0
 
 -- the first k instructions counted, on top of l₀
 pub record Jumped (w l₀ l : List ℕ) (k : ℕ) : Type 0 where
-  pub counts : Counts l (length l₀) (λ t. getD l₀ t 0 + many (jumpsTo w t) k)
+  pub counts : Counts l (length l₀) (λ t. getD l₀ t 0 + many (jumpLands w t) k)
 
 -- the first k tries
 pub record Handled (tries l₀ l : List ℕ) (k : ℕ) : Type 0 where
-  pub counts : Counts l (length l₀) (λ t. getD l₀ t 0 + many (handledAt tries t) k)
+  pub counts : Counts l (length l₀) (λ t. getD l₀ t 0 + many (handlerLands tries t) k)
 
 -- any jump of the chunk lands there
 unfoldable pub landsAny : List ℕ → ℕ → ℕ → Bool
 unfolding lands
-landsAny w p i = some (lands w p i) (count w)
+landsAny w p i = some (lands w p i) (chunkCount w)
 
 -- a handler in (p, i]
 unfoldable pub handles : List ℕ → ℕ → ℕ → ℕ → Bool
@@ -79,4 +79,4 @@ barred strict w tries p i = strict && (landsAny w p i || handlesAny tries p i)
 
 -- no LoadConst has the jump mark: a record rule
 abbrev pub Unmarked : List ℕ → Type 0
-Unmarked w = (k : ℕ) → opAt w k ≡ LoadConst → jumps w k ≡ false
+Unmarked w = (k : ℕ) → opAt w k ≡ LoadConst → marksJump w k ≡ false

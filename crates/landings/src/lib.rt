@@ -3,8 +3,8 @@ ghost use mathlib.Core.Path.{_≡_};
 ghost use mathlib.Core.Bool.{cond};
 ghost use Prim.Native.Nat.{_+_, _*_, _/_, _^_, _<_, _≤_};
 ghost use lib.ListN.{length, getD};
-ghost use Rattle.lent.specs.Chunk.{count};
-ghost use Rattle.landings.specs.Landings.{landingsOf, bumped, Low, Zeros, Jumped, Handled};
+ghost use Rattle.lent.specs.Chunk.{chunkCount};
+ghost use Rattle.landings.specs.Landings.{landingsOf, bumped, FewAt, Zeros, Jumped, Handled};
 ghost use Rattle.landings.specs.Latest.{isLanding};
 use lent::STRIDE;
 
@@ -43,8 +43,8 @@ fn long(x: u32) -> usize
 
 // The jumps, on a table of zeros.
 fn count_jumps(code: &[u16], landings: &mut [u64])
-    requires { ⌜ Low (now landings) 0 ⌝ }
-    ensures { λ _. ⌜ Jumped (now (code .entry)) (now (landings .entry)) (now (landings .exit)) (count (now (code .entry))) ⌝ }
+    requires { ⌜ FewAt (now landings) 0 ⌝ }
+    ensures { λ _. ⌜ Jumped (now (code .entry)) (now (landings .entry)) (now (landings .exit)) (chunkCount (now (code .entry))) ⌝ }
 {
     let n = code.len() / STRIDE;
     let mut k: usize = 0;
@@ -60,7 +60,7 @@ fn count_jumps(code: &[u16], landings: &mut [u64])
 
 // The handlers, on top of them.
 fn count_handlers(tries: &[u32], landings: &mut [u64])
-    requires { ⌜ Low (now landings) 65535 ⌝ }
+    requires { ⌜ FewAt (now landings) 65535 ⌝ }
     ensures { λ _. ⌜ Handled (now (tries .entry)) (now (landings .entry)) (now (landings .exit)) (length (now (tries .entry)) / 2) ⌝ }
 {
     let n = tries.len() / 2;
@@ -73,7 +73,7 @@ fn count_handlers(tries: &[u32], landings: &mut [u64])
 
 // The table of landings, from a buffer that may hold anything.
 pub fn fill(code: &[u16], tries: &[u32], landings: &mut [u64])
-    requires { ⌜ (count (now code) ≤ 65535) × (length (now landings) ≡ count (now code) + 1) ⌝ }
+    requires { ⌜ (chunkCount (now code) ≤ 65535) × (length (now landings) ≡ chunkCount (now code) + 1) ⌝ }
     ensures { λ _. ⌜ now (landings .exit) ≡ landingsOf (now (code .entry)) (now (tries .entry)) ⌝ }
 {
     clear(landings);

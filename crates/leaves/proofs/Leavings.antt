@@ -9,7 +9,7 @@ use Rattle.area.specs.declared.Top.{Top}
 use Rattle.area.specs.declared.Top.the-variants.{Entry, Bare}
 use Rattle.area.proofs.Calls.{top-within}
 use Rattle.saver.specs.Saver.{saver, ends}
-use Rattle.leaves.specs.Leaving.{Back, returned, written, leftBy, leaveOf}
+use Rattle.leaves.specs.Leaving.{Back, returned, resultWritten, leftBy, leaveOf}
 use Rattle.saver.specs.declared.SaverAnswer.the-variants.{Used, Registers, Nothing}
 
 module _ (h a f : List ℕ) where
@@ -22,7 +22,7 @@ module _ (h a f : List ℕ) where
     unfolding leaveOf leftBy
     leave-bare x = rw (le-ltb 64 (getD h 0 0) few, ← e, x)
 
-    pub leave-done : (base len q : ℕ) → t ≡ Entry base len q → (g : List ℕ) → g ≡ written (getD h 0 0) q back (putBack (getD h 0 0) a base len f)
+    pub leave-done : (base len q : ℕ) → t ≡ Entry base len q → (g : List ℕ) → g ≡ resultWritten (getD h 0 0) q back (putBack (getD h 0 0) a base len f)
         → leaveOf (saver h a f) back ≡ ends (saver (set h 1 base) a g) (Used base)
     unfolding leaveOf leftBy
     leave-done base len q x g y = rw (le-ltb 64 (getD h 0 0) few, ← e, x, y)

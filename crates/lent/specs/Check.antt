@@ -13,23 +13,23 @@ use Rattle.code.specs.declared.Checked.the-variants.{Count, No}
 use Rattle.lent.specs.declared.Counts.{Counts}
 use Rattle.lent.specs.declared.Lens.{Lens}
 use Rattle.lent.specs.declared.Tally.{Tally}
-use Rattle.lent.specs.Chunk.{stride, count, opAt, isPhi, folds, breaksAt}
+use Rattle.lent.specs.Chunk.{stride, chunkCount, opAt, isPhi, folds, breaksAt}
 use Rattle.lent.specs.Tables.{constantsKept, mapKept, pairsKept, tableOf}
 
 -- 1: code length no multiple of its stride, or too many instructions
-abbrev pub uneven : List ℕ → Bool
-uneven w = not (eqb (length w % stride) 0) || ltb 65535 (count w)
+abbrev pub unevenChunk : List ℕ → Bool
+unevenChunk w = not (eqb (length w % stride) 0) || ltb 65535 (chunkCount w)
 
 -- the first instruction that breaks a record rule, else n
-abbrev pub firstBad : List ℕ → ℕ
-firstBad w = first (breaksAt w) 0 (count w)
+abbrev pub firstBadOf : List ℕ → ℕ
+firstBadOf w = first (breaksAt w) 0 (chunkCount w)
 
 -- 1, then 2: the first position that breaks a record rule
-unfoldable pub checkOf : List ℕ → Checked
-checkOf w =
-    cond (uneven w) (No (Length (length w)))
-    (cond (ltb (firstBad w) (count w)) (No (Record (firstBad w)))
-    (Count (count w)))
+unfoldable pub chunkCheckOf : List ℕ → Checked
+chunkCheckOf w =
+    cond (unevenChunk w) (No (Length (length w)))
+    (cond (ltb (firstBadOf w) (chunkCount w)) (No (Record (firstBadOf w)))
+    (Count (chunkCount w)))
 
 -- 7: the lowest table that breaks its rule
 unfoldable pub tablesOf : Checked → ℕ → List ℕ → List ℕ → Counts → Lens → Checked
@@ -46,7 +46,7 @@ tablesOf v n kinds words c l =
 
 -- the folding operators and the Phis in the chunk
 unfoldable pub tallyOf : List ℕ → Tally
-tallyOf w = record { folding = many (λ k. folds (opAt w k)) (count w); phis = many (isPhi w) (count w) }
+tallyOf w = record { folding = many (λ k. folds (opAt w k)) (chunkCount w); phis = many (isPhi w) (chunkCount w) }
 
 -- constant room max(count, min(65,535, count + folding operators in the chunk))
 abbrev pub constantRoom : ℕ → ℕ → ℕ
@@ -72,11 +72,11 @@ roomsOf v w c l =
     (roomOf
     (roomOf v 1 (l .kinds) (constantRoom (c .constants) (tallyOf w .folding)))
     2 (l .words) (constantRoom (c .constants) (tallyOf w .folding)))
-    3 (l .map) (count w))
+    3 (l .map) (chunkCount w))
     4 (l .sources) (sourceRoom (c .sources) (tallyOf w .phis)))
-    5 (l .dead) (count w))
-    6 (l .remap) (count w + 1)
+    5 (l .dead) (chunkCount w))
+    6 (l .remap) (chunkCount w + 1)
 
 -- 1, 2, 4, 7, 5: all tests of the folding call; the last short buffer is the table of landings
 unfoldable pub readyOf : List ℕ → List ℕ → List ℕ → List ℕ → Counts → Lens → ℕ → Checked
-readyOf w tries kinds words c l landings = roomOf (roomsOf (tablesOf (triedOf (checkOf w) tries) (count w) kinds words c l) w c l) 7 landings (count w + 1)
+readyOf w tries kinds words c l landings = roomOf (roomsOf (tablesOf (triedOf (chunkCheckOf w) tries) (chunkCount w) kinds words c l) w c l) 7 landings (chunkCount w + 1)

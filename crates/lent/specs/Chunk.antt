@@ -11,8 +11,8 @@ abbrev pub stride : ℕ
 stride = 4
 
 -- n, how many there are
-abbrev pub count : List ℕ → ℕ
-count w = length w / stride
+abbrev pub chunkCount : List ℕ → ℕ
+chunkCount w = length w / stride
 
 abbrev pub opAt : List ℕ → ℕ → ℕ
 opAt w k = getD w (stride * k) 0
@@ -28,12 +28,12 @@ abbrev pub originAt : List ℕ → ℕ → ℕ
 originAt w k = getD w (stride * k + 3) 0
 
 -- mark bit 0, `is_jump`
-abbrev pub jumps : List ℕ → ℕ → Bool
-jumps w k = eqb (markAt w k % 2) 1
+abbrev pub marksJump : List ℕ → ℕ → Bool
+marksJump w k = eqb (markAt w k % 2) 1
 
 -- a jump at k into (p, i]
 unfoldable pub lands : List ℕ → ℕ → ℕ → ℕ → Bool
-lands w p i k = jumps w k && (ltb p (operandAt w k) && leb (operandAt w k) i)
+lands w p i k = marksJump w k && (ltb p (operandAt w k) && leb (operandAt w k) i)
 
 -- mark bit 1, 'names a constant'
 abbrev pub names : List ℕ → ℕ → Bool
@@ -64,8 +64,8 @@ abbrev pub namesKept : ℕ → Bool → Bool → Bool
 namesKept o jump named = (not (eqb o LoadConst) || named) && (not named || not (jump || eqb o Phi || folds o))
 
 -- opcode known, marks only bits 0 and 1, and each of the two marks as above
-unfoldable pub rules : ℕ → ℕ → Bool
-rules o marks = leb o last && leb marks 3 && jumpKept o (eqb (marks % 2) 1) && namesKept o (eqb (marks % 2) 1) (eqb (marks / 2 % 2) 1)
+unfoldable pub chunkRules : ℕ → ℕ → Bool
+chunkRules o marks = leb o last && leb marks 3 && jumpKept o (eqb (marks % 2) 1) && namesKept o (eqb (marks % 2) 1) (eqb (marks / 2 % 2) 1)
 
 abbrev pub breaksAt : List ℕ → ℕ → Bool
-breaksAt w k = not (rules (opAt w k) (markAt w k))
+breaksAt w k = not (chunkRules (opAt w k) (markAt w k))

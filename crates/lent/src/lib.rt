@@ -5,9 +5,9 @@ ghost use Prim.Native.Nat.{_^_, _<_, _≤_};
 ghost use lib.ListN.{length};
 ghost use mir.Val.{boolByte};
 ghost use Rattle.laws.specs.All.{every};
-ghost use Rattle.lent.specs.Chunk.{count, opAt, markAt, operandAt, originAt, jumps, names, folds, rules};
+ghost use Rattle.lent.specs.Chunk.{chunkCount, opAt, markAt, operandAt, originAt, marksJump, names, folds, chunkRules};
 ghost use Rattle.lent.specs.Tables.{constantKept, constantsKept, mapKept, pairsKept, tableOf};
-ghost use Rattle.lent.specs.Check.{firstBad, checkOf, tablesOf, tallyOf, constantRoom, sourceRoom, ample, roomsOf, readyOf};
+ghost use Rattle.lent.specs.Check.{firstBadOf, chunkCheckOf, tablesOf, tallyOf, constantRoom, sourceRoom, ample, roomsOf, readyOf};
 use code::Checked;
 use code::Refusal;
 use code::op::*;
@@ -44,7 +44,7 @@ pub const STRIDE: usize = 4;
 
 // The opcode of instruction k.
 pub fn op_at(code: &[u16], k: usize) -> u16
-    requires { ⌜ k < count (now code) ⌝ }
+    requires { ⌜ k < chunkCount (now code) ⌝ }
     ensures { λ r. ⌜ r ≡ opAt (now (code .entry)) k ⌝ }
 {
     code[STRIDE * k]
@@ -52,7 +52,7 @@ pub fn op_at(code: &[u16], k: usize) -> u16
 
 // The marks of instruction k.
 pub fn mark_at(code: &[u16], k: usize) -> u16
-    requires { ⌜ k < count (now code) ⌝ }
+    requires { ⌜ k < chunkCount (now code) ⌝ }
     ensures { λ r. ⌜ r ≡ markAt (now (code .entry)) k ⌝ }
 {
     code[STRIDE * k + 1]
@@ -60,7 +60,7 @@ pub fn mark_at(code: &[u16], k: usize) -> u16
 
 // The operand of instruction k.
 pub fn operand_at(code: &[u16], k: usize) -> u16
-    requires { ⌜ k < count (now code) ⌝ }
+    requires { ⌜ k < chunkCount (now code) ⌝ }
     ensures { λ r. ⌜ r ≡ operandAt (now (code .entry)) k ⌝ }
 {
     code[STRIDE * k + 2]
@@ -68,7 +68,7 @@ pub fn operand_at(code: &[u16], k: usize) -> u16
 
 // The origin of instruction k.
 pub fn origin_at(code: &[u16], k: usize) -> u16
-    requires { ⌜ k < count (now code) ⌝ }
+    requires { ⌜ k < chunkCount (now code) ⌝ }
     ensures { λ r. ⌜ r ≡ originAt (now (code .entry)) k ⌝ }
 {
     code[STRIDE * k + 3]
@@ -76,15 +76,15 @@ pub fn origin_at(code: &[u16], k: usize) -> u16
 
 // Whether instruction k has the jump mark.
 pub fn is_jump(code: &[u16], k: usize) -> bool
-    requires { ⌜ k < count (now code) ⌝ }
-    ensures { λ r. ⌜ r ≡ jumps (now (code .entry)) k ⌝ }
+    requires { ⌜ k < chunkCount (now code) ⌝ }
+    ensures { λ r. ⌜ r ≡ marksJump (now (code .entry)) k ⌝ }
 {
     mark_at(code, k) % 2 == 1
 }
 
 // Whether instruction k names a constant.
 pub fn names_constant(code: &[u16], k: usize) -> bool
-    requires { ⌜ k < count (now code) ⌝ }
+    requires { ⌜ k < chunkCount (now code) ⌝ }
     ensures { λ r. ⌜ r ≡ names (now (code .entry)) k ⌝ }
 {
     mark_at(code, k) / 2 % 2 == 1
@@ -117,7 +117,7 @@ pub fn is_folding(o: u16) -> bool
 
 // Whether an instruction breaks a record rule: LoadConst has the mark 2, a Phi or a folding operator none, any other no two marks.
 fn breaks(o: u16, marks: u16) -> bool
-    ensures { λ r. ⌜ r ≡ not (rules o marks) ⌝ }
+    ensures { λ r. ⌜ r ≡ not (chunkRules o marks) ⌝ }
 {
     if o == LoadConst {
         return marks != 2;
@@ -132,7 +132,7 @@ fn breaks(o: u16, marks: u16) -> bool
 
 // The first instruction that breaks a record rule, else how many there are.
 fn first_bad(code: &[u16]) -> usize
-    ensures { λ r. ⌜ r ≡ firstBad (now (code .entry)) ⌝ }
+    ensures { λ r. ⌜ r ≡ firstBadOf (now (code .entry)) ⌝ }
 {
     let n = code.len() / STRIDE;
     let mut k = 0;
@@ -147,7 +147,7 @@ fn first_bad(code: &[u16]) -> usize
 
 // Refusals 1 and 2.
 pub fn check(code: &[u16]) -> Checked
-    ensures { λ r. ⌜ r ≡ checkOf (now (code .entry)) ⌝ }
+    ensures { λ r. ⌜ r ≡ chunkCheckOf (now (code .entry)) ⌝ }
 {
     let len = code.len();
     let n = len / STRIDE;

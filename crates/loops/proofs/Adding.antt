@@ -14,12 +14,12 @@ use Rattle.laws.proofs.Byte.{byte-small}
 use Rattle.laws.specs.All.{many}
 use Rattle.laws.specs.Table.{filledTo, clearedTo, Held}
 use Rattle.laws.proofs.Table.{filled-by, cleared-at, cleared-tail, cleared-length}
-use Rattle.loops.specs.Loops.{endOf, around, depth, Added, Low, Space, Zeroed, Counted}
+use Rattle.loops.specs.Loops.{endOf, around, depth, Added, CanGrow, Space, Zeroed, Counted}
 
 pub record Adding (m a b : ℕ) (out₀ out : List ℕ) (p : ℕ) : Type 0 where
   pub from : a ≤ p
   pub high : a < p → p ≤ b
-  pub low : Low m a b out₀
+  pub low : CanGrow m a b out₀
   pub added : Added m a p out₀ out
 
 -- where the counts end
@@ -42,7 +42,7 @@ other-cases : (p q : ℕ) (y : Bool) → ltb q p ≡ y → (q ≡ p → ⊥) →
 other-cases p q true e n = lt-ltb q (p + 1) (omega (arith, ltb-true q p e))
 other-cases p q false e n = le-ltb q (p + 1) (omega (arith, ltb-false q p e))
 
-pub begins : (m a b : ℕ) (out : List ℕ) → Low m a b out → Adding m a b out out a
+pub begins : (m a b : ℕ) (out : List ℕ) → CanGrow m a b out → Adding m a b out out a
 begins m a b out l =
     record {
       from = omega arith;
@@ -117,7 +117,7 @@ starts w out z = record { below = omega arith; zeroed = z; each = λ p h. z .zer
 
 module _ (w out₀ out : List ℕ) (g : ℕ) (s : Counting w out₀ out g) where
 
-  pub low-at : (a e : ℕ) → e ≤ length w / 6 → Low (length w / 6 + 1) a e out
+  pub low-at : (a e : ℕ) → e ≤ length w / 6 → CanGrow (length w / 6 + 1) a e out
   low-at a e h =
       record {
         inside = omega arith;

@@ -43,7 +43,7 @@ pub record Added (m a b : ℕ) (out out′ : List ℕ) : Type 0 where
   pub held : Held m out out′
 
 -- entries that can grow
-pub record Low (m a b : ℕ) (out : List ℕ) : Type 0 where
+pub record CanGrow (m a b : ℕ) (out : List ℕ) : Type 0 where
   pub inside : b ≤ m
   pub fits : m ≤ length out
   pub small : (p : ℕ) → p < m → getD out p 0 ≤ 65535

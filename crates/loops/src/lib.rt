@@ -5,7 +5,7 @@ ghost use lib.ListN.{length};
 ghost use Rattle.laws.specs.Table.{filledTo};
 ghost use Rattle.code.specs.Check.{Whole};
 ghost use Rattle.loops.specs.Answers.{LoopsAround};
-ghost use Rattle.loops.specs.Loops.{nextStep, leavesAt, endOf, depth, Added, Low, Space, Zeroed, Counted};
+ghost use Rattle.loops.specs.Loops.{nextStep, leavesAt, endOf, depth, Added, CanGrow, Space, Zeroed, Counted};
 use code::Answer;
 use code::Checked;
 use code::op::*;
@@ -67,7 +67,7 @@ fn end_of(code: &[u16], g: usize) -> usize
 
 // One more from a on, below b.
 fn add_over(out: &mut [u32], a: usize, b: usize, m: usize)
-    requires { ⌜ Low m a b (now out) ⌝ }
+    requires { ⌜ CanGrow m a b (now out) ⌝ }
     ensures { λ _. ⌜ Added m a b (now (out .entry)) (now (out .exit)) ⌝ }
 {
     let mut p = a;

@@ -1,4 +1,4 @@
--- Laws of `Marks`, for the loop that marks what each instruction names. Assumes nothing.
+-- Laws of `NamedMarks`, for the loop that marks what each instruction names. Assumes nothing.
 use Prim.Native.Nat.{ℕ, _+_, _≤_, _<_}
 use native.Mathlib.Omega.{arith}
 use mathlib.Core.Path.{_≡_, refl, sym, ap, _∙_}
@@ -13,9 +13,9 @@ use Rattle.laws.specs.Some.{some}
 use Rattle.laws.specs.Table.{Held, clearedTo}
 use Rattle.laws.proofs.Some.{nowhere-yet, some-more}
 use Rattle.laws.proofs.Table.{cleared-tail, cleared-length, cleared-at}
-use Rattle.lent.specs.Chunk.{count, operandAt, names}
-use Rattle.named.specs.Unused.{namesIt, named}
-use Rattle.named.specs.Marks.{noted, Marks}
+use Rattle.lent.specs.Chunk.{chunkCount, operandAt, names}
+use Rattle.named.specs.Unused.{namesIt, constantNamed}
+use Rattle.named.specs.Marks.{noted, NamedMarks}
 
 module _ (w : List ℕ) (m k : ℕ) (s : List ℕ) where
   noted-on : names w k ≡ true → ltb (operandAt w k) m ≡ true → noted w m k s ≡ set s (operandAt w k) 1
@@ -111,10 +111,10 @@ module _ {w : List ℕ} {m : ℕ} {old s : List ℕ} {k : ℕ} (x : Marking w m 
   marking-same = x .held .same
 
   -- from what was there before it was cleared
-  pub marking-done : (lent : List ℕ) → old ≡ clearedTo m lent → m ≤ length lent → count w ≤ k → k ≤ count w → Marks w m lent s
-  unfolding named
+  pub marking-done : (lent : List ℕ) → old ≡ clearedTo m lent → m ≤ length lent → chunkCount w ≤ k → k ≤ chunkCount w → NamedMarks w m lent s
+  unfolding constantNamed
   marking-done lent z b h l =
-      let e : k ≡ count w = omega arith in
+      let e : k ≡ chunkCount w = omega arith in
       record {
         held = record { same = x .held .same ∙ ap length z ∙ cleared-length m lent b; tail = x .held .tail ∙ ap (drop m) z ∙ cleared-tail m lent };
         at = λ i q. rw e at (x .at i q);

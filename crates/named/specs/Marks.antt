@@ -8,22 +8,22 @@ use lib.ListN.{length, getD, set}
 use mir.Val.{boolByte}
 use Rattle.laws.specs.Table.{Held}
 use Rattle.lent.specs.Chunk.{operandAt, names}
-use Rattle.named.specs.Unused.{named}
+use Rattle.named.specs.Unused.{constantNamed}
 
 -- scratch with a mark for the constant that instruction k names
 unfoldable pub noted : List ℕ → ℕ → ℕ → List ℕ → List ℕ
 noted w m k s = cond (names w k && ltb (operandAt w k) m) (set s (operandAt w k) 1) s
 
 -- 1 for each named constant, 0 for the others
-pub record Marks (w : List ℕ) (m : ℕ) (old s : List ℕ) : Type 0 where
+pub record NamedMarks (w : List ℕ) (m : ℕ) (old s : List ℕ) : Type 0 where
   pub held : Held m old s
-  pub at : (i : ℕ) → i < m → getD s i 0 ≡ boolByte (named w i)
+  pub at : (i : ℕ) → i < m → getD s i 0 ≡ boolByte (constantNamed w i)
 
-abbrev pub marked : List ℕ → ℕ → Bool
-marked s i = not (eqb (getD s i 0) 0)
+abbrev pub markedIn : List ℕ → ℕ → Bool
+markedIn s i = not (eqb (getD s i 0) 0)
 
 -- no number is above its place
-pub record Low (m : ℕ) (s : List ℕ) : Type 0 where
+pub record LowNumbers (m : ℕ) (s : List ℕ) : Type 0 where
   pub there : m ≤ length s
   pub few : m ≤ 65536
   pub at : (i : ℕ) → i < m → getD s i 0 ≤ i

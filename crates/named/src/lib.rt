@@ -3,9 +3,9 @@ ghost use mathlib.Core.Path.{_≡_};
 ghost use Prim.Native.Nat.{_*_, _≤_, _<_};
 ghost use lib.ListN.{length};
 ghost use Rattle.laws.specs.Table.{clearedTo};
-ghost use Rattle.lent.specs.Chunk.{stride, count};
-ghost use Rattle.named.specs.Unused.{operandOf, recoded};
-ghost use Rattle.named.specs.Marks.{noted, Marks, Low, numberIn};
+ghost use Rattle.lent.specs.Chunk.{stride, chunkCount};
+ghost use Rattle.named.specs.Unused.{renamedOperand, recoded};
+ghost use Rattle.named.specs.Marks.{noted, NamedMarks, LowNumbers, numberIn};
 use lent::STRIDE;
 
 fn wide(x: u16) -> usize
@@ -28,7 +28,7 @@ fn zero(scratch: &mut [u32], m: usize)
 
 // Marks the constant that instruction k names.
 fn note(code: &[u16], scratch: &mut [u32], m: usize, k: usize)
-    requires { ⌜ (k < count (now code)) × (m ≤ length (now scratch)) ⌝ }
+    requires { ⌜ (k < chunkCount (now code)) × (m ≤ length (now scratch)) ⌝ }
     ensures { λ _. ⌜ now (scratch .exit) ≡ noted (now (code .entry)) m k (now (scratch .entry)) ⌝ }
 {
     let v = wide(lent::operand_at(code, k));
@@ -44,7 +44,7 @@ fn note(code: &[u16], scratch: &mut [u32], m: usize, k: usize)
 // Marks the named constants.
 pub fn mark_named(code: &[u16], scratch: &mut [u32], m: usize)
     requires { ⌜ m ≤ length (now scratch) ⌝ }
-    ensures { λ _. ⌜ Marks (now (code .entry)) m (now (scratch .entry)) (now (scratch .exit)) ⌝ }
+    ensures { λ _. ⌜ NamedMarks (now (code .entry)) m (now (scratch .entry)) (now (scratch .exit)) ⌝ }
 {
     zero(scratch, m);
     let n = code.len() / STRIDE;
@@ -57,8 +57,8 @@ pub fn mark_named(code: &[u16], scratch: &mut [u32], m: usize)
 
 // The operand of instruction k by the numbers in scratch.
 fn operand_of(code: &[u16], scratch: &[u32], m: usize, k: usize) -> u16
-    requires { ⌜ (k < count (now code)) × Low m (now scratch) ⌝ }
-    ensures { λ r. ⌜ r ≡ operandOf (numberIn (now (scratch .entry))) m (now (code .entry)) k ⌝ }
+    requires { ⌜ (k < chunkCount (now code)) × LowNumbers m (now scratch) ⌝ }
+    ensures { λ r. ⌜ r ≡ renamedOperand (numberIn (now (scratch .entry))) m (now (code .entry)) k ⌝ }
 {
     let v = lent::operand_at(code, k);
     let at = wide(v);
@@ -73,7 +73,7 @@ fn operand_of(code: &[u16], scratch: &[u32], m: usize, k: usize) -> u16
 
 // Renumbers the operands that name a constant.
 pub fn renumber(code: &mut [u16], scratch: &[u32], m: usize)
-    requires { ⌜ (length (now code) ≡ stride * count (now code)) × Low m (now scratch) ⌝ }
+    requires { ⌜ (length (now code) ≡ stride * chunkCount (now code)) × LowNumbers m (now scratch) ⌝ }
     ensures { λ _. ⌜ now (code .exit) ≡ recoded (numberIn (now (scratch .entry))) m (now (code .entry)) ⌝ }
 {
     let n = code.len() / STRIDE;

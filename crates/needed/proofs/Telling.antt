@@ -18,9 +18,9 @@ use Rattle.code.proofs.Checks.{counted, checked}
 use Rattle.code.proofs.Stages.{regs-before, room-before, room-there}
 use Rattle.steps.specs.Code.{flow}
 use Rattle.needed.specs.Path.{Needs}
-use Rattle.paths.specs.Search.{Says, Searched, Settles}
+use Rattle.paths.specs.Search.{Says, Searched, SearchSettles}
 use Rattle.paths.proofs.Between.{settles}
-use Rattle.seek.specs.Asked.{Asked, Room}
+use Rattle.seek.specs.Asked.{Asked, AskedRoom}
 use Rattle.needed.specs.Answers.{uptoOf}
 use Rattle.needed.proofs.Answer.{asked-needs, needs-asked, never-past}
 
@@ -75,7 +75,7 @@ module _ (w seen todo : List ℕ) (regs k : ℕ) (c g p u v : Checked) (ec : c �
     code-on : checkOf w ≡ Count n
     code-on = sym ec ∙ regs-before n c regs (sym (passes g k n (sym place-on ∙ ep) .0) ∙ eg)
 
-    pub place-room : Room w seen todo
+    pub place-room : AskedRoom w seen todo
     place-room = record {
       valid = checked w n (sym code-on);
       marks = room-there n p 1 (length seen) (length w / 6 + 1) (sym marks-on ∙ eu);
@@ -87,8 +87,8 @@ module _ (w seen todo : List ℕ) (regs k : ℕ) (c g p u v : Checked) (ec : c �
 
 -- ---- the search between two clearings
 
-module _ (w seen seen₁ todo : List ℕ) (room : Room w seen todo) (c : seen₁ ≡ clearedTo (length w / 6 + 1) seen) where
-  pub ready : Room w seen₁ todo
+module _ (w seen seen₁ todo : List ℕ) (room : AskedRoom w seen todo) (c : seen₁ ≡ clearedTo (length w / 6 + 1) seen) where
+  pub ready : AskedRoom w seen₁ todo
   ready = record { valid = room .valid; marks = rw (c, cleared-length (length w / 6 + 1) seen (room .marks)) (room .marks); waiting = room .waiting }
 
 -- what was asked, and whether there is such a register
@@ -106,6 +106,6 @@ pub done : (w seen seen₁ seen₂ seen₃ todo todo₁ todo₂ : List ℕ) (reg
     → Searched (Asked w r k) (length w / 6) seen₁ todo b seen₂ todo₁
     → seen₃ ≡ clearedTo (length w / 6 + 1) seen₂
     → todo₂ ≡ clearedTo (length w / 6 + 1) todo₁
-    → Settles (Needs (flow regs w) r k) (length w / 6 + 1) seen todo (b && ltb r regs) seen₃ todo₂
+    → SearchSettles (Needs (flow regs w) r k) (length w / 6 + 1) seen todo (b && ltb r regs) seen₃ todo₂
 done w seen seen₁ seen₂ seen₃ todo todo₁ todo₂ regs k r b c s d e =
     settles (Asked w r k) (Needs (flow regs w) r k) (length w / 6) seen seen₁ seen₂ seen₃ todo todo₁ todo₂ b (b && ltb r regs) c s d e (both w regs r k b)

@@ -5,8 +5,8 @@ ghost use lib.ListN.{length};
 ghost use Rattle.steps.specs.Code.{flow};
 ghost use Rattle.needed.specs.Path.{Needs};
 ghost use Rattle.needed.specs.Answers.{uptoOf, NeededTold};
-ghost use Rattle.paths.specs.Search.{Settles};
-ghost use Rattle.seek.specs.Asked.{Room};
+ghost use Rattle.paths.specs.Search.{SearchSettles};
+ghost use Rattle.seek.specs.Asked.{AskedRoom};
 use code::Answer;
 use code::Checked;
 use code::Refusal;
@@ -47,8 +47,8 @@ fn up_to(v: Checked, at: usize) -> Checked
 
 // The same in accepted code.
 fn asks(code: &[u16], regs: usize, k: usize, r: u16, seen: &mut [u8], todo: &mut [u32]) -> bool
-    requires { ⌜ Room (now code) (now seen) (now todo) × (k ≤ length (now code) / 6) ⌝ }
-    ensures { λ b. ⌜ Settles (Needs (flow regs (now (code .entry))) r k) (length (now (code .entry)) / 6 + 1) (now (seen .entry)) (now (todo .entry)) b (now (seen .exit)) (now (todo .exit)) ⌝ }
+    requires { ⌜ AskedRoom (now code) (now seen) (now todo) × (k ≤ length (now code) / 6) ⌝ }
+    ensures { λ b. ⌜ SearchSettles (Needs (flow regs (now (code .entry))) r k) (length (now (code .entry)) / 6 + 1) (now (seen .entry)) (now (todo .entry)) b (now (seen .exit)) (now (todo .exit)) ⌝ }
 {
     let roles = roles::table();
     let words = code.len() / 6 + 1;

@@ -13,7 +13,7 @@ use lib.Seq.{getD-set-same}
 use Rattle.laws.specs.Page.{among}
 use Rattle.flow.specs.Set.{bit}
 use Rattle.flow.specs.Run.{run, wrote, valuesOf, fileAfter, chosen}
-use Rattle.flow.specs.Demand.{Tells, Entry}
+use Rattle.flow.specs.Demand.{TellsApart, Entry}
 use Rattle.flow.proofs.Bits.{bit-zero, pow-here, pow-other}
 use Rattle.flow.proofs.Rows.{In}
 use Rattle.flow.proofs.Steps.{wrote-kept, wrote-new, pick-of}
@@ -131,7 +131,7 @@ module _ (c : Frame) (plain : ℕ → List ℕ) (k r : ℕ) (hi : k < c .flow .s
 
   -- a run that goes on at s after the event, with files that differ at r
   telling : (e : Event) (s : ℕ) (choices : List ℕ) → nextAt c one e k ≡ s → nextAt c undisturbed e k ≡ s
-      → getD (fileAt c one e k zeros) r 0 ≢ getD (fileAt c undisturbed e k zeros) r 0 → Tells (c .flow) r s choices
+      → getD (fileAt c one e k zeros) r 0 ≢ getD (fileAt c undisturbed e k zeros) r 0 → TellsApart (c .flow) r s choices
       → nested c one (e ∷ stepsOf choices) k zeros ≢ nested c undisturbed (e ∷ stepsOf choices) k zeros
   unfolding nested
   telling e s choices p p′ ne tells same = tells [] (fileAt c one e k zeros) (fileAt c undisturbed e k zeros) ne (ap (map (λ (x : ℕ × List ℕ). x .1)) runs)
@@ -150,7 +150,7 @@ module _ (c : Frame) (plain : ℕ → List ℕ) (k r : ℕ) (hi : k < c .flow .s
           ∙ nested-run c undisturbed choices s (fileAt c undisturbed e k zeros)
 
   -- a register that some resume point or handler wants and the other list lacks is told
-  pub told : (s : ℕ) (choices : List ℕ) → Entry (c .goes k) r s → Tells (c .flow) r s choices → ToldApart c plain k r
+  pub told : (s : ℕ) (choices : List ℕ) → Entry (c .goes k) r s → TellsApart (c .flow) r s choices → ToldApart c plain k r
   told s choices entry tells = ⊎-elim
       (λ p. made (back left []) (telling (back left []) s choices (rw level (sym (p .0))) (rw level (sym (p .0))) (λ q. differ (sym (past (one k) (p .1)) ∙ q
       ∙ past 0 (p .1))) tells))

@@ -12,7 +12,7 @@ use Rattle.flow.proofs.Demand.{none-spare}
 use Rattle.flow.proofs.Rows.{In}
 use Rattle.steps.specs.Code.{flow}
 use Rattle.steps.specs.Level.{isLevel}
-use Rattle.rows.specs.Route.{firstOf, rowsIn}
+use Rattle.rows.specs.Route.{routeStart, rowsIn}
 use Rattle.kept.specs.Level.{levelOf}
 use Rattle.kept.specs.Lists.{partAt}
 use Rattle.kept.specs.Answers.{ListsLeft, Outcome}
@@ -29,17 +29,17 @@ covers true w k e = refl
 covers false w k e = e
 
 module _ (bits : ℕ) (wide : Bool) (w : List ℕ) (regs : ℕ) (tries : List ℕ) (all : Bool) (rows offsets list new o l : List ℕ) (total full lost : ℕ)
-    (out : ListsLeft (raising (mays all w) regs w tries) (firstOf bits wide regs w) bits w regs tries rows offsets list new o l (Is total full lost)) where
+    (out : ListsLeft (raising (mays all w) regs w tries) (routeStart bits wide regs w) bits w regs tries rows offsets list new o l (Is total full lost)) where
   abbrev f : Flow
   f = raising (mays all w) regs w tries
 
-  answer : LeftBy (raising (mays all w) regs w tries) (firstOf bits wide regs w) bits w regs tries rows offsets list new o l total full lost
-  answer = left-by f (firstOf bits wide regs w) bits w regs tries rows offsets list out total full lost refl
+  answer : LeftBy (raising (mays all w) regs w tries) (routeStart bits wide regs w) bits w regs tries rows offsets list new o l total full lost
+  answer = left-by f (routeStart bits wide regs w) bits w regs tries rows offsets list out total full lost refl
 
   -- the level's list, where it stands
   module _ (k : ℕ) (inCode : k < count w) (level : isLevel (insAt w k) ≡ true) where
     moved : (P : List ℕ → Type 0) → P (kept regs (row (rowsIn bits regs w new)) (levelOf regs w tries k)) → P (partAt o l k)
-    moved P x = subst P (sym (list-by f (firstOf bits wide regs w) bits w regs tries rows offsets list new o l total full lost out k inCode level)) x
+    moved P x = subst P (sym (list-by f (routeStart bits wide regs w) bits w regs tries rows offsets list new o l total full lost out k inCode level)) x
 
     -- demand 3 in the machine that raises: enough, none to spare, each once
     pub call-keeps : Keeps (raising (mays all w) regs w tries) (partAt o l k) (levelOf regs w tries k)
@@ -84,5 +84,5 @@ module _ (bits : ℕ) (wide : Bool) (w : List ℕ) (regs : ℕ) (rows offsets li
       (λ k r inCode e m. sp k r inCode e (subst (λ (x : List ℕ). In r x)
       (sym (level-list bits w regs [] wide rows offsets list new o l total full lost out k inCode e)) m))
     where
-      said : LeftBy (flow regs w) (firstOf bits wide regs w) bits w regs [] rows offsets list new o l total full lost
+      said : LeftBy (flow regs w) (routeStart bits wide regs w) bits w regs [] rows offsets list new o l total full lost
       said = left bits w regs [] wide rows offsets list out total full lost refl

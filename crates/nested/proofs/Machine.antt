@@ -12,7 +12,7 @@ use lib.Dec.{ltb}
 use lib.ListN.{getD}
 use Rattle.flow.specs.Set.{bit}
 use Rattle.flow.specs.Flow.{reach, rowAt}
-use Rattle.flow.specs.Run.{valuesOf, wrote, written, fileAfter, chosen}
+use Rattle.flow.specs.Run.{valuesOf, wrote, rewritten, fileAfter, chosen}
 use Rattle.flow.specs.Kept.{Level, kept}
 use Rattle.nested.specs.Machine.{Frame, Event, step, back, thrown, readAt, nextAt, fileAt, nested, undisturbed, Spares, Sheltered, Shelters}
 use Rattle.flow.proofs.Bits.{bit-zero}
@@ -83,7 +83,7 @@ module _ (c : Frame) (start : ℕ) (R : ℕ → ℕ) (sh : Shelters c start R) w
         gone r lr h g = ap (λ (x : List ℕ). getD x r 0) (g .0 new a) ∙ go (decLt 0 (bit (c .flow .givenUp k) r))
             ∙ ap (λ (x : List ℕ). getD x r 0) (sym (g .0 new b))
           where
-            go : Dec (0 < bit (c .flow .givenUp k) r) → getD (written (c .flow) k new a) r 0 ≡ getD (written (c .flow) k new b) r 0
+            go : Dec (0 < bit (c .flow .givenUp k) r) → getD (rewritten (c .flow) k new a) r 0 ≡ getD (rewritten (c .flow) k new b) r 0
             go (yes w) = wrote-new (c .flow .givenUp k) new a (c .flow .regs) r lr w ∙ sym (wrote-new (c .flow .givenUp k) new b (c .flow .regs) r lr w)
             go (no n) =
                 wrote-kept (c .flow .givenUp k) new a (c .flow .regs) r lr (omega arith) ∙ e r lr (had (g .1))

@@ -16,7 +16,7 @@ use Rattle.flow.proofs.Answer.{found-least, start-closed, start-le}
 use Rattle.flow.proofs.Rows.{In}
 use Rattle.steps.specs.Code.{setOf, usedAt, givenAt, afterAt, flow}
 use Rattle.steps.specs.Level.{isLevel}
-use Rattle.rows.specs.Route.{firstOf}
+use Rattle.rows.specs.Route.{routeStart}
 use Rattle.kept.specs.Level.{levelOf}
 use Rattle.nested.specs.Machine.{Sheltered}
 use Rattle.nested.specs.Raising.{stranded, raisesAt, raising, levels, frame, Tidy}
@@ -38,27 +38,27 @@ module _ (regs : ℕ) (w : List ℕ) (tidy : Tidy w) where
   row-plain R k hi = ap (onto R (bitOr (setOf regs (usedAt w k)) (minus (joined R (afterAt w k)) (setOf regs (givenAt w k))))) (none-raises k hi)
 
   module _ (bits : ℕ) (wide : Bool) (valid : Valid w) (rows : List ℕ) (full lost : ℕ)
-      (found : Found (flow regs w) (firstOf bits wide regs w) rows full lost) where
+      (found : Found (flow regs w) (routeStart bits wide regs w) rows full lost) where
     pub no-try : Sheltered (frame (levels w) regs w []) (λ k. kept regs (row rows) (levelOf regs w [] k))
     no-try = sheltered (frame (levels w) regs w []) start (row rows)
         (shelters (levels w) regs w [] (λ k e. e) valid start (row rows) closed solves low (λ k l. none k l (isLevel (insAt w k)) refl))
       where
         start : ℕ
-        start = startOf (flow regs w) (firstOf bits wide regs w)
+        start = startOf (flow regs w) (routeStart bits wide regs w)
 
         low : start ≤ count w
-        low = omega (arith, start-le (flow regs w) (firstOf bits wide regs w), inside bits wide regs w)
+        low = omega (arith, start-le (flow regs w) (routeStart bits wide regs w), inside bits wide regs w)
 
         sol : Solution (flow regs w) start (row rows)
-        sol = found-least (flow regs w) (firstOf bits wide regs w) (inside bits wide regs w) rows full lost found .solves
+        sol = found-least (flow regs w) (routeStart bits wide regs w) (inside bits wide regs w) rows full lost found .solves
 
         solves : Solution (raising (levels w) regs w []) start (row rows)
         solves = record { last = sol .last; each = λ k lo hi. sol .each k lo hi ∙ sym (row-plain (row rows) k hi) }
 
         closed : Closed (raising (levels w) regs w []) start
-        closed k lo hi s m = start-closed (flow regs w) (firstOf bits wide regs w) k lo hi s
+        closed k lo hi s m = start-closed (flow regs w) (routeStart bits wide regs w) k lo hi s
             (subst (λ (l : List ℕ). In s (l ++ afterAt w k)) (none-raises k hi) m)
 
         none : (k : ℕ) → k < start → (t : Bool) → isLevel (insAt w k) ≡ t → t ≡ false
-        none k l true e = absurd (omega (arith, start-le (flow regs w) (firstOf bits wide regs w), before bits wide regs w k (omega (arith, low)) e))
+        none k l true e = absurd (omega (arith, start-le (flow regs w) (routeStart bits wide regs w), before bits wide regs w k (omega (arith, low)) e))
         none k l false e = refl

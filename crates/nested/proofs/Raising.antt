@@ -26,9 +26,9 @@ use Rattle.flow.proofs.Bits.{bit-lt, bit-zero, bit-ext, or-bit}
 use Rattle.flow.proofs.Rows.{In, joined-in, onto-bit, rowAt-bit}
 use Rattle.flow.proofs.Tries.{handlers-past}
 use Rattle.steps.specs.Code.{storeOf, idle, setOf, usedAt, givenAt, afterAt}
-use Rattle.steps.specs.Calm.{stops}
+use Rattle.steps.specs.Calm.{rowUnread}
 use Rattle.steps.specs.Level.{isLevel}
-use Rattle.kept.specs.Level.{resumeOf, none, resultAt, levelOf}
+use Rattle.kept.specs.Level.{resumeOf, noRegister, resultAt, levelOf}
 use Rattle.steps.proofs.Resume.{resume-in}
 use Rattle.nested.specs.Machine.{Frame, Shelters}
 use Rattle.nested.specs.Raising.{stranded, raisesAt, raising, levels, argsAt, frame}
@@ -47,8 +47,8 @@ call-cases P p q r s o e = ⊎-elim
     (λ g. subst P (sym (eqb-true o CallMethodR g)) r) (or-true (eqb o CallGlobalR || eqb o CallR) (eqb o CallMethodR) h))
     (λ g. subst P (sym (eqb-true o CallSpreadR g)) s) (or-true (eqb o CallGlobalR || eqb o CallR || eqb o CallMethodR) (eqb o CallSpreadR) e)
 
-call-goes-on : (o : ℕ) → isCall o ≡ true → stops o ≡ false
-call-goes-on = call-cases (λ o. stops o ≡ false) refl refl refl refl
+call-goes-on : (o : ℕ) → isCall o ≡ true → rowUnread o ≡ false
+call-goes-on = call-cases (λ o. rowUnread o ≡ false) refl refl refl refl
 
 call-is-no-test : (o : ℕ) → isCall o ≡ true → eqb o JumpIfFalseR ≡ false
 call-is-no-test = call-cases (λ o. eqb o JumpIfFalseR ≡ false) refl refl refl refl
@@ -103,7 +103,7 @@ orderly Plain = true
 
 -- an opcode whose own row leads on to k + 1 and gives up no register but a
 abbrev Bears : ℕ → Type 0
-Bears o = (orderly (caseOf o) ≡ true) × (stops o ≡ false)
+Bears o = (orderly (caseOf o) ≡ true) × (rowUnread o ≡ false)
 
 bears-attr : Bears GetAttrR
 unfolding caseOf cases
@@ -168,7 +168,7 @@ module _ (regs : ℕ) (w : List ℕ) (k : ℕ) where
       go true = omega (arith, bit-zero r)
       go false = gives-a regs (caseOf (insAt w k .op)) (insAt w k) r e
 
-  next-after : stops (insAt w k .op) ≡ false → In (k + 1) (afterAt w k)
+  next-after : rowUnread (insAt w k .op) ≡ false → In (k + 1) (afterAt w k)
   unfolding afterAt
   next-after e = go (eqb (insAt w k .op) ReturnR) (eqb (insAt w k .op) Jump) (isJump (insAt w k)) (min (insAt w k .a) (count w))
       (min (insAt w k .a) (count w) ∷ []) e
@@ -197,7 +197,7 @@ module _ (may : ℕ → Bool) (regs : ℕ) (w tries : List ℕ) (covers : (k : �
     uses : bit (setOf regs (usedAt w k)) r ≤ bit (R k) r
     uses = omega (arith, has-row)
 
-    on : stops (insAt w k .op) ≡ false → bit (R (k + 1)) r ≤ max (bit (setOf regs (givenAt w k)) r) (bit (R k) r)
+    on : rowUnread (insAt w k .op) ≡ false → bit (R (k + 1)) r ≤ max (bit (setOf regs (givenAt w k)) r) (bit (R k) r)
     on e = omega (
       arith,
       has-row,
@@ -208,7 +208,7 @@ module _ (may : ℕ → Bool) (regs : ℕ) (w tries : List ℕ) (covers : (k : �
           (setOf regs (givenAt w k)) r,
     )
 
-    through : stops (insAt w k .op) ≡ false → givenBy (insAt w k) ≡ [] → bit (R (k + 1)) r ≤ bit (R k) r
+    through : rowUnread (insAt w k .op) ≡ false → givenBy (insAt w k) ≡ [] → bit (R (k + 1)) r ≤ bit (R k) r
     through e g = omega (arith, on e, none-given regs w k g r)
 
     level-raises : isLevel (insAt w k) ≡ true → (h : ℕ) → In h (handlersOf (count w) k tries) → In h (raisesAt may w tries k)
@@ -307,7 +307,7 @@ module _ (may : ℕ → Bool) (regs : ℕ) (w tries : List ℕ) (covers : (k : �
           omega (
             arith,
             ap (λ (x : ℕ). bit (R x) r) two,
-            through (k + 1) (omega arith) (inner k lo hi r q) r (ap stops (args k lo hi r q)) (args-give (insAt w (k + 1)) (args k lo hi r q)),
+            through (k + 1) (omega arith) (inner k lo hi r q) r (ap rowUnread (args k lo hi r q)) (args-give (insAt w (k + 1)) (args k lo hi r q)),
             through k lo hi r (call-goes-on o ec) (call-gives (insAt w k) ec),
           )
       called false q ec = through k lo hi r (call-goes-on o ec) (call-gives (insAt w k) ec)

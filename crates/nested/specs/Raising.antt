@@ -13,7 +13,7 @@ use Rattle.flow.specs.Flow.{Flow}
 use Rattle.flow.specs.Kept.{handlersOf}
 use Rattle.steps.specs.Code.{setOf, usedAt, givenAt, afterAt}
 use Rattle.steps.specs.Level.{isLevel}
-use Rattle.rows.specs.Route.{firstOf}
+use Rattle.rows.specs.Route.{routeStart}
 use Rattle.kept.specs.Level.{levelOf}
 use Rattle.nested.specs.Machine.{Frame}
 
@@ -49,7 +49,7 @@ mays all w k = all || levels w k
 
 -- where sweeps with handlers begin: where document 01's do, at the first level on the word route and at 0 on the wide one
 abbrev pub beginsAt : ℕ → List ℕ → ℕ
-beginsAt regs w = firstOf 64 false regs w
+beginsAt regs w = routeStart 64 false regs w
 
 -- what a call at k reads as it begins: what k uses, and the rest of the arguments if it is wide
 unfoldable pub argsAt : ℕ → List ℕ → ℕ → ℕ

@@ -8,8 +8,8 @@ use lib.Dec.{eqb, ltb, leb}
 use lib.ListN.{getD}
 use borrow.Author.Tests.{eq-eqb, ne-eqb, lt-ltb, eqb-true}
 use Rattle.code.specs.Op.{LoadConst}
-use Rattle.lent.specs.Chunk.{opAt, operandAt, jumps, lands}
-use Rattle.values.specs.Folds.{Sound}
+use Rattle.lent.specs.Chunk.{opAt, operandAt, marksJump, lands}
+use Rattle.values.specs.Folds.{SoundInt}
 use Rattle.values.specs.declared.Val.{Val}
 use Rattle.values.specs.declared.Maybe.{Maybe}
 use Rattle.values.specs.declared.Maybe.the-variants.{Is, Nothing}
@@ -81,21 +81,21 @@ operand-load code kinds words n p v e = go (eqb (opAt code p) LoadConst) refl e
     go false h e = absurd (let z : _≡_ {A = ℕ} 0 1 = cc in omega arith)
 
 -- its int is in range
-pub operand-sound : {r : Maybe} {v : Val} (code kinds words : List ℕ) (n p : ℕ) → r ≡ operandOf code kinds words n p → r ≡ Is v → Sound v
+pub operand-sound : {r : Maybe} {v : Val} (code kinds words : List ℕ) (n p : ℕ) → r ≡ operandOf code kinds words n p → r ≡ Is v → SoundInt v
 unfolding operandOf constToVal
 operand-sound {r} {v} code kinds words n p e f = go (eqb (opAt code p) LoadConst) (ltb (operandAt code p) n) (sym e ∙ f)
   where
-    no : Nothing ≡ Is v → Sound v
+    no : Nothing ≡ Is v → SoundInt v
     no e = absurd (let z : _≡_ {A = ℕ} 0 1 = cc in omega arith)
 
-    go : (a b : Bool) → cond a (cond b (toVal (getD kinds (operandAt code p) 0) (getD words (operandAt code p) 0)) Nothing) Nothing ≡ Is v → Sound v
+    go : (a b : Bool) → cond a (cond b (toVal (getD kinds (operandAt code p) 0) (getD words (operandAt code p) 0)) Nothing) Nothing ≡ Is v → SoundInt v
     go true true e = val-sound _ _ v e
     go true false e = no e
     go false b e = no e
 
 -- ---- jumps
 
-pub lands-is : (w : List ℕ) (p i k : ℕ) {j : Bool} {t x : ℕ} → j ≡ jumps w k → x ≡ operandAt w k → t ≡ x → j && (ltb p t && leb t i) ≡ lands w p i k
+pub lands-is : (w : List ℕ) (p i k : ℕ) {j : Bool} {t x : ℕ} → j ≡ marksJump w k → x ≡ operandAt w k → t ≡ x → j && (ltb p t && leb t i) ≡ lands w p i k
 unfolding lands
 lands-is w p i k a b c = rw (a, c, b) refl
 

@@ -4,7 +4,7 @@ use values::Maybe;
 ghost use mathlib.Core.Path.{_≡_};
 ghost use Prim.Native.Nat.{_≤_, _<_};
 ghost use lib.ListN.{length};
-ghost use Rattle.lent.specs.Chunk.{count, lands};
+ghost use Rattle.lent.specs.Chunk.{chunkCount, lands};
 ghost use Rattle.operands.specs.Operands.{prevLive, operandOf, skipsInto, blocked, after};
 
 // A position, where there is one.
@@ -30,7 +30,7 @@ pub fn prev_live(dead: &[u8], from: usize) -> Found
 
 // The constant that a LoadConst at p loads, as an operand.
 pub fn operand_of(code: &[u16], kinds: &[u8], words: &[u64], constants: usize, p: usize) -> Maybe
-    requires { ⌜ (p < count (now code)) × (constants ≤ length (now kinds)) × (constants ≤ length (now words)) ⌝ }
+    requires { ⌜ (p < chunkCount (now code)) × (constants ≤ length (now kinds)) × (constants ≤ length (now words)) ⌝ }
     ensures { λ r. ⌜ r ≡ operandOf (now (code .entry)) (now (kinds .entry)) (now (words .entry)) constants p ⌝ }
 {
     if lent::op_at(code, p) != LoadConst {
@@ -41,7 +41,7 @@ pub fn operand_of(code: &[u16], kinds: &[u8], words: &[u64], constants: usize, p
 
 // Whether a jump just before, or the last landing, keeps the fold of (start, end] from being made.
 pub fn blocks(code: &[u16], last: usize, start: usize, end: usize) -> bool
-    requires { ⌜ start < count (now code) ⌝ }
+    requires { ⌜ start < chunkCount (now code) ⌝ }
     ensures { λ r. ⌜ r ≡ blocked (after last) (now (code .entry)) start end ⌝ }
 {
     if skips_into(code, start, end) {
@@ -52,7 +52,7 @@ pub fn blocks(code: &[u16], last: usize, start: usize, end: usize) -> bool
 
 // Whether the jump just before `start` lands in (start, end].
 fn skips_into(code: &[u16], start: usize, end: usize) -> bool
-    requires { ⌜ start < count (now code) ⌝ }
+    requires { ⌜ start < chunkCount (now code) ⌝ }
     ensures { λ r. ⌜ r ≡ skipsInto (now (code .entry)) start end ⌝ }
 {
     if start == 0 {
@@ -63,7 +63,7 @@ fn skips_into(code: &[u16], start: usize, end: usize) -> bool
 
 // Whether the instruction at k is a jump into (start, end].
 fn lands_at(code: &[u16], start: usize, end: usize, k: usize) -> bool
-    requires { ⌜ k < count (now code) ⌝ }
+    requires { ⌜ k < chunkCount (now code) ⌝ }
     ensures { λ r. ⌜ r ≡ lands (now (code .entry)) start end k ⌝ }
 {
     let target = wide(lent::operand_at(code, k));

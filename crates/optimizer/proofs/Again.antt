@@ -20,8 +20,8 @@ use Rattle.code.specs.declared.Refusal.{Refusal}
 use Rattle.code.specs.declared.Refusal.the-variants.{Length, Record}
 use Rattle.code.specs.declared.Checked.{Checked}
 use Rattle.code.specs.declared.Checked.the-variants.{Count, No as Refused}
-use Rattle.lent.specs.Chunk.{stride, count, opAt, markAt, originAt, folds, rules, breaksAt}
-use Rattle.lent.specs.Check.{uneven, firstBad, checkOf, readyOf}
+use Rattle.lent.specs.Chunk.{stride, chunkCount, opAt, markAt, originAt, folds, chunkRules, breaksAt}
+use Rattle.lent.specs.Check.{unevenChunk, firstBadOf, chunkCheckOf, readyOf}
 use Rattle.lent.specs.declared.Counts.{Counts}
 use Rattle.lent.proofs.Checks.{accepted}
 use Rattle.lent.proofs.Counting.{zeros-at}
@@ -39,12 +39,12 @@ use Rattle.fold.specs.declared.Plan.the-variants.{Stay, Put}
 use Rattle.fold.proofs.Planned.{Planned, planned}
 use Rattle.fold.proofs.Put.{put-long, put-other, mark-other, put-here, mark-here}
 use Rattle.positions.specs.Remap.{alive, live}
-use Rattle.compact.specs.Tables.{operandOf, wordsOf, leftAt, left, compacted}
+use Rattle.compact.specs.Tables.{movedOperand, wordsOf, leftAt, left, compacted}
 use Rattle.compact.proofs.Left.{left-long}
 use Rattle.phi_pass.specs.Phi.{marked}
 use Rattle.phi_pass.proofs.Pairs.{marked-length}
 use Rattle.finish.specs.Finish.{Tables, tables, mapOf, sourcesOf, renewed, finished}
-use Rattle.optimizer.specs.Fold.{Buffers, lensOf, needed, outcome, foldPass, constantFold, joined, foldLent, called, rejoined, foldCall}
+use Rattle.optimizer.specs.Fold.{Buffers, lensOf, needed, foldOutcome, foldPass, constantFold, joinedBuffers, foldLent, called, rejoined, foldCall}
 use Rattle.optimizer.specs.Fold.{No}
 use Rattle.optimizer.proofs.Ruled.{Ruled, no-words, ruled-of}
 use Rattle.optimizer.proofs.Tested.{held-of}
@@ -64,24 +64,24 @@ both p q = record { ruled = λ r. q .ruled (p .ruled r); long = q .long ∙ p .l
 -- ---- a load with its mark
 
 module _ (w : List ℕ) (p o x : ℕ) where
-  put-keeps : rules o (markOf o) ≡ true → p < count w → Keeps w (put w p o x)
+  put-keeps : chunkRules o (markOf o) ≡ true → p < chunkCount w → Keeps w (put w p o x)
   put-keeps e h = record { ruled = λ r k. go r k (eqb k p) refl; long = put-long w p o x }
     where
-      go : Ruled w → (k : ℕ) (t : Bool) → eqb k p ≡ t → rules (opAt (put w p o x) k) (markAt (put w p o x) k) ≡ true
+      go : Ruled w → (k : ℕ) (t : Bool) → eqb k p ≡ t → chunkRules (opAt (put w p o x) k) (markAt (put w p o x) k) ≡ true
       go r k true q = rw (eqb-true k p q, put-here w p o x h, mark-here w p o x h) e
       go r k false q = rw (put-other w p o x k (eqb-false k p q), mark-other w p o x k (eqb-false k p q)) (r k)
 
 abbrev Fair : Loaded → Type 0
-Fair (As o x m) = rules o (markOf o) ≡ true
+Fair (As o x m) = chunkRules o (markOf o) ≡ true
 Fair Unloaded = Unit {0}
 
 kept-fair : (k : Kept) → Fair (loadOf k)
-unfolding rules folds markOf
+unfolding chunkRules folds markOf
 kept-fair (At i m) = refl
 kept-fair Full = tt
 
 load-fair : (v : Val) (kinds words : List ℕ) (n : ℕ) → Fair (constLoad v kinds words n .load)
-unfolding constLoad rules folds markOf
+unfolding constLoad chunkRules folds markOf
 load-fair (Int z) kinds words n = kept-fair (findOrPushConst kinds words n (Int z) .kept)
 load-fair (Real x) kinds words n = kept-fair (findOrPushConst kinds words n (Real x) .kept)
 load-fair (Truth true) kinds words n = refl
@@ -89,7 +89,7 @@ load-fair (Truth false) kinds words n = refl
 
 -- ---- the pass
 
-module _ (i : ℕ) (s : Chunk) (h : i < count (s .code)) where
+module _ (i : ℕ) (s : Chunk) (h : i < chunkCount (s .code)) where
   applied-keeps : (p q : ℕ) (v : Val) → Planned s i p q → Keeps (s .code) (applied (Put p q v) i s .code)
   unfolding applied landed
   applied-keeps p q v a = go (constLoad v (s .kinds) (s .words) (s .constants)) (load-fair v (s .kinds) (s .words) (s .constants))
@@ -114,7 +114,7 @@ module _ (i : ℕ) (s : Chunk) (h : i < count (s .code)) where
       go false = same (s .code)
 
 module _ (bars : Bars) (s : Chunk) where
-  some-keep : (k : ℕ) → k ≤ count (s .code) → Keeps (s .code) (folded bars k s .code)
+  some-keep : (k : ℕ) → k ≤ chunkCount (s .code) → Keeps (s .code) (folded bars k s .code)
   unfolding folded
   some-keep zero l = same (s .code)
   some-keep (suc k) l =
@@ -123,7 +123,7 @@ module _ (bars : Bars) (s : Chunk) where
 
   all-keep : Keeps (s .code) (foldAll bars s .code)
   unfolding foldAll
-  all-keep = some-keep (count (s .code)) (omega arith)
+  all-keep = some-keep (chunkCount (s .code)) (omega arith)
 
 pass-keeps : (bars : Bars) (s : Chunk) → Keeps (s .code) (foldPass bars s .code)
 unfolding foldPass
@@ -134,7 +134,7 @@ pass-keeps bars s = all-keep bars (chunk (s .code) (replicate (length (s .dead))
 append-ruled : (xs ys : List ℕ) (m : ℕ) → length xs ≡ stride * m → Ruled xs → Ruled ys → Ruled (xs ++ ys)
 append-ruled xs ys m l a b k = go (ltb k m) refl
   where
-    go : (t : Bool) → ltb k m ≡ t → rules (opAt (xs ++ ys) k) (markAt (xs ++ ys) k) ≡ true
+    go : (t : Bool) → ltb k m ≡ t → chunkRules (opAt (xs ++ ys) k) (markAt (xs ++ ys) k) ≡ true
     go true q =
         let h = ltb-true k m q in
         rw (List·getD-append xs ys 0 (stride * k) (omega arith), List·getD-append xs ys 0 (stride * k + 1) (omega arith)) (a k)
@@ -146,7 +146,7 @@ append-ruled xs ys m l a b k = go (ltb k m) refl
         let r : markAt (xs ++ ys) k ≡ markAt ys (k - m) = ap (λ (i : ℕ). getD (xs ++ ys) i 0) n ∙ getD-append-add xs ys (stride * (k - m) + 1) 0 in
         rw (p, r) (b (k - m))
 
-one-ruled : (o m v u : ℕ) → rules o m ≡ true → Ruled (o ∷ m ∷ v ∷ u ∷ [])
+one-ruled : (o m v u : ℕ) → chunkRules o m ≡ true → Ruled (o ∷ m ∷ v ∷ u ∷ [])
 one-ruled o m v u e zero = e
 one-ruled o m v u e (suc k) =
     let p : opAt (o ∷ m ∷ v ∷ u ∷ []) (suc k) ≡ 0 = List·getD-eq-default (o ∷ m ∷ v ∷ u ∷ []) 0 {n = stride * suc k} (omega arith) in
@@ -158,7 +158,7 @@ zero-ruled n k = rw (zeros-at n (stride * k), zeros-at n (stride * k + 1)) no-wo
 
 module _ (dead w : List ℕ) where
   at-ruled : Ruled w → (k : ℕ) (t : Bool) → Ruled (cond t (wordsOf dead w k) [])
-  at-ruled r k true = one-ruled (opAt w k) (markAt w k) (operandOf dead w k) (originAt w k) (r k)
+  at-ruled r k true = one-ruled (opAt w k) (markAt w k) (movedOperand dead w k) (originAt w k) (r k)
   at-ruled r k false = λ j. no-words
 
   left-ruled : Ruled w → (k : ℕ) → Ruled (each (leftAt dead w) k)
@@ -195,7 +195,7 @@ finished-keeps t h = go (every (alive d) (length d))
 
 -- ---- the call
 
-pub fold-keeps : (bars : Bars) (b : Buffers) (c : Counts) → count (b .code) ≤ length (b .dead) → stride * length (b .dead) ≤ length (b .code)
+pub fold-keeps : (bars : Bars) (b : Buffers) (c : Counts) → chunkCount (b .code) ≤ length (b .dead) → stride * length (b .dead) ≤ length (b .code)
     → Keeps (b .code) (constantFold bars b c .after .code)
 unfolding constantFold
 fold-keeps bars b c h l =
@@ -218,33 +218,33 @@ first-none f zero k h = omega arith
 first-none f (suc m) k h = rw (h k) (omega (arith, first-none f m (suc k) h))
 
 -- a code that keeps the rules of one that passes them, and its length, passes too
-checks : (w w′ : List ℕ) (n : ℕ) → Keeps w w′ → checkOf w ≡ Count n → checkOf w′ ≡ Count n
-unfolding checkOf
-checks w w′ n k e = go (uneven w) refl (ltb (firstBad w) (count w)) refl e
+checks : (w w′ : List ℕ) (n : ℕ) → Keeps w w′ → chunkCheckOf w ≡ Count n → chunkCheckOf w′ ≡ Count n
+unfolding chunkCheckOf
+checks w w′ n k e = go (unevenChunk w) refl (ltb (firstBadOf w) (chunkCount w)) refl e
   where
-    go : (u : Bool) → uneven w ≡ u → (b : Bool) → ltb (firstBad w) (count w) ≡ b → checkOf w ≡ Count n → checkOf w′ ≡ Count n
+    go : (u : Bool) → unevenChunk w ≡ u → (b : Bool) → ltb (firstBadOf w) (chunkCount w) ≡ b → chunkCheckOf w ≡ Count n → chunkCheckOf w′ ≡ Count n
     go true p b q h = never n (Length (length w)) (rw p at h)
-    go false p true q h = never n (Record (firstBad w)) (rw (p, q) at h)
+    go false p true q h = never n (Record (firstBadOf w)) (rw (p, q) at h)
     go false p false q h =
-        let z : Count (count w) ≡ Count n = rw (p, q) at h in
-        let l : length w % stride ≡ 0 = eqb-true (length w % stride) 0 (not-false _ (or-false (not (eqb (length w % stride) 0)) (ltb 65535 (count w)) p .0)) in
-        let r : Ruled w′ = k .ruled (ruled-of w (omega arith) (ltb-false (firstBad w) (count w) q)) in
-        let f : firstBad w′ ≡ 0 + count w′ = first-none (breaksAt w′) (count w′) 0 (λ j. ap not (r j)) in
-        let u : uneven w′ ≡ false = rw (k .long) p in
-        sym (accepted w′ (firstBad w′) refl u (omega arith)) ∙ ap (λ (m : ℕ). Count (m / stride)) (k .long) ∙ z
+        let z : Count (chunkCount w) ≡ Count n = rw (p, q) at h in
+        let l : length w % stride ≡ 0 = eqb-true (length w % stride) 0 (not-false _ (or-false (not (eqb (length w % stride) 0)) (ltb 65535 (chunkCount w)) p .0)) in
+        let r : Ruled w′ = k .ruled (ruled-of w (omega arith) (ltb-false (firstBadOf w) (chunkCount w) q)) in
+        let f : firstBadOf w′ ≡ 0 + chunkCount w′ = first-none (breaksAt w′) (chunkCount w′) 0 (λ j. ap not (r j)) in
+        let u : unevenChunk w′ ≡ false = rw (k .long) p in
+        sym (accepted w′ (firstBadOf w′) refl u (omega arith)) ∙ ap (λ (m : ℕ). Count (m / stride)) (k .long) ∙ z
 
 -- tests 1 and 2 pass again after the folding call
-pub again : (strict : Bool) (b : Buffers) (tries landings : List ℕ) (c : Counts) (n : ℕ) → checkOf (b .code) ≡ Count n
-    → checkOf (foldCall strict b tries landings c .result .after .code) ≡ Count n
-unfolding foldCall rejoined joined foldLent
+pub again : (strict : Bool) (b : Buffers) (tries landings : List ℕ) (c : Counts) (n : ℕ) → chunkCheckOf (b .code) ≡ Count n
+    → chunkCheckOf (foldCall strict b tries landings c .result .after .code) ≡ Count n
+unfolding foldCall rejoined joinedBuffers foldLent
 again strict b tries landings c n e = go (readyOf (b .code) tries (b .kinds) (b .words) c (lensOf b) (length landings)) refl
   where
     go : (v : Checked) → v ≡ readyOf (b .code) tries (b .kinds) (b .words) c (lensOf b) (length landings)
-        → checkOf (asked v (λ r. called (outcome (No r) b) tries landings) (rejoined b landings c
+        → chunkCheckOf (asked v (λ r. called (foldOutcome (No r) b) tries landings) (rejoined b landings c
         (foldLent strict tries (needed b c) c)) .result .after .code) ≡ Count n
     go (Refused r) q = e
     go (Count m) q =
         let h = held-of b tries c (length landings) m (Count m) q refl in
-        let d : length (take (count (b .code)) (b .dead)) ≡ count (b .code) = length-take-le (count (b .code)) (b .dead) (h .dead) in
+        let d : length (take (chunkCount (b .code)) (b .dead)) ≡ chunkCount (b .code) = length-take-le (chunkCount (b .code)) (b .dead) (h .dead) in
         checks (b .code) (constantFold (byScan strict tries) (needed b c) c .after .code) n
         (fold-keeps (byScan strict tries) (needed b c) c (omega arith) (omega (arith, h .whole))) e

@@ -10,31 +10,31 @@ use Rattle.code.specs.Check.{pairs}
 use Rattle.code.specs.Answers.{asked}
 use Rattle.code.specs.declared.Checked.{Checked}
 use Rattle.code.specs.declared.Checked.the-variants.{Count, No as Refused}
-use Rattle.lent.specs.Chunk.{count}
+use Rattle.lent.specs.Chunk.{chunkCount}
 use Rattle.lent.specs.Check.{readyOf}
 use Rattle.lent.specs.declared.Counts.{Counts}
 use Rattle.fold.specs.Pass.{byScan}
-use Rattle.optimizer.specs.Fold.{Buffers, lensOf, needed, outcome, constantFold, joined, foldLent, called, rejoined, foldCall, Held, Exact}
+use Rattle.optimizer.specs.Fold.{Buffers, lensOf, needed, foldOutcome, constantFold, joinedBuffers, foldLent, called, rejoined, foldCall, FoldRoom, Exact}
 use Rattle.optimizer.specs.declared.Folded.{Folded}
 use Rattle.optimizer.specs.Fold.{Is, No}
 use Rattle.optimizer.proofs.Tested.{held-of, table-there, tries-there}
 use Rattle.optimizer.proofs.Whole.{exact-of, told-by}
 
 pub record Answered (strict : Bool) (b : Buffers) (tries landings : List ℕ) (c : Counts) (f : Folded) : Type 0 where
-  pub held : Held b c
+  pub held : FoldRoom b c
   pub exact : Exact (needed b c) c
-  pub room : count (b .code) + 1 ≤ length landings
-  pub tried : (j : ℕ) → j < pairs tries → tryKept tries (count (b .code)) j ≡ true
+  pub room : chunkCount (b .code) + 1 ≤ length landings
+  pub tried : (j : ℕ) → j < pairs tries → tryKept tries (chunkCount (b .code)) j ≡ true
   pub is : foldCall strict b tries landings c ≡ rejoined b landings c (foldLent strict tries (needed b c) c)
   pub counts : constantFold (byScan strict tries) (needed b c) c .answer ≡ f
 
 pub answered : (strict : Bool) (b : Buffers) (tries landings : List ℕ) (c : Counts) (f : Folded)
     → foldCall strict b tries landings c .result .answer ≡ Is f → Answered strict b tries landings c f
-unfolding foldCall rejoined joined foldLent
+unfolding foldCall rejoined joinedBuffers foldLent
 answered strict b tries landings c f e = go (readyOf (b .code) tries (b .kinds) (b .words) c (lensOf b) (length landings)) refl e
   where
     go : (v : Checked) → v ≡ readyOf (b .code) tries (b .kinds) (b .words) c (lensOf b) (length landings)
-        → asked v (λ r. called (outcome (No r) b) tries landings) (rejoined b landings c (foldLent strict tries (needed b c) c)) .result .answer ≡ Is f
+        → asked v (λ r. called (foldOutcome (No r) b) tries landings) (rejoined b landings c (foldLent strict tries (needed b c) c)) .result .answer ≡ Is f
         → Answered strict b tries landings c f
     go (Refused r) q e = absurd (let z : _≡_ {A = ℕ} 0 1 = cc in omega arith)
     go (Count m) q e =

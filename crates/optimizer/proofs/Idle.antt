@@ -13,17 +13,17 @@ use borrow.Author.Tests.{eqb-true, ne-eqb, ltb-true, ltb-false}
 use Rattle.laws.specs.All.{every}
 use Rattle.laws.proofs.Branch.{and-true}
 use Rattle.laws.proofs.Each.{each-at}
-use Rattle.lent.specs.Chunk.{count}
+use Rattle.lent.specs.Chunk.{chunkCount}
 use Rattle.lent.proofs.Counting.{every-at}
 use Rattle.lent.specs.declared.Counts.{Counts}
 use Rattle.positions.specs.Remap.{alive}
-use Rattle.phi_pass.specs.Phi.{markAt, marked}
+use Rattle.phi_pass.specs.Phi.{phiMarkAt, marked}
 use Rattle.phi_pass.proofs.Pairs.{marked-length, dead-stays}
 use Rattle.fold.specs.Plan.{Chunk, chunk}
 use Rattle.fold.specs.Pass.{Bars}
 use Rattle.fold.proofs.Passed.{Passed, Died}
 use Rattle.finish.specs.Finish.{Tables, tables, mapOf, sourcesOf, renewed, finished}
-use Rattle.optimizer.specs.Fold.{Buffers, buffers, outcome, foldPass, constantFold}
+use Rattle.optimizer.specs.Fold.{Buffers, buffers, foldOutcome, foldPass, constantFold}
 use Rattle.optimizer.proofs.Whole.{pass-kept}
 
 -- marks that are all alive are 0
@@ -69,17 +69,17 @@ module _ (t : Tables) where
       let l : length d ≡ length (t .dead) = marked-length (t .code) (mapOf t) (sourcesOf t) (t .dead) in
       let h : k < length (t .dead) = in-list (t .dead) k o in
       let z : getD d k 0 ≡ 0 = eqb-true (getD d k 0) 0 (every-at (alive d) (length d) k e (rw l h)) in
-      let y : getD d k 0 ≡ markAt (t .code) (mapOf t) (sourcesOf t) (t .dead) k = each-at (markAt (t .code) (mapOf t) (sourcesOf t) (t .dead))
+      let y : getD d k 0 ≡ phiMarkAt (t .code) (mapOf t) (sourcesOf t) (t .dead) k = each-at (phiMarkAt (t .code) (mapOf t) (sourcesOf t) (t .dead))
       (length (t .dead)) k h in
-      let x : getD (t .dead) k 0 ≡ markAt (t .code) (mapOf t) (sourcesOf t) (t .dead) k = dead-stays (t .code) (mapOf t) (sourcesOf t) k (t .dead)
+      let x : getD (t .dead) k 0 ≡ phiMarkAt (t .code) (mapOf t) (sourcesOf t) (t .dead) k = dead-stays (t .code) (mapOf t) (sourcesOf t) k (t .dead)
       (λ q. let b : _≡_ {A = ℕ} 1 0 = sym o ∙ q in omega arith) in
       let w : _≡_ {A = ℕ} 1 0 = sym o ∙ x ∙ sym y ∙ z in
       omega arith
 
-module _ (bars : Bars) (b : Buffers) (c : Counts) (h : count (b .code) ≤ length (b .dead)) where
+module _ (bars : Bars) (b : Buffers) (c : Counts) (h : chunkCount (b .code) ≤ length (b .dead)) where
   pub as-lent : every (alive (constantFold bars b c .after .dead)) (length (constantFold bars b c .after .dead)) ≡ true
       → constantFold bars b c
-      ≡ outcome (record { instructions = length (b .dead); constants = c .constants; map = c .map; sources = c .sources })
+      ≡ foldOutcome (record { instructions = length (b .dead); constants = c .constants; map = c .map; sources = c .sources })
       (buffers (b .code) (b .kinds) (b .words) (b .map) (b .sources) (b .stmts) (b .calls) (replicate (length (b .dead)) 0) (b .remap))
   unfolding constantFold
   as-lent e =

@@ -4,14 +4,14 @@ use native.Mathlib.Omega.{arith}
 use mathlib.Core.Path.{_≡_, ap, _∙_}
 use mathlib.Core.List.{List}
 use lib.ListN.{length}
-use Rattle.lent.specs.Chunk.{stride, count}
+use Rattle.lent.specs.Chunk.{stride, chunkCount}
 use Rattle.landings.specs.Landings.{landingsOf}
 use Rattle.landings.proofs.Asked.{table-long}
 
-table-is : (w tries l : List ℕ) → l ≡ landingsOf w tries → length l ≡ count w + 1
+table-is : (w tries l : List ℕ) → l ≡ landingsOf w tries → length l ≡ chunkCount w + 1
 table-is w tries l e = ap length e ∙ table-long w tries
 
-pub table-fits : (w tries l : List ℕ) → l ≡ landingsOf w tries → count w ≤ length l
+pub table-fits : (w tries l : List ℕ) → l ≡ landingsOf w tries → chunkCount w ≤ length l
 table-fits w tries l e = omega (arith, table-is w tries l e)
 
 -- the second time too: the code is as long as it was

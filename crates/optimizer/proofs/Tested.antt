@@ -20,14 +20,14 @@ use Rattle.code.specs.declared.Refusal.{Refusal}
 use Rattle.code.specs.declared.Refusal.the-variants.{Length, Record, Try, Table}
 use Rattle.code.specs.declared.Checked.{Checked}
 use Rattle.code.specs.declared.Checked.the-variants.{Count, No}
-use Rattle.lent.specs.Chunk.{stride, count, opAt, markAt, jumps, folds, rules}
+use Rattle.lent.specs.Chunk.{stride, chunkCount, opAt, markAt, marksJump, folds, chunkRules}
 use Rattle.landings.specs.Landings.{Unmarked}
 use Rattle.lent.specs.Tables.{constantKept, within, constantsKept, mapKept, pairsKept, tableOf}
-use Rattle.lent.specs.Check.{uneven, firstBad, checkOf, tablesOf, tallyOf, constantRoom, sourceRoom, roomsOf, readyOf}
+use Rattle.lent.specs.Check.{unevenChunk, firstBadOf, chunkCheckOf, tablesOf, tallyOf, constantRoom, sourceRoom, roomsOf, readyOf}
 use Rattle.lent.specs.declared.Counts.{Counts}
 use Rattle.lent.specs.declared.Lens.{Lens}
 use Rattle.lent.proofs.Kept.{few}
-use Rattle.optimizer.specs.Fold.{Buffers, lensOf, Held}
+use Rattle.optimizer.specs.Fold.{Buffers, lensOf, FoldRoom}
 use Rattle.optimizer.proofs.Ruled.{ruled-of}
 
 never : {A : Type 0} (n : ℕ) (r : Refusal) → Count n ≡ No r → A
@@ -60,23 +60,23 @@ pairs-whole words len e =
 -- what tests 1 and 2 say of a code that passes them
 record Met (w : List ℕ) (n : ℕ) : Type 0 where
   even : length w % stride ≡ 0
-  few : count w ≤ 65535
-  good : count w ≤ firstBad w
-  is : n ≡ count w
+  few : chunkCount w ≤ 65535
+  good : chunkCount w ≤ firstBadOf w
+  is : n ≡ chunkCount w
 
-check-met : (n : ℕ) (w : List ℕ) → Count n ≡ checkOf w → Met w n
-unfolding checkOf
-check-met n w h = go (uneven w) refl (ltb (firstBad w) (count w)) refl h
+check-met : (n : ℕ) (w : List ℕ) → Count n ≡ chunkCheckOf w → Met w n
+unfolding chunkCheckOf
+check-met n w h = go (unevenChunk w) refl (ltb (firstBadOf w) (chunkCount w)) refl h
   where
-    go : (u : Bool) → uneven w ≡ u → (b : Bool) → ltb (firstBad w) (count w) ≡ b → Count n ≡ checkOf w → Met w n
+    go : (u : Bool) → unevenChunk w ≡ u → (b : Bool) → ltb (firstBadOf w) (chunkCount w) ≡ b → Count n ≡ chunkCheckOf w → Met w n
     go true e b f h = never n (Length (length w)) (rw e at h)
-    go false e true f h = never n (Record (firstBad w)) (rw (e, f) at h)
+    go false e true f h = never n (Record (firstBadOf w)) (rw (e, f) at h)
     go false e false f h =
-        let p = or-false (not (eqb (length w % stride) 0)) (ltb 65535 (count w)) e in
-        let z : Count n ≡ Count (count w) = rw (e, f) at h in
+        let p = or-false (not (eqb (length w % stride) 0)) (ltb 65535 (chunkCount w)) e in
+        let z : Count n ≡ Count (chunkCount w) = rw (e, f) at h in
         record { even = eqb-true _ _ (not-false _ (p .0)); few = ltb-false _ _ (p .1); good = ltb-false _ _ f; is = cc }
 
-whole-of : (w : List ℕ) → length w % stride ≡ 0 → length w ≡ stride * count w
+whole-of : (w : List ℕ) → length w % stride ≡ 0 → length w ≡ stride * chunkCount w
 whole-of w e = omega arith
 
 pairs-in : (s phis : ℕ) → s % 2 ≡ 0 → s ≤ sourceRoom s phis
@@ -96,8 +96,8 @@ unfolding firstBadTry
 kept-tries t n m q p j h = rw (← q) (not-false _ (none-passed (λ i. not (tryKept t n i)) j (pairs t) 0 (omega arith) (omega arith) (omega arith)))
 
 -- a LoadConst that keeps its record rule has no jump mark
-load-calm : (m : ℕ) → rules LoadConst m ≡ true → eqb (m % 2) 1 ≡ false
-unfolding rules folds
+load-calm : (m : ℕ) → chunkRules LoadConst m ≡ true → eqb (m % 2) 1 ≡ false
+unfolding chunkRules folds
 load-calm m e = go (eqb (m % 2) 1) (eqb (m / 2 % 2) 1) (leb m 3) e
   where
     go : (j k l : Bool) → true && l && (not j || false) && ((false || k) && (not k || not (j || false || false))) ≡ true → j ≡ false
@@ -107,21 +107,21 @@ load-calm m e = go (eqb (m % 2) 1) (eqb (m / 2 % 2) 1) (leb m 3) e
 
 unmarked-of : (w : List ℕ) (n : ℕ) → Met w n → Unmarked w
 unmarked-of w n m k o =
-    let r : rules (opAt w k) (markAt w k) ≡ true = ruled-of w (omega (arith, m .even)) (m .good) k in
+    let r : chunkRules (opAt w k) (markAt w k) ≡ true = ruled-of w (omega (arith, m .even)) (m .good) k in
     load-calm (markAt w k) (rw o at r)
 
 module _ (b : Buffers) (tries : List ℕ) (c : Counts) (landings n : ℕ) (v : Checked) (e : v
     ≡ readyOf (b .code) tries (b .kinds) (b .words) c (lensOf b) landings) (f : v ≡ Count n) where
-  pub table-there : count (b .code) + 1 ≤ landings
+  pub table-there : chunkCount (b .code) + 1 ≤ landings
   unfolding readyOf
-  table-there = room-met n (roomsOf (tablesOf (triedOf (checkOf (b .code)) tries) (count (b .code)) (b .kinds) (b .words) c (lensOf b)) (b .code) c (lensOf b))
-      7 landings (count (b .code) + 1) (sym f ∙ e) .1
+  table-there = room-met n (roomsOf (tablesOf (triedOf (chunkCheckOf (b .code)) tries) (chunkCount (b .code)) (b .kinds) (b .words) c (lensOf b)) (b .code) c (lensOf b))
+      7 landings (chunkCount (b .code) + 1) (sym f ∙ e) .1
 
-  passed : Held b c × ((j : ℕ) → j < pairs tries → tryKept tries (count (b .code)) j ≡ true)
+  passed : FoldRoom b c × ((j : ℕ) → j < pairs tries → tryKept tries (chunkCount (b .code)) j ≡ true)
   unfolding readyOf roomsOf tablesOf
   passed =
-      let r₇ = room-met n (roomsOf (tablesOf (triedOf (checkOf (b .code)) tries) (count (b .code)) (b .kinds) (b .words) c (lensOf b)) (b .code) c (lensOf b))
-      7 landings (count (b .code) + 1) (sym f ∙ e) in
+      let r₇ = room-met n (roomsOf (tablesOf (triedOf (chunkCheckOf (b .code)) tries) (chunkCount (b .code)) (b .kinds) (b .words) c (lensOf b)) (b .code) c (lensOf b))
+      7 landings (chunkCount (b .code) + 1) (sym f ∙ e) in
       let r₆ = room-met n _ 6 _ _ (sym (r₇ .0)) in
       let r₅ = room-met n _ 5 _ _ (sym (r₆ .0)) in
       let r₄ = room-met n _ 4 _ _ (sym (r₅ .0)) in
@@ -133,7 +133,7 @@ module _ (b : Buffers) (tries : List ℕ) (c : Counts) (landings n : ℕ) (v : C
       let t₃ = table-met n _ 3 _ (sym (t₄ .0)) in
       let t₂ = table-met n _ 2 _ (sym (t₃ .0)) in
       let t₁ = table-met n _ 1 _ (sym (t₂ .0)) in
-      let y = tried-met n (checkOf (b .code)) tries (sym (t₁ .0)) in
+      let y = tried-met n (chunkCheckOf (b .code)) tries (sym (t₁ .0)) in
       let k = check-met n (b .code) (sym (y .0)) in
       let s = pairs-whole (c .sources) (length (b .sources)) (t₃ .1) in
       let p = pairs-whole (c .stmts) (length (b .stmts)) (t₄ .1) in
@@ -146,7 +146,7 @@ module _ (b : Buffers) (tries : List ℕ) (c : Counts) (landings n : ℕ) (v : C
           constants = few (c .constants) (length (b .kinds)) (length (b .words)) i;
           kinds = r₁ .1;
           words = r₂ .1;
-          entries = map-few (count (b .code)) (c .map) (length (b .map)) (t₂ .1);
+          entries = map-few (chunkCount (b .code)) (c .map) (length (b .map)) (t₂ .1);
           map = r₃ .1;
           pairs = pairs-in (c .sources) (tallyOf (b .code) .phis) (s .0);
           sources = r₄ .1;
@@ -158,12 +158,12 @@ module _ (b : Buffers) (tries : List ℕ) (c : Counts) (landings n : ℕ) (v : C
           remap = r₆ .1;
           unmarked = unmarked-of (b .code) n k;
         },
-        kept-tries tries n (count (b .code)) (k .is) (y .1),
+        kept-tries tries n (chunkCount (b .code)) (k .is) (y .1),
       )
 
-  pub held-of : Held b c
+  pub held-of : FoldRoom b c
   held-of = passed .0
 
   -- refusal 4 was not given
-  pub tries-there : (j : ℕ) → j < pairs tries → tryKept tries (count (b .code)) j ≡ true
+  pub tries-there : (j : ℕ) → j < pairs tries → tryKept tries (chunkCount (b .code)) j ≡ true
   tries-there = passed .1

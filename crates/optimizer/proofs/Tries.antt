@@ -12,22 +12,22 @@ use Rattle.laws.specs.All.{every, many}
 use Rattle.laws.proofs.Branch.{and-true}
 use Rattle.code.specs.Rules.{tryKept}
 use Rattle.code.specs.Check.{pairs}
-use Rattle.lent.specs.Chunk.{stride, count, markAt, operandAt, jumps}
+use Rattle.lent.specs.Chunk.{stride, chunkCount, markAt, operandAt, marksJump}
 use Rattle.lent.specs.declared.Counts.{Counts}
 use Rattle.lent.proofs.Counting.{many-none, many-all}
-use Rattle.landings.specs.Landings.{handlerAt, jumpsTo, handledAt, landingsAt, landingsOf}
+use Rattle.landings.specs.Landings.{handlerAt, jumpLands, handlerLands, landingsAt, landingsOf}
 use Rattle.landings.proofs.Asked.{table-long, table-at}
 use Rattle.fold.specs.Plan.{chunk}
 use Rattle.fold.specs.Pass.{Bars, byScan}
 use Rattle.positions.specs.Remap.{alive, live, mapped}
-use Rattle.compact.specs.Tables.{operandOf, compacted}
+use Rattle.compact.specs.Tables.{movedOperand, compacted}
 use Rattle.positions.specs.Moved.{movedAll}
 use Rattle.compact.proofs.Left.{from, mark-left, operand-left, mark-past}
 use Rattle.positions.proofs.Mapped.{map-out, pair-kept, moved-long, moved-at}
 use Rattle.phi_pass.specs.Phi.{marked}
 use Rattle.phi_pass.proofs.Pairs.{marked-length}
 use Rattle.finish.specs.Finish.{Tables, tables, mapOf, sourcesOf, renewed, finished}
-use Rattle.optimizer.specs.Fold.{Buffers, needed, foldPass, constantFold, joined, foldLent, Called, rejoined, foldCall, Exact}
+use Rattle.optimizer.specs.Fold.{Buffers, needed, foldPass, constantFold, joinedBuffers, foldLent, Called, rejoined, foldCall, Exact}
 use Rattle.optimizer.specs.declared.Folded.{Folded}
 use Rattle.optimizer.specs.Fold.{Is}
 use Rattle.optimizer.proofs.Again.{fold-keeps}
@@ -38,26 +38,26 @@ use Rattle.optimizer.proofs.Whole.{pass-kept}
 -- ---- compaction
 
 module _ (dead w tries : List ℕ) (t : ℕ) (a : live dead (length dead) < t) (b : t ≤ length dead) where
-  no-jump : (k : ℕ) → jumpsTo (compacted dead w) t k ≡ false
-  unfolding operandOf
+  no-jump : (k : ℕ) → jumpLands (compacted dead w) t k ≡ false
+  unfolding movedOperand
   no-jump k = go (ltb k (live dead (length dead))) refl
     where
-      go : (s : Bool) → ltb k (live dead (length dead)) ≡ s → jumpsTo (compacted dead w) t k ≡ false
+      go : (s : Bool) → ltb k (live dead (length dead)) ≡ s → jumpLands (compacted dead w) t k ≡ false
       go true e =
           let f = from dead (length dead) k (ltb-true k (live dead (length dead)) e) in
           let m : markAt (compacted dead w) (live dead (f .place)) ≡ markAt w (f .place) = mark-left dead w (f .place) (f .below) (f .lives) in
-          let o : operandAt (compacted dead w) (live dead (f .place)) ≡ operandOf dead w (f .place) = operand-left dead w (f .place) (f .below) (f .lives) in
+          let o : operandAt (compacted dead w) (live dead (f .place)) ≡ movedOperand dead w (f .place) = operand-left dead w (f .place) (f .below) (f .lives) in
           rw (← (f .is), m, o) (at (f .place))
         where
-          at : (j : ℕ) → jumps w j && eqb (operandOf dead w j) t ≡ false
-          at j = by (jumps w j)
+          at : (j : ℕ) → marksJump w j && eqb (movedOperand dead w j) t ≡ false
+          at j = by (marksJump w j)
             where
               by : (y : Bool) → y && eqb (cond y (mapped dead (operandAt w j)) (operandAt w j)) t ≡ false
               by true = ne-eqb (mapped dead (operandAt w j)) t (map-out dead (operandAt w j) t a b)
               by false = refl
       go false e = rw (mark-past dead w k (ltb-false k (live dead (length dead)) e)) refl
 
-  no-handler : (j : ℕ) → j < length tries / 2 → handledAt (movedAll dead tries) t j ≡ false
+  no-handler : (j : ℕ) → j < length tries / 2 → handlerLands (movedAll dead tries) t j ≡ false
   no-handler j h = rw (moved-at dead tries (2 * j + 1) (omega arith)) (ne-eqb (mapped dead (handlerAt tries j)) t (map-out dead (handlerAt tries j) t a b))
 
   -- nothing lands between the new end and the old one
@@ -65,9 +65,9 @@ module _ (dead w tries : List ℕ) (t : ℕ) (a : live dead (length dead) < t) (
   unfolding landingsAt
   none-past =
       rw (
-        many-none (jumpsTo (compacted dead w) t) (count (compacted dead w)) (λ k h. no-jump k),
+        many-none (jumpLands (compacted dead w) t) (chunkCount (compacted dead w)) (λ k h. no-jump k),
         moved-long dead tries,
-        many-none (handledAt (movedAll dead tries) t) (length tries / 2) no-handler,
+        many-none (handlerLands (movedAll dead tries) t) (length tries / 2) no-handler,
       ) refl
 
 -- ---- after the Phi pass
@@ -151,35 +151,35 @@ module _ (strict : Bool) (b : Buffers) (tries landings : List ℕ) (c : Counts) 
   abbrev d : List ℕ
   d = constantFold bars (needed b c) c .after .dead
 
-  n-long : length d ≡ count (b .code)
-  n-long = fold-long bars (needed b c) c (told .exact) ∙ length-take-le (count (b .code)) (b .dead) (told .held .dead)
+  n-long : length d ≡ chunkCount (b .code)
+  n-long = fold-long bars (needed b c) c (told .exact) ∙ length-take-le (chunkCount (b .code)) (b .dead) (told .held .dead)
 
   n-left : f .instructions ≡ live d (length d)
   n-left = ap (λ (g : Folded). g .instructions) (sym (told .counts)) ∙ fold-left bars (needed b c) c (told .exact)
 
-  n-code : count w ≡ count (b .code)
+  n-code : chunkCount w ≡ chunkCount (b .code)
   n-code =
-      let l = length-take-le (count (b .code)) (b .dead) (told .held .dead) in
+      let l = length-take-le (chunkCount (b .code)) (b .dead) (told .held .dead) in
       ap (λ (m : ℕ). m / stride) (fold-keeps bars (needed b c) c (omega arith) (omega (arith, told .held .whole)) .long)
 
   -- entry k counts what lands on k in the chunk that is left
-  pub table-after : (k : ℕ) → k ≤ count (b .code) → getD (call .landings) k 0 ≡ landingsAt (call .result .after .code) (call .tries) k
-  unfolding rejoined joined foldLent
+  pub table-after : (k : ℕ) → k ≤ chunkCount (b .code) → getD (call .landings) k 0 ≡ landingsAt (call .result .after .code) (call .tries) k
+  unfolding rejoined joinedBuffers foldLent
   table-after k h =
       rw (told .is)
-      (List·getD-append (landingsOf w (movedAll d tries)) (drop (count (b .code) + 1) landings) 0 k (omega (arith, n-code, table-long w (movedAll d tries)))
+      (List·getD-append (landingsOf w (movedAll d tries)) (drop (chunkCount (b .code) + 1) landings) 0 k (omega (arith, n-code, table-long w (movedAll d tries)))
       ∙ table-at w (movedAll d tries) k (omega (arith, n-code)))
 
   -- past the new end it is 0
-  pub past-none : (k : ℕ) → f .instructions < k → k ≤ count (b .code) → getD (call .landings) k 0 ≡ 0
-  unfolding rejoined joined foldLent
+  pub past-none : (k : ℕ) → f .instructions < k → k ≤ chunkCount (b .code) → getD (call .landings) k 0 ≡ 0
+  unfolding rejoined joinedBuffers foldLent
   past-none k a h = table-after k h ∙ rw (told .is) (fold-past bars (needed b c) c (told .exact) tries k (omega (arith, n-left)) (omega (arith, n-long)))
 
   -- each try keeps its rule in the chunk that is left, so it can be lent again
   pub tries-kept : (j : ℕ) → j < pairs tries → tryKept (call .tries) (f .instructions) j ≡ true
   unfolding tryKept rejoined foldLent
   tries-kept j h =
-      let p = and-true (ltb (2 * j + 1) (length tries)) (leb (getD tries (2 * j) 0) (min (getD tries (2 * j + 1) 0) (count (b .code)))) (told .tried j h) in
+      let p = and-true (ltb (2 * j + 1) (length tries)) (leb (getD tries (2 * j) 0) (min (getD tries (2 * j + 1) 0) (chunkCount (b .code)))) (told .tried j h) in
       let l = ltb-true (2 * j + 1) (length tries) (p .0) in
       let m : getD tries (2 * j) 0 ≤ min (getD tries (2 * j + 1) 0) (length d) = rw n-long (leb-true _ _ (p .1)) in
       rw (

@@ -1,4 +1,4 @@
--- Laws of `constantFold`, `joined` and `foldCall`, from what the parts ensure. Assumes nothing.
+-- Laws of `constantFold`, `joinedBuffers` and `foldCall`, from what the parts ensure. Assumes nothing.
 use Prim.Native.Nat.{ℕ, zero, suc, _+_, _-_, _*_, _%_, _^_, _≤_, _<_, max}
 use native.Mathlib.Omega.{arith}
 use mathlib.Core.Path.{_≡_, refl, sym, ap, _∙_, subst}
@@ -18,13 +18,13 @@ use Rattle.code.specs.declared.Refusal.{Refusal}
 use Rattle.code.specs.declared.Checked.{Checked}
 use Rattle.code.specs.declared.Checked.the-variants.{Count, No as Refused}
 use Rattle.code.proofs.Answers.{refused, told}
-use Rattle.lent.specs.Chunk.{stride, count, opAt, folds, isPhi}
+use Rattle.lent.specs.Chunk.{stride, chunkCount, opAt, folds, isPhi}
 use Rattle.lent.specs.Check.{constantRoom, sourceRoom, tallyOf, readyOf}
 use Rattle.lent.specs.declared.Counts.{Counts}
 use Rattle.lent.specs.declared.Tally.{Tally}
 use Rattle.fold.specs.Plan.{Chunk, chunk}
 use Rattle.landings.specs.Landings.{landingsOf, Unmarked}
-use Rattle.fold.specs.Pass.{Bars, byScan, byTable, foldAll, Lent}
+use Rattle.fold.specs.Pass.{Bars, byScan, byTable, foldAll, PassRoom}
 use Rattle.fold.proofs.Landed.{same-folds}
 use Rattle.positions.specs.Remap.{alive, live, Remap, mapped}
 use Rattle.positions.specs.Moved.{movedAll}
@@ -32,8 +32,8 @@ use Rattle.positions.proofs.Moves.{remap-of}
 use Rattle.positions.proofs.Mapped.{none-moved}
 use Rattle.phi_pass.specs.Phi.{marked}
 use Rattle.fold.proofs.Passed.{Passed, all-passed}
-use Rattle.finish.specs.Finish.{Tables, tables, mapOf, sourcesOf, renewed, finished, Fit}
-use Rattle.optimizer.specs.Fold.{Buffers, buffers, lensOf, needed, sourcesNeeded, Outcome, outcome, constantFold, foldPass, joined, Settled, settled, foldLent, Called, called, rejoined, foldCall, Held, Exact, Mapped}
+use Rattle.finish.specs.Finish.{Tables, tables, mapOf, sourcesOf, renewed, finished, TableRoom}
+use Rattle.optimizer.specs.Fold.{Buffers, buffers, lensOf, needed, sourcesNeeded, FoldOutcome, foldOutcome, constantFold, foldPass, joinedBuffers, Settled, settled, foldLent, Called, called, rejoined, foldCall, FoldRoom, Exact, Mapped}
 use Rattle.finish.specs.declared.Left.{Left}
 use Rattle.optimizer.specs.declared.Folded.{Folded}
 use Rattle.optimizer.specs.Fold.{FoldAnswer}
@@ -48,7 +48,7 @@ pub pass-is : (bars : Bars) (code dead kinds words marks : List ℕ) (k : ℕ) (
 unfolding foldPass
 pass-is bars code dead kinds words marks k t e f = rw (← e) f
 
-pub pass-kept : (bars : Bars) (s t : Chunk) → count (s .code) ≤ length (s .dead) → t ≡ foldPass bars s
+pub pass-kept : (bars : Bars) (s t : Chunk) → chunkCount (s .code) ≤ length (s .dead) → t ≡ foldPass bars s
     → Passed (chunk (s .code) (replicate (length (s .dead)) 0) (s .kinds) (s .words) (s .constants)) t
 unfolding foldPass
 pass-kept bars s t h e =
@@ -58,19 +58,19 @@ pass-kept bars s t h e =
 -- the words of phi_sources
 pub few-phis : (w : List ℕ) (t : Tally) → t ≡ tallyOf w → length w < 2 ^ 64 → t .phis < 2 ^ 63
 unfolding tallyOf
-few-phis w t e h = rw e (omega (arith, many-few (isPhi w) (count w)))
+few-phis w t e h = rw e (omega (arith, many-few (isPhi w) (chunkCount w)))
 
 pub room-of : (w : List ℕ) (t : Tally) (s r : ℕ) → t ≡ tallyOf w → r ≡ sourceRoom s (t .phis) → r ≡ sourceRoom s (tallyOf w .phis)
 room-of w t s r e f = f ∙ ap (λ (x : Tally). sourceRoom s (x .phis)) e
 
 module _ (code kinds words map sources stmts calls dead remap : List ℕ) (c : Counts) where
   -- folding has its room
-  pub lent-of : Exact (buffers code kinds words map sources stmts calls dead remap) c → Lent (chunk code dead kinds words (c .constants))
+  pub lent-of : Exact (buffers code kinds words map sources stmts calls dead remap) c → PassRoom (chunk code dead kinds words (c .constants))
   lent-of x = let z = x .whole in record { few = x .constants; marks = omega arith; kinds-room = x .kinds; words-room = x .words }
 
   pub fit-of : (bars : Bars) (code′ dead′ kinds′ words′ : List ℕ) (k : ℕ) → Exact (buffers code kinds words map sources stmts calls dead remap) c
       → chunk code′ dead′ kinds′ words′ k ≡ foldPass bars (chunk code dead kinds words (c .constants))
-      → Fit (tables code′ map sources stmts calls dead′ remap (record { instructions = length dead; map = c .map; sources = c .sources }))
+      → TableRoom (tables code′ map sources stmts calls dead′ remap (record { instructions = length dead; map = c .map; sources = c .sources }))
   fit-of bars code′ dead′ kinds′ words′ k x e =
       let w = x .whole in
       let s = x .pairs in
@@ -93,19 +93,19 @@ module _ (code kinds words map sources stmts calls dead remap : List ℕ) (c : C
       → chunk code′ dead′ kinds′ words′ k ≡ foldPass bars (chunk code dead kinds words (c .constants))
       → tables code″ map″ sources″ stmts″ calls″ dead″ remap″ left
       ≡ finished (tables code′ map sources stmts calls dead′ remap (record { instructions = length dead; map = c .map; sources = c .sources }))
-      → outcome (record { instructions = left .instructions; constants = k; map = left .map; sources = left .sources })
+      → foldOutcome (record { instructions = left .instructions; constants = k; map = left .map; sources = left .sources })
       (buffers code″ kinds′ words′ map″ sources″ stmts″ calls″ dead″ remap″)
       ≡ constantFold bars (buffers code kinds words map sources stmts calls dead remap) c
   unfolding constantFold
   folds-all bars code′ dead′ kinds′ words′ k code″ map″ sources″ stmts″ calls″ dead″ remap″ left p g = rw (← p, ← g)
 
   -- each buffer as far as it is needed
-  pub exact-of : (r : ℕ) → r ≡ sourceRoom (c .sources) (tallyOf code .phis) → Held (buffers code kinds words map sources stmts calls dead remap) c
-      → Exact (buffers code kinds words (take (count code) map) (take r sources) (take (c .stmts) stmts) (take (c .calls) calls) (take (count code) dead)
-      (take (count code + 1) remap)) c
+  pub exact-of : (r : ℕ) → r ≡ sourceRoom (c .sources) (tallyOf code .phis) → FoldRoom (buffers code kinds words map sources stmts calls dead remap) c
+      → Exact (buffers code kinds words (take (chunkCount code) map) (take r sources) (take (c .stmts) stmts) (take (c .calls) calls) (take (chunkCount code) dead)
+      (take (chunkCount code + 1) remap)) c
   unfolding tallyOf
   exact-of r e h =
-      let n = count code in
+      let n = chunkCount code in
       let room = sourcesNeeded (buffers code kinds words map sources stmts calls dead remap) c in
       let d : length (take n dead) ≡ n = length-take-le n dead (h .dead) in
       let m : length (take n map) ≡ n = length-take-le n map (h .map) in
@@ -138,15 +138,15 @@ module _ (code kinds words map sources stmts calls dead remap : List ℕ) (c : C
     pub lends : (l₁ : List ℕ) (a : Folded) (code′ kinds′ words′ map′ sources′ stmts′ calls′ dead′ remap′ tries′ l₂ : List ℕ)
         → Exact (buffers code kinds words map sources stmts calls dead remap) c
         → l₁ ≡ landingsOf code tries
-        → outcome a (buffers code′ kinds′ words′ map′ sources′ stmts′ calls′ dead′ remap′)
+        → foldOutcome a (buffers code′ kinds′ words′ map′ sources′ stmts′ calls′ dead′ remap′)
         ≡ constantFold (byTable strict l₁) (buffers code kinds words map sources stmts calls dead remap) c
         → tries′ ≡ movedAll dead′ tries
         → l₂ ≡ landingsOf code′ tries′
-        → settled (outcome a (buffers code′ kinds′ words′ map′ sources′ stmts′ calls′ dead′ remap′)) tries′ l₂
+        → settled (foldOutcome a (buffers code′ kinds′ words′ map′ sources′ stmts′ calls′ dead′ remap′)) tries′ l₂
         ≡ foldLent strict tries (buffers code kinds words map sources stmts calls dead remap) c
     unfolding foldLent
     lends l₁ a code′ kinds′ words′ map′ sources′ stmts′ calls′ dead′ remap′ tries′ l₂ x e f g h =
-        let z : outcome a (buffers code′ kinds′ words′ map′ sources′ stmts′ calls′ dead′ remap′)
+        let z : foldOutcome a (buffers code′ kinds′ words′ map′ sources′ stmts′ calls′ dead′ remap′)
         ≡ constantFold (byScan strict tries) (buffers code kinds words map sources stmts calls dead remap) c =
         f ∙ ap (λ (l : List ℕ). constantFold (byTable strict l) (buffers code kinds words map sources stmts calls dead remap) c) e ∙ by-scan (x .unmarked) in
         rw (← z, h, g) refl
@@ -154,19 +154,19 @@ module _ (code kinds words map sources stmts calls dead remap : List ℕ) (c : C
   pub joins : (strict : Bool) (tries landings : List ℕ) (r : ℕ) (a : Folded) (code′ kinds′ words′ map′ sources′ stmts′ calls′ dead′ remap′ tries′
       landings′ : List ℕ)
       → r ≡ sourceRoom (c .sources) (tallyOf code .phis)
-      → settled (outcome a (buffers code′ kinds′ words′ map′ sources′ stmts′ calls′ dead′ remap′)) tries′ landings′
+      → settled (foldOutcome a (buffers code′ kinds′ words′ map′ sources′ stmts′ calls′ dead′ remap′)) tries′ landings′
       ≡ foldLent strict tries
-      (buffers code kinds words (take (count code) map) (take r sources) (take (c .stmts) stmts) (take (c .calls) calls) (take (count code) dead)
-      (take (count code + 1) remap)) c
+      (buffers code kinds words (take (chunkCount code) map) (take r sources) (take (c .stmts) stmts) (take (c .calls) calls) (take (chunkCount code) dead)
+      (take (chunkCount code + 1) remap)) c
       → called
-      (outcome (Is a)
-      (buffers code′ kinds′ words′ (map′ ++ drop (count code) map) (sources′ ++ drop r sources) (stmts′ ++ drop (c .stmts) stmts)
+      (foldOutcome (Is a)
+      (buffers code′ kinds′ words′ (map′ ++ drop (chunkCount code) map) (sources′ ++ drop r sources) (stmts′ ++ drop (c .stmts) stmts)
       (calls′ ++ drop (c .calls) calls)
-      (dead′ ++ drop (count code) dead) (remap′ ++ drop (count code + 1) remap)))
-      tries′ (landings′ ++ drop (count code + 1) landings)
+      (dead′ ++ drop (chunkCount code) dead) (remap′ ++ drop (chunkCount code + 1) remap)))
+      tries′ (landings′ ++ drop (chunkCount code + 1) landings)
       ≡ rejoined (buffers code kinds words map sources stmts calls dead remap) landings c
       (foldLent strict tries (needed (buffers code kinds words map sources stmts calls dead remap) c) c)
-  unfolding rejoined joined
+  unfolding rejoined joinedBuffers
   joins strict tries landings r a code′ kinds′ words′ map′ sources′ stmts′ calls′ dead′ remap′ tries′ landings′ e f = rw (← e, ← f)
 
 -- remap is filled where something died
@@ -198,14 +198,14 @@ module _ (dead : List ℕ) (t : Bool) (e : t ≡ every (alive dead) (length dead
 -- the call: a refusal leaves all that is lent as it is
 module _ (strict : Bool) (b : Buffers) (tries landings : List ℕ) (c : Counts) (v : Checked)
     (e : v ≡ readyOf (b .code) tries (b .kinds) (b .words) c (lensOf b) (length landings)) where
-  pub refused-by : (r : Refusal) → v ≡ Refused r → called (outcome (No r) b) tries landings ≡ foldCall strict b tries landings c
+  pub refused-by : (r : Refusal) → v ≡ Refused r → called (foldOutcome (No r) b) tries landings ≡ foldCall strict b tries landings c
   unfolding foldCall
   refused-by r h =
-      refused v (readyOf (b .code) tries (b .kinds) (b .words) c (lensOf b) (length landings)) e (λ q. called (outcome (No q) b) tries landings)
-      (rejoined b landings c (foldLent strict tries (needed b c) c)) r (called (outcome (No r) b) tries landings) h refl
+      refused v (readyOf (b .code) tries (b .kinds) (b .words) c (lensOf b) (length landings)) e (λ q. called (foldOutcome (No q) b) tries landings)
+      (rejoined b landings c (foldLent strict tries (needed b c) c)) r (called (foldOutcome (No r) b) tries landings) h refl
 
   pub told-by : (n : ℕ) (o : Called) → v ≡ Count n → o ≡ rejoined b landings c (foldLent strict tries (needed b c) c) → o ≡ foldCall strict b tries landings c
   unfolding foldCall
   told-by n o h z =
-      told v (readyOf (b .code) tries (b .kinds) (b .words) c (lensOf b) (length landings)) e (λ q. called (outcome (No q) b) tries landings)
+      told v (readyOf (b .code) tries (b .kinds) (b .words) c (lensOf b) (length landings)) e (λ q. called (foldOutcome (No q) b) tries landings)
       (rejoined b landings c (foldLent strict tries (needed b c) c)) n o h z

@@ -7,7 +7,7 @@ use lib.ListN.{length, take, drop, replicate}
 use Rattle.laws.specs.All.{every, many}
 use Rattle.code.specs.Answers.{asked}
 use Rattle.code.specs.declared.Refusal.{Refusal}
-use Rattle.lent.specs.Chunk.{stride, count, opAt, folds, isPhi}
+use Rattle.lent.specs.Chunk.{stride, chunkCount, opAt, folds, isPhi}
 use Rattle.lent.specs.Check.{constantRoom, sourceRoom, tallyOf, readyOf}
 use Rattle.lent.specs.declared.Counts.{Counts}
 use Rattle.lent.specs.declared.Lens.{Lens}
@@ -60,25 +60,25 @@ sourcesNeeded b c = sourceRoom (c .sources) (tallyOf (b .code) .phis)
 -- the buffers, each as far as it is needed; the constants are whole
 abbrev pub needed : Buffers → Counts → Buffers
 needed b c =
-    buffers (b .code) (b .kinds) (b .words) (take (count (b .code)) (b .map)) (take (sourcesNeeded b c) (b .sources)) (take (c .stmts) (b .stmts))
+    buffers (b .code) (b .kinds) (b .words) (take (chunkCount (b .code)) (b .map)) (take (sourcesNeeded b c) (b .sources)) (take (c .stmts) (b .stmts))
     (take (c .calls) (b .calls))
-    (take (count (b .code)) (b .dead)) (take (count (b .code) + 1) (b .remap))
+    (take (chunkCount (b .code)) (b .dead)) (take (chunkCount (b .code) + 1) (b .remap))
 
 -- an answer's counts with what the buffers hold
-pub record Outcome (A : Type 0) : Type 0 where
+pub record FoldOutcome (A : Type 0) : Type 0 where
   pub answer : A
   pub after : Buffers
 
 module _ {A : Type 0} where
-  abbrev pub outcome : A → Buffers → Outcome A
-  outcome a b = record { answer = a; after = b }
+  abbrev pub foldOutcome : A → Buffers → FoldOutcome A
+  foldOutcome a b = record { answer = a; after = b }
 
 -- the pass over a chunk, from marks that are all 0
 unfoldable pub foldPass : Bars → Chunk → Chunk
 foldPass bars s = foldAll bars (chunk (s .code) (replicate (length (s .dead)) 0) (s .kinds) (s .words) (s .constants))
 
 -- folding, then the Phi pass and compaction, over buffers that are as long as needed
-unfoldable pub constantFold : Bars → Buffers → Counts → Outcome Folded
+unfoldable pub constantFold : Bars → Buffers → Counts → FoldOutcome Folded
 constantFold bars b c =
     let f = foldPass bars (chunk (b .code) (b .dead) (b .kinds) (b .words) (c .constants)) in
     let t =
@@ -86,26 +86,26 @@ constantFold bars b c =
     (tables (f .code) (b .map) (b .sources) (b .stmts) (b .calls) (f .dead) (b .remap)
     (record { instructions = length (b .dead); map = c .map; sources = c .sources }))
     in
-    outcome
+    foldOutcome
     (record { instructions = t .left .instructions; constants = f .constants; map = t .left .map; sources = t .left .sources })
     (buffers (t .code) (f .kinds) (f .words) (t .map) (t .sources) (t .stmts) (t .calls) (t .dead) (t .remap))
 
 -- words past a needed length are never touched
-unfoldable pub joined : Buffers → Counts → Outcome Folded → Outcome FoldAnswer
-joined b c o =
+unfoldable pub joinedBuffers : Buffers → Counts → FoldOutcome Folded → FoldOutcome FoldAnswer
+joinedBuffers b c o =
     let a = o .after in
-    outcome (Is (o .answer))
-    (buffers (a .code) (a .kinds) (a .words) (a .map ++ drop (count (b .code)) (b .map)) (a .sources ++ drop (sourcesNeeded b c) (b .sources))
-    (a .stmts ++ drop (c .stmts) (b .stmts)) (a .calls ++ drop (c .calls) (b .calls)) (a .dead ++ drop (count (b .code)) (b .dead))
-    (a .remap ++ drop (count (b .code) + 1) (b .remap)))
+    foldOutcome (Is (o .answer))
+    (buffers (a .code) (a .kinds) (a .words) (a .map ++ drop (chunkCount (b .code)) (b .map)) (a .sources ++ drop (sourcesNeeded b c) (b .sources))
+    (a .stmts ++ drop (c .stmts) (b .stmts)) (a .calls ++ drop (c .calls) (b .calls)) (a .dead ++ drop (chunkCount (b .code)) (b .dead))
+    (a .remap ++ drop (chunkCount (b .code) + 1) (b .remap)))
 
 -- a fold with the tries and the table of landings after it
 pub record Settled : Type 0 where
-  pub fold : Outcome Folded
+  pub fold : FoldOutcome Folded
   pub tries : List ℕ
   pub landings : List ℕ
 
-abbrev pub settled : Outcome Folded → List ℕ → List ℕ → Settled
+abbrev pub settled : FoldOutcome Folded → List ℕ → List ℕ → Settled
 settled o tries landings = record { fold = o; tries = tries; landings = landings }
 
 -- no fold over a landing in strict mode; then the tries follow, and the table counts what lands in the chunk that is left
@@ -117,39 +117,39 @@ foldLent strict tries b c =
 
 -- the call's answer, and what all that is lent holds then
 pub record Called : Type 0 where
-  pub result : Outcome FoldAnswer
+  pub result : FoldOutcome FoldAnswer
   pub tries : List ℕ
   pub landings : List ℕ
 
-abbrev pub called : Outcome FoldAnswer → List ℕ → List ℕ → Called
+abbrev pub called : FoldOutcome FoldAnswer → List ℕ → List ℕ → Called
 called o tries landings = record { result = o; tries = tries; landings = landings }
 
 unfoldable pub rejoined : Buffers → List ℕ → Counts → Settled → Called
-rejoined b landings c s = called (joined b c (s .fold)) (s .tries) (s .landings ++ drop (count (b .code) + 1) landings)
+rejoined b landings c s = called (joinedBuffers b c (s .fold)) (s .tries) (s .landings ++ drop (chunkCount (b .code) + 1) landings)
 
 -- refusals 1, 2, 4, 7 and 5, which leave all that is lent untouched; else the fold
 unfoldable pub foldCall : Bool → Buffers → List ℕ → List ℕ → Counts → Called
 foldCall strict b tries landings c =
-    asked (readyOf (b .code) tries (b .kinds) (b .words) c (lensOf b) (length landings)) (λ r. called (outcome (No r) b) tries landings)
+    asked (readyOf (b .code) tries (b .kinds) (b .words) c (lensOf b) (length landings)) (λ r. called (foldOutcome (No r) b) tries landings)
     (rejoined b landings c (foldLent strict tries (needed b c) c))
 
 -- what the tests leave of the buffers
-pub record Held (b : Buffers) (c : Counts) : Type 0 where
-  pub whole : length (b .code) ≡ stride * count (b .code)
-  pub few : count (b .code) ≤ 65535
+pub record FoldRoom (b : Buffers) (c : Counts) : Type 0 where
+  pub whole : length (b .code) ≡ stride * chunkCount (b .code)
+  pub few : chunkCount (b .code) ≤ 65535
   pub constants : c .constants ≤ 65536
   pub kinds : constantRoom (c .constants) (tallyOf (b .code) .folding) ≤ length (b .kinds)
   pub words : constantRoom (c .constants) (tallyOf (b .code) .folding) ≤ length (b .words)
-  pub entries : c .map ≤ count (b .code)
-  pub map : count (b .code) ≤ length (b .map)
+  pub entries : c .map ≤ chunkCount (b .code)
+  pub map : chunkCount (b .code) ≤ length (b .map)
   pub pairs : c .sources ≤ sourcesNeeded b c
   pub sources : sourcesNeeded b c ≤ length (b .sources)
   pub stmt-pairs : c .stmts % 2 ≡ 0
   pub stmts : c .stmts ≤ length (b .stmts)
   pub call-pairs : c .calls % 2 ≡ 0
   pub calls : c .calls ≤ length (b .calls)
-  pub dead : count (b .code) ≤ length (b .dead)
-  pub remap : count (b .code) + 1 ≤ length (b .remap)
+  pub dead : chunkCount (b .code) ≤ length (b .dead)
+  pub remap : chunkCount (b .code) + 1 ≤ length (b .remap)
   pub unmarked : Unmarked (b .code)
 
 -- the same of buffers that are as long as needed
@@ -157,8 +157,8 @@ pub record Exact (b : Buffers) (c : Counts) : Type 0 where
   pub whole : length (b .code) ≡ stride * length (b .dead)
   pub few : length (b .dead) ≤ 65535
   pub constants : c .constants ≤ 65536
-  pub kinds : constantRoom (c .constants) (many (λ k. folds (opAt (b .code) k)) (count (b .code))) ≤ length (b .kinds)
-  pub words : constantRoom (c .constants) (many (λ k. folds (opAt (b .code) k)) (count (b .code))) ≤ length (b .words)
+  pub kinds : constantRoom (c .constants) (many (λ k. folds (opAt (b .code) k)) (chunkCount (b .code))) ≤ length (b .kinds)
+  pub words : constantRoom (c .constants) (many (λ k. folds (opAt (b .code) k)) (chunkCount (b .code))) ≤ length (b .words)
   pub map : length (b .map) ≡ length (b .dead)
   pub entries : c .map ≤ length (b .map)
   pub sources : c .sources ≤ length (b .sources)

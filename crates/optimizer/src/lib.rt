@@ -2,11 +2,11 @@
 ghost use mathlib.Core.Path.{_≡_};
 ghost use Prim.Native.Nat.{_+_, _≤_};
 ghost use lib.ListN.{length, replicate};
-ghost use Rattle.lent.specs.Chunk.{count};
+ghost use Rattle.lent.specs.Chunk.{chunkCount};
 ghost use Rattle.fold.specs.Plan.{chunk};
-ghost use Rattle.fold.specs.Pass.{Lent, byTable};
+ghost use Rattle.fold.specs.Pass.{PassRoom, byTable};
 ghost use Rattle.positions.specs.Moved.{movedAll};
-ghost use Rattle.optimizer.specs.Fold.{buffers, outcome, settled, foldLent, foldPass, Exact, Mapped};
+ghost use Rattle.optimizer.specs.Fold.{buffers, foldOutcome, settled, foldLent, foldPass, Exact, Mapped};
 use finish::Left;
 use lent::Counts;
 
@@ -39,7 +39,7 @@ fn fold_pass(
     landings: &[u64],
     strict: bool,
 ) -> usize
-    requires { ⌜ Lent (chunk (now code) (now dead) (now kinds) (now words) constants) × (count (now code) ≤ length (now landings)) ⌝ }
+    requires { ⌜ PassRoom (chunk (now code) (now dead) (now kinds) (now words) constants) × (chunkCount (now code) ≤ length (now landings)) ⌝ }
     ensures { λ r. ⌜ chunk (now (code .exit)) (now (dead .exit)) (now (kinds .exit)) (now (words .exit)) r
         ≡ foldPass (byTable strict (now (landings .entry))) (chunk (now (code .entry)) (now (dead .entry)) (now (kinds .entry)) (now (words .entry))
         constants) ⌝ }
@@ -77,8 +77,8 @@ pub fn constant_fold(
     strict: bool,
 ) -> Folded
     requires { ⌜ Exact (buffers (now code) (now kinds) (now words) (now «phi_map») (now «phi_sources») (now «stmt_pos») (now «call_byte_pos») (now dead)
-        (now remap)) counts × (length (now landings) ≡ count (now code) + 1) ⌝ }
-    ensures { λ r. ⌜ settled (outcome r (buffers (now (code .exit)) (now (kinds .exit)) (now (words .exit)) (now («phi_map» .exit)) (now («phi_sources» .exit))
+        (now remap)) counts × (length (now landings) ≡ chunkCount (now code) + 1) ⌝ }
+    ensures { λ r. ⌜ settled (foldOutcome r (buffers (now (code .exit)) (now (kinds .exit)) (now (words .exit)) (now («phi_map» .exit)) (now («phi_sources» .exit))
         (now («stmt_pos» .exit)) (now («call_byte_pos» .exit)) (now (dead .exit)) (now (remap .exit)))) (now (tries .exit)) (now (landings .exit))
         ≡ foldLent strict (now (tries .entry)) (buffers (now (code .entry)) (now (kinds .entry)) (now (words .entry)) (now («phi_map» .entry))
         (now («phi_sources» .entry)) (now («stmt_pos» .entry)) (now («call_byte_pos» .entry)) (now (dead .entry)) (now (remap .entry))) counts ⌝ }

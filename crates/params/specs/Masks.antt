@@ -17,12 +17,12 @@ unfoldable pub writesAt : List ℕ → ℕ → ℕ → Bool
 writesAt w r k = writes (insAt w k) r
 
 -- some instruction writes r
-unfoldable pub written : List ℕ → ℕ → Bool
-written w r = some (writesAt w r) (count w)
+unfoldable pub writtenIn : List ℕ → ℕ → Bool
+writtenIn w r = some (writesAt w r) (count w)
 
 -- `params_written`: bit r, for r below min(arity, 64), is set where some instruction writes r
 unfoldable pub paramsWritten : List ℕ → ℕ → ℕ
-paramsWritten w arity = mask (written w) (min arity 64)
+paramsWritten w arity = mask (writtenIn w) (min arity 64)
 
 -- how many arguments the call c has, a method's receiver too
 unfoldable pub arguments : Ins → ℕ

@@ -6,7 +6,7 @@ ghost use mir.Val.{boolByte};
 ghost use Rattle.code.specs.Check.{Whole};
 ghost use Rattle.roles.specs.Roles.{roleTable};
 ghost use Rattle.params.specs.Answers.{writtenAnswer, passedAnswer};
-ghost use Rattle.params.specs.Masks.{written, paramsWritten, arguments, keeps, passedIn, passedAt};
+ghost use Rattle.params.specs.Masks.{writtenIn, paramsWritten, arguments, keeps, passedIn, passedAt};
 use code::Answer;
 use code::Checked;
 use code::Ins;
@@ -52,7 +52,7 @@ fn bit(b: bool, v: u64) -> u64
 // Whether some instruction writes r.
 fn any_writes(roles: &[u8; 1280], code: &[u16], r: u16) -> bool
     requires { ⌜ (now roles ≡ roleTable) × Whole (now code) ⌝ }
-    ensures { λ b. ⌜ b ≡ written (now (code .entry)) r ⌝ }
+    ensures { λ b. ⌜ b ≡ writtenIn (now (code .entry)) r ⌝ }
 {
     let n = code.len() / 6;
     let mut k = 0;

@@ -8,10 +8,10 @@ use values::Val;
 ghost use mathlib.Core.Path.{_≡_};
 ghost use Prim.Native.Nat.{_≤_, _<_};
 ghost use lib.ListN.{length};
-ghost use Rattle.lent.specs.Chunk.{count};
-ghost use Rattle.chunk.specs.Pool.{Room, findOrPushConst};
+ghost use Rattle.lent.specs.Chunk.{chunkCount};
+ghost use Rattle.chunk.specs.Pool.{PushRoom, findOrPushConst};
 ghost use Rattle.fold.specs.Plan.{chunk, after};
-ghost use Rattle.fold.specs.Pass.{loading, fromPool, constLoad, markOf, put, applied, tryFold, byTable, foldAll, Ready, Lent};
+ghost use Rattle.fold.specs.Pass.{loading, fromPool, constLoad, markOf, put, applied, tryFold, byTable, foldAll, OperatorRoom, PassRoom};
 
 // The pass over a chunk, which asks each count of landings once. Answers the new count of constants.
 pub fn fold_all(
@@ -23,8 +23,8 @@ pub fn fold_all(
     landings: &[u64],
     strict: bool,
 ) -> usize
-    requires { ⌜ Lent (chunk (now code) (now dead) (now kinds) (now words) constants) ⌝ }
-    requires { ⌜ count (now code) ≤ length (now landings) ⌝ }
+    requires { ⌜ PassRoom (chunk (now code) (now dead) (now kinds) (now words) constants) ⌝ }
+    requires { ⌜ chunkCount (now code) ≤ length (now landings) ⌝ }
     ensures { λ r. ⌜ chunk (now (code .exit)) (now (dead .exit)) (now (kinds .exit)) (now (words .exit)) r ≡ foldAll (byTable strict (now (landings .entry))) (chunk (now (code .entry)) (now (dead .entry)) (now (kinds .entry)) (now (words .entry)) constants) ⌝ }
 {
     let n = code.len() / STRIDE;
@@ -49,7 +49,7 @@ fn try_fold(
     last: usize,
     ip: usize,
 ) -> usize
-    requires { ⌜ Ready (chunk (now code) (now dead) (now kinds) (now words) constants) ip ⌝ }
+    requires { ⌜ OperatorRoom (chunk (now code) (now dead) (now kinds) (now words) constants) ip ⌝ }
     ensures { λ r. ⌜ chunk (now (code .exit)) (now (dead .exit)) (now (kinds .exit)) (now (words .exit)) r ≡ tryFold (after last) ip (chunk (now (code .entry)) (now (dead .entry)) (now (kinds .entry)) (now (words .entry)) constants) ⌝ }
 {
     if dead[ip] != 0 {
@@ -73,7 +73,7 @@ fn apply(
     ip: usize,
     v: Val,
 ) -> usize
-    requires { ⌜ (p < count (now code)) × (q < length (now dead)) × (ip < length (now dead)) × Room (now kinds) (now words) constants ⌝ }
+    requires { ⌜ (p < chunkCount (now code)) × (q < length (now dead)) × (ip < length (now dead)) × PushRoom (now kinds) (now words) constants ⌝ }
     ensures { λ r. ⌜ chunk (now (code .exit)) (now (dead .exit)) (now (kinds .exit)) (now (words .exit)) r ≡ applied (Plan.Put p q v) ip (chunk (now (code .entry)) (now (dead .entry)) (now (kinds .entry)) (now (words .entry)) constants) ⌝ }
 {
     let Loaded::As(o, x, more) = const_load(kinds, words, constants, v) else {
@@ -97,7 +97,7 @@ fn marks_of(o: u16) -> u16
 
 // A load with its mark.
 fn put_at(code: &mut [u16], p: usize, o: u16, x: u16)
-    requires { ⌜ p < count (now code) ⌝ }
+    requires { ⌜ p < chunkCount (now code) ⌝ }
     ensures { λ _. ⌜ now (code .exit) ≡ put (now (code .entry)) p o x ⌝ }
 {
     code[STRIDE * p] = o;
@@ -107,7 +107,7 @@ fn put_at(code: &mut [u16], p: usize, o: u16, x: u16)
 
 // A result as a load.
 fn const_load(kinds: &mut [u8], words: &mut [u64], constants: usize, v: Val) -> Loaded
-    requires { ⌜ Room (now kinds) (now words) constants ⌝ }
+    requires { ⌜ PushRoom (now kinds) (now words) constants ⌝ }
     ensures { λ r. ⌜ loading r (now (kinds .exit)) (now (words .exit)) ≡ constLoad v (now (kinds .entry)) (now (words .entry)) constants ⌝ }
 {
     match v {
@@ -125,7 +125,7 @@ fn const_load(kinds: &mut [u8], words: &mut [u64], constants: usize, v: Val) -> 
 
 // A load of the constant that the pool keeps.
 fn pool_load(kinds: &mut [u8], words: &mut [u64], constants: usize, v: Val) -> Loaded
-    requires { ⌜ Room (now kinds) (now words) constants ⌝ }
+    requires { ⌜ PushRoom (now kinds) (now words) constants ⌝ }
     ensures { λ r. ⌜ loading r (now (kinds .exit)) (now (words .exit)) ≡ fromPool (findOrPushConst (now (kinds .entry)) (now (words .entry)) constants v) ⌝ }
 {
     let Kept::At(i, more) = chunk::find_or_push_const(kinds, words, constants, v) else {

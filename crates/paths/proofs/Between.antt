@@ -7,7 +7,7 @@ use native.Mathlib.Omega.{arith}
 use lib.ListN.{getD, replicate}
 use Rattle.laws.specs.Table.{clearedTo}
 use Rattle.laws.proofs.Table.{cleared-tail, cleared-at}
-use Rattle.paths.specs.Search.{Says, Searched, Settles}
+use Rattle.paths.specs.Search.{Says, Searched, SearchSettles}
 
 pub none : (n : ℕ) (seen seen₁ : List ℕ) → seen₁ ≡ clearedTo (n + 1) seen → (j : ℕ) → j < n → getD seen₁ j 0 ≡ 0
 none n seen seen₁ c j h = rw c (cleared-at (n + 1) seen j (omega arith))
@@ -19,7 +19,7 @@ pub settles : (P Q : Type 0) (n : ℕ) (seen seen₁ seen₂ seen₃ todo todo�
     → seen₃ ≡ clearedTo (n + 1) seen₂
     → todo₂ ≡ clearedTo (n + 1) todo₁
     → (Says P found → Says Q b)
-    → Settles Q (n + 1) seen todo b seen₃ todo₂
+    → SearchSettles Q (n + 1) seen todo b seen₃ todo₂
 settles P Q n seen seen₁ seen₂ seen₃ todo todo₁ todo₂ found b c s d e f = record {
   says = f (s .answer);
   marks = d ∙ ap (λ (l : List ℕ). replicate (n + 1) 0 ++ l) (s .marks .tail ∙ rw c (cleared-tail (n + 1) seen));

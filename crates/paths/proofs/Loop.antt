@@ -11,7 +11,7 @@ use lib.Seq.{drop-set-lt}
 use mir.Val.{boolByte}
 use Rattle.laws.specs.Table.{Held}
 use Rattle.laws.proofs.Byte.{byte-small}
-use Rattle.paths.specs.Search.{Reach, ways, pushed, Lent, Searched, left, taken, owed}
+use Rattle.paths.specs.Search.{Reach, ways, pushed, SearchRoom, Searched, left, taken, owed}
 use Rattle.paths.proofs.Marks.{marked, few-marked}
 use Rattle.paths.proofs.Depth.{State, Waits, starts, skips, found, one-more, below, turns, never, push-keeps, push-adds, push-only}
 use Rattle.paths.proofs.Turns.{falls}
@@ -54,10 +54,10 @@ pub record Loop (n : ℕ) (reads stops : ℕ → Bool) (leads : ℕ → List ℕ
   pub state : State n reads stops leads start seen todo top
   pub marks : Held (n + 1) seen₀ seen
   pub waiting : Held (n + 1) todo₀ todo
-  pub room : Lent n seen₀ todo₀
+  pub room : SearchRoom n seen₀ todo₀
 
 module _ (n : ℕ) (reads stops : ℕ → Bool) (leads : ℕ → List ℕ) (start : ℕ) (seen₀ todo₀ : List ℕ) where
-  pub enters : Lent n seen₀ todo₀ → ((j : ℕ) → j < n → getD seen₀ j 0 ≡ 0)
+  pub enters : SearchRoom n seen₀ todo₀ → ((j : ℕ) → j < n → getD seen₀ j 0 ≡ 0)
       → Loop n reads stops leads start seen₀ (set todo₀ 0 start) seen₀ (set todo₀ 0 start) 1
   enters m none = record {
     state = starts n reads stops leads start seen₀ todo₀ (omega (arith, m .waiting)) none;

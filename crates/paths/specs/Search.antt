@@ -26,7 +26,7 @@ Says P true = P
 Says P false = P → ⊥
 
 -- buffers for a search of n positions
-pub record Lent (n : ℕ) (seen todo : List ℕ) : Type 0 where
+pub record SearchRoom (n : ℕ) (seen todo : List ℕ) : Type 0 where
   pub few : n ≤ 65535
   pub marks : n + 1 ≤ length seen
   pub waiting : n + 1 ≤ length todo
@@ -38,7 +38,7 @@ pub record Searched (P : Type 0) (n : ℕ) (seen todo : List ℕ) (found : Bool)
   pub waiting : Held (n + 1) todo todo′
 
 -- b says whether P holds, and the first m words of both buffers are 0
-pub record Settles (P : Type 0) (m : ℕ) (seen todo : List ℕ) (b : Bool) (seen′ todo′ : List ℕ) : Type 0 where
+pub record SearchSettles (P : Type 0) (m : ℕ) (seen todo : List ℕ) (b : Bool) (seen′ todo′ : List ℕ) : Type 0 where
   pub says : Says P b
   pub marks : seen′ ≡ clearedTo m seen
   pub waiting : todo′ ≡ clearedTo m todo

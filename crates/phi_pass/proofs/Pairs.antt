@@ -18,10 +18,10 @@ use Rattle.laws.proofs.Branch.{and-true}
 use Rattle.laws.proofs.Many.{many-more, many-few, counted-on}
 use Rattle.laws.proofs.Each.{each-more, each-word}
 use Rattle.laws.proofs.InPlace.{Walked, walk-none, walk-read, walk-two, walk-at, walk-as, walk-count, walk-whole, word-put}
-use Rattle.lent.specs.Chunk.{count, opAt, operandAt, isPhi}
+use Rattle.lent.specs.Chunk.{chunkCount, opAt, operandAt, isPhi}
 use Rattle.positions.specs.Remap.{alive}
 use Rattle.code.specs.Op.{Phi}
-use Rattle.phi_pass.specs.Phi.{paired, firstOf, secondOf, noop, markAt, marked, pairLeft, pairsLeft, spread, entryOf, indexed}
+use Rattle.phi_pass.specs.Phi.{paired, leftSource, rightSource, noop, phiMarkAt, marked, pairLeft, pairsLeft, spread, phiEntry, indexed}
 
 -- ---- which Phis have a pair, and which of them die
 
@@ -53,7 +53,7 @@ module _ (w map sources : List ℕ) (i : ℕ) where
     unfolding paired
     a-phi = and-true (isPhi w i) _ (sym e ∙ h) .0
 
-    pub tells : (o : ℕ) (r : Bool) → o ≡ operandAt w i → r ≡ eqb (firstOf map sources i) o && eqb (secondOf map sources i) o → r ≡ noop w map sources i
+    pub tells : (o : ℕ) (r : Bool) → o ≡ operandAt w i → r ≡ eqb (leftSource map sources i) o && eqb (rightSource map sources i) o → r ≡ noop w map sources i
     unfolding noop
     tells o r f g = let q : paired w map sources i ≡ true = sym e ∙ h in g ∙ rw (q, f)
 
@@ -62,51 +62,51 @@ module _ (w map sources : List ℕ) (i : ℕ) where
   tells-no t e h = let q : paired w map sources i ≡ false = sym e ∙ h in rw q
 
   module _ (dead : List ℕ) where
-    pub dead-stays : (getD dead i 0 ≡ 0 → ⊥) → getD dead i 0 ≡ markAt w map sources dead i
-    unfolding markAt
+    pub dead-stays : (getD dead i 0 ≡ 0 → ⊥) → getD dead i 0 ≡ phiMarkAt w map sources dead i
+    unfolding phiMarkAt
     dead-stays h = rw (ne-eqb (getD dead i 0) 0 h)
 
-    pub it-dies : (t : Bool) → getD dead i 0 ≡ 0 → t ≡ noop w map sources i → t ≡ true → 1 ≡ markAt w map sources dead i
-    unfolding markAt
+    pub it-dies : (t : Bool) → getD dead i 0 ≡ 0 → t ≡ noop w map sources i → t ≡ true → 1 ≡ phiMarkAt w map sources dead i
+    unfolding phiMarkAt
     it-dies t z e h = let q : noop w map sources i ≡ true = sym e ∙ h in rw (eq-eqb (getD dead i 0) 0 z, q)
 
-    pub it-lives : (t : Bool) → getD dead i 0 ≡ 0 → t ≡ noop w map sources i → t ≡ false → 0 ≡ markAt w map sources dead i
-    unfolding markAt
+    pub it-lives : (t : Bool) → getD dead i 0 ≡ 0 → t ≡ noop w map sources i → t ≡ false → 0 ≡ phiMarkAt w map sources dead i
+    unfolding phiMarkAt
     it-lives t z e h = let q : noop w map sources i ≡ false = sym e ∙ h in rw (eq-eqb (getD dead i 0) 0 z, q)
 
 -- a pair read through phi_map, r
 module _ (map sources : List ℕ) (i r : ℕ) (e : r ≡ getD map i 0) where
   pub pair-tested : (o : ℕ) → eqb (getD sources (2 * r) 0) o && eqb (getD sources (2 * r + 1) 0) o
-      ≡ eqb (firstOf map sources i) o && eqb (secondOf map sources i) o
+      ≡ eqb (leftSource map sources i) o && eqb (rightSource map sources i) o
   pair-tested o = rw e
 
   module _ (a b : ℕ) (f : a ≡ getD sources (2 * r) 0) (g : b ≡ getD sources (2 * r + 1) 0) (h : b < 65536) where
-    pub pack-first : (a * 65536 + b) / 65536 ≡ firstOf map sources i
+    pub pack-first : (a * 65536 + b) / 65536 ≡ leftSource map sources i
     pack-first = let q : (a * 65536 + b) / 65536 ≡ a = omega arith in q ∙ f ∙ rw e
 
-    pub pack-second : (a * 65536 + b) % 65536 ≡ secondOf map sources i
+    pub pack-second : (a * 65536 + b) % 65536 ≡ rightSource map sources i
     pack-second = let q : (a * 65536 + b) % 65536 ≡ b = omega arith in q ∙ g ∙ rw e
 
 -- where the marking stands at i
 pub record Marked (w map sources xs old : List ℕ) (i : ℕ) : Type 0 where
-  pub walked : Walked xs old (each (λ k. markAt w map sources old k ∷ []) i) i i
+  pub walked : Walked xs old (each (λ k. phiMarkAt w map sources old k ∷ []) i) i i
 
 pub marked-none : (w map sources old : List ℕ) → Marked w map sources old old 0
 unfolding each
 marked-none w map sources old = record { walked = walk-none old }
 
-mark-same : (w map sources xs old : List ℕ) (i : ℕ) → getD xs i 0 ≡ getD old i 0 → markAt w map sources xs i ≡ markAt w map sources old i
-unfolding markAt
+mark-same : (w map sources xs old : List ℕ) (i : ℕ) → getD xs i 0 ≡ getD old i 0 → phiMarkAt w map sources xs i ≡ phiMarkAt w map sources old i
+unfolding phiMarkAt
 mark-same w map sources xs old i e = rw e
 
 pub marked-length : (w map sources dead : List ℕ) → length (marked w map sources dead) ≡ length dead
 unfolding marked
-marked-length w map sources dead = each-word (markAt w map sources dead) (length dead)
+marked-length w map sources dead = each-word (phiMarkAt w map sources dead) (length dead)
 
 module _ {w map sources xs old : List ℕ} {i : ℕ} (m : Marked w map sources xs old i) where
-  pub marked-more : (v : ℕ) → v ≡ markAt w map sources xs i → i < length old → Marked w map sources (set xs i v) old (i + 1)
+  pub marked-more : (v : ℕ) → v ≡ phiMarkAt w map sources xs i → i < length old → Marked w map sources (set xs i v) old (i + 1)
   marked-more v e h =
-      record { walked = word-put (markAt w map sources old) (m .walked) h v (e ∙ mark-same w map sources xs old i (walk-read (m .walked) i (le-refl i))) }
+      record { walked = word-put (phiMarkAt w map sources old) (m .walked) h v (e ∙ mark-same w map sources xs old i (walk-read (m .walked) i (le-refl i))) }
 
   pub marked-same : length xs ≡ length old
   marked-same = m .walked .same
@@ -124,8 +124,8 @@ unpaired w map sources i e = rw (e, le-ltb i 0 zero-le) (go (isPhi w i))
     go true = refl
     go false = refl
 
-mark-stays : (w map sources old : List ℕ) (i : ℕ) → length map ≡ 0 → markAt w map sources old i ≡ getD old i 0
-unfolding markAt noop
+mark-stays : (w map sources old : List ℕ) (i : ℕ) → length map ≡ 0 → phiMarkAt w map sources old i ≡ getD old i 0
+unfolding phiMarkAt noop
 mark-stays w map sources old i e = rw (unpaired w map sources i e) (go (eqb (getD old i 0) 0) refl)
   where
     go : (t : Bool) → eqb (getD old i 0) 0 ≡ t → cond t 0 (getD old i 0) ≡ getD old i 0
@@ -135,8 +135,8 @@ mark-stays w map sources old i e = rw (unpaired w map sources i e) (go (eqb (get
 marks-stay : (w map sources old : List ℕ) → length map ≡ 0 → (i : ℕ) → i ≤ length old → Marked w map sources old old i
 marks-stay w map sources old e zero l = marked-none w map sources old
 marks-stay w map sources old e (suc i) l =
-    let m = marked-more (marks-stay w map sources old e i (omega arith)) (markAt w map sources old i) refl (omega arith) in
-    let same : set old i (markAt w map sources old i) ≡ old = ap (set old i) (mark-stays w map sources old i e) ∙ set-getD old i 0 in
+    let m = marked-more (marks-stay w map sources old e i (omega arith)) (phiMarkAt w map sources old i) refl (omega arith) in
+    let same : set old i (phiMarkAt w map sources old i) ≡ old = ap (set old i) (mark-stays w map sources old i e) ∙ set-getD old i 0 in
     rw (same, add-one i) at m
 
 pub none-marked : (w map sources old : List ℕ) → length map ≡ 0 → old ≡ marked w map sources old
@@ -157,7 +157,7 @@ spread-length (x ∷ xs) = omega (arith, spread-length xs)
 
 module _ (w map sources dead : List ℕ) (i : ℕ) where
   pair-on : getD dead i 0 ≡ 0 → paired w map sources i ≡ true
-      → each (pairLeft w map sources dead) (i + 1) ≡ each (pairLeft w map sources dead) i ++ (firstOf map sources i ∷ secondOf map sources i ∷ [])
+      → each (pairLeft w map sources dead) (i + 1) ≡ each (pairLeft w map sources dead) i ++ (leftSource map sources i ∷ rightSource map sources i ∷ [])
   pair-on e h = each-more (pairLeft w map sources dead) i ∙ rw (eq-eqb (getD dead i 0) 0 e, h)
 
   pair-dead : (getD dead i 0 ≡ 0 → ⊥) → each (pairLeft w map sources dead) (i + 1) ≡ each (pairLeft w map sources dead) i
@@ -183,8 +183,8 @@ module _ {w map sources dead queue : List ℕ} {to i : ℕ} (g : Gathered w map 
   gathered-skip t z e h =
       record { pairs = g .pairs ∙ sym (pair-off w map sources dead i z (sym e ∙ h)); few = omega (arith, g .few, many-more (isPhi w) i) }
 
-  pub gathered-put : (t : Bool) (v m : ℕ) → getD dead i 0 ≡ 0 → t ≡ paired w map sources i → t ≡ true → v / 65536 ≡ firstOf map sources i
-      → v % 65536 ≡ secondOf map sources i → length queue ≡ m → length dead ≤ m → to ≤ i → i < length dead
+  pub gathered-put : (t : Bool) (v m : ℕ) → getD dead i 0 ≡ 0 → t ≡ paired w map sources i → t ≡ true → v / 65536 ≡ leftSource map sources i
+      → v % 65536 ≡ rightSource map sources i → length queue ≡ m → length dead ≤ m → to ≤ i → i < length dead
       → Gathered w map sources dead (set queue to v) (to + 1) (i + 1)
   gathered-put t v m z e h a b p o x y =
       let l : to < length queue = omega arith in
@@ -248,7 +248,7 @@ module _ {queue xs old : List ℕ} {j : ℕ} (s : Spread queue xs old j) where
 -- ---- phi_map
 
 pub record Indexed (w xs old : List ℕ) (next i : ℕ) : Type 0 where
-  pub walked : Walked xs old (each (λ k. entryOf (isPhi w k) (many (isPhi w) k) ∷ []) i) i i
+  pub walked : Walked xs old (each (λ k. phiEntry (isPhi w k) (many (isPhi w) k) ∷ []) i) i i
   pub counts : next ≡ many (isPhi w) i
 
 pub indexed-none : (w old : List ℕ) → Indexed w old old 0 0
@@ -256,11 +256,11 @@ unfolding each many
 indexed-none w old = record { walked = walk-none old; counts = refl }
 
 module _ {w xs old : List ℕ} {next i : ℕ} (x : Indexed w xs old next i) where
-  pub indexed-more : (o v r : ℕ) → o ≡ opAt w i → v ≡ entryOf (eqb o Phi) next → r ≡ boolByte (eqb o Phi) → i < length old
+  pub indexed-more : (o v r : ℕ) → o ≡ opAt w i → v ≡ phiEntry (eqb o Phi) next → r ≡ boolByte (eqb o Phi) → i < length old
       → Indexed w (set xs i v) old (next + r) (i + 1)
   indexed-more o v r e f g h =
       record {
-        walked = word-put (λ k. entryOf (isPhi w k) (many (isPhi w) k)) (x .walked) h v (f ∙ rw (e, x .counts));
+        walked = word-put (λ k. phiEntry (isPhi w k) (many (isPhi w) k)) (x .walked) h v (f ∙ rw (e, x .counts));
         counts = counted-on (isPhi w) i next r (eqb o Phi) (x .counts) g (rw e);
       }
 
@@ -270,10 +270,10 @@ module _ {w xs old : List ℕ} {next i : ℕ} (x : Indexed w xs old next i) wher
   pub indexed-same : length xs ≡ length old
   indexed-same = x .walked .same
 
-  module _ (s : length old ≡ count w) (h : length old ≤ i) (l : i ≤ length old) where
-    pub indexed-count : next ≡ many (isPhi w) (count w)
-    indexed-count = let e : i ≡ count w = omega arith in x .counts ∙ ap (many (isPhi w)) e
+  module _ (s : length old ≡ chunkCount w) (h : length old ≤ i) (l : i ≤ length old) where
+    pub indexed-count : next ≡ many (isPhi w) (chunkCount w)
+    indexed-count = let e : i ≡ chunkCount w = omega arith in x .counts ∙ ap (many (isPhi w)) e
 
     pub indexed-whole : xs ≡ indexed w
     unfolding indexed
-    indexed-whole = let e : i ≡ count w = omega arith in rw e at (walk-whole (x .walked) h)
+    indexed-whole = let e : i ≡ chunkCount w = omega arith in rw e at (walk-whole (x .walked) h)

@@ -6,9 +6,9 @@ ghost use lib.Dec.{eqb};
 ghost use Prim.Native.Nat.{_+_, _-_, _*_, _/_, _%_, _≤_, _<_};
 ghost use lib.ListN.{length, getD, take, replicate};
 ghost use Rattle.laws.specs.All.{every, many};
-ghost use Rattle.lent.specs.Chunk.{count, isPhi};
+ghost use Rattle.lent.specs.Chunk.{chunkCount, isPhi};
 ghost use Rattle.positions.specs.Remap.{alive};
-ghost use Rattle.phi_pass.specs.Phi.{paired, firstOf, secondOf, noop, markAt, marked, pairsLeft, spread, entryOf, indexed};
+ghost use Rattle.phi_pass.specs.Phi.{paired, leftSource, rightSource, noop, phiMarkAt, marked, pairsLeft, spread, phiEntry, indexed};
 use code::op::Phi;
 
 fn wide_of(x: u32) -> usize
@@ -19,7 +19,7 @@ fn wide_of(x: u32) -> usize
 
 // Whether instruction i is a Phi that has a pair.
 fn has_pair(code: &[u16], map: &[u32], sources: &[u16], i: usize) -> bool
-    requires { ⌜ i < count (now code) ⌝ }
+    requires { ⌜ i < chunkCount (now code) ⌝ }
     ensures { λ r. ⌜ r ≡ paired (now (code .entry)) (now (map .entry)) (now (sources .entry)) i ⌝ }
 {
     if lent::op_at(code, i) != Phi {
@@ -34,8 +34,8 @@ fn has_pair(code: &[u16], map: &[u32], sources: &[u16], i: usize) -> bool
 // Whether the sources of the Phi at i both equal its operand.
 fn both_are(map: &[u32], sources: &[u16], i: usize, operand: u16) -> bool
     requires { ⌜ (i < length (now map)) × (getD (now map) i 0 < length (now sources) / 2) ⌝ }
-    ensures { λ r. ⌜ r ≡ eqb (firstOf (now (map .entry)) (now (sources .entry)) i) operand && eqb
-        (secondOf (now (map .entry)) (now (sources .entry)) i) operand ⌝ }
+    ensures { λ r. ⌜ r ≡ eqb (leftSource (now (map .entry)) (now (sources .entry)) i) operand && eqb
+        (rightSource (now (map .entry)) (now (sources .entry)) i) operand ⌝ }
 {
     let at = 2 * wide_of(map[i]);
     (sources[at] == operand) & (sources[at + 1] == operand)
@@ -43,7 +43,7 @@ fn both_are(map: &[u32], sources: &[u16], i: usize, operand: u16) -> bool
 
 // Whether instruction i is a Phi whose sources both equal its operand.
 fn is_noop(code: &[u16], map: &[u32], sources: &[u16], i: usize) -> bool
-    requires { ⌜ i < count (now code) ⌝ }
+    requires { ⌜ i < chunkCount (now code) ⌝ }
     ensures { λ r. ⌜ r ≡ noop (now (code .entry)) (now (map .entry)) (now (sources .entry)) i ⌝ }
 {
     if has_pair(code, map, sources, i) {
@@ -54,8 +54,8 @@ fn is_noop(code: &[u16], map: &[u32], sources: &[u16], i: usize) -> bool
 
 // The dead mark of instruction i after the pass.
 fn mark(code: &[u16], dead: &[u8], map: &[u32], sources: &[u16], i: usize) -> u8
-    requires { ⌜ (i < count (now code)) × (i < length (now dead)) ⌝ }
-    ensures { λ r. ⌜ r ≡ markAt (now (code .entry)) (now (map .entry)) (now (sources .entry)) (now (dead .entry)) i ⌝ }
+    requires { ⌜ (i < chunkCount (now code)) × (i < length (now dead)) ⌝ }
+    ensures { λ r. ⌜ r ≡ phiMarkAt (now (code .entry)) (now (map .entry)) (now (sources .entry)) (now (dead .entry)) i ⌝ }
 {
     let was = dead[i];
     if was != 0 {
@@ -69,7 +69,7 @@ fn mark(code: &[u16], dead: &[u8], map: &[u32], sources: &[u16], i: usize) -> u8
 
 // Marks the Phis that die.
 pub fn mark_noops(code: &[u16], dead: &mut [u8], map: &[u32], sources: &[u16])
-    requires { ⌜ length (now dead) ≡ count (now code) ⌝ }
+    requires { ⌜ length (now dead) ≡ chunkCount (now code) ⌝ }
     ensures { λ _. ⌜ now (dead .exit) ≡ marked (now (code .entry)) (now (map .entry)) (now (sources .entry)) (now (dead .entry)) ⌝ }
 {
     if map.len() == 0 {
@@ -121,7 +121,7 @@ fn low(q: u32) -> u16
 // The pair of the Phi at i, packed.
 fn pack(map: &[u32], sources: &[u16], i: usize) -> u32
     requires { ⌜ (i < length (now map)) × (getD (now map) i 0 < length (now sources) / 2) ⌝ }
-    ensures { λ r. ⌜ (r / 65536 ≡ firstOf (now (map .entry)) (now (sources .entry)) i) × (r % 65536 ≡ secondOf (now (map .entry)) (now (sources .entry)) i) ⌝ }
+    ensures { λ r. ⌜ (r / 65536 ≡ leftSource (now (map .entry)) (now (sources .entry)) i) × (r % 65536 ≡ rightSource (now (map .entry)) (now (sources .entry)) i) ⌝ }
 {
     let at = 2 * wide_of(map[i]);
     wide(sources[at]) * 65536 + wide(sources[at + 1])
@@ -129,7 +129,7 @@ fn pack(map: &[u32], sources: &[u16], i: usize) -> u32
 
 // Packs the surviving pairs into a queue: phi_sources can't be compacted in place. Answers how many there are.
 pub fn gather(code: &[u16], dead: &[u8], map: &[u32], sources: &[u16], queue: &mut [u32]) -> usize
-    requires { ⌜ (length (now dead) ≡ count (now code)) × (length (now dead) ≤ length (now queue)) ⌝ }
+    requires { ⌜ (length (now dead) ≡ chunkCount (now code)) × (length (now dead) ≤ length (now queue)) ⌝ }
     ensures { λ r. ⌜ (spread (take r (now (queue .exit))) ≡ pairsLeft (now (code .entry)) (now (map .entry)) (now (sources .entry)) (now (dead .entry)))
         × (r ≤ many (isPhi (now (code .entry))) (length (now (dead .entry)))) × (r ≤ length (now (queue .exit))) ⌝ }
 {
@@ -174,7 +174,7 @@ pub fn unpack(queue: &[u32], sources: &mut [u16], m: usize)
 // phi_map's entry for an instruction with `next` Phis before it.
 fn entry(phi: bool, next: usize) -> u32
     requires { ⌜ next < 65536 ⌝ }
-    ensures { λ r. ⌜ r ≡ entryOf phi next ⌝ }
+    ensures { λ r. ⌜ r ≡ phiEntry phi next ⌝ }
 {
     if phi {
         return next as u32;
@@ -184,8 +184,8 @@ fn entry(phi: bool, next: usize) -> u32
 
 // Maps each Phi to its pair by order. Answers how many there are.
 pub fn index_phis(code: &[u16], map: &mut [u32]) -> usize
-    requires { ⌜ (length (now map) ≡ count (now code)) × (count (now code) ≤ 65535) ⌝ }
-    ensures { λ r. ⌜ (r ≡ many (isPhi (now (code .entry))) (count (now (code .entry)))) × (now (map .exit) ≡ indexed (now (code .entry))) ⌝ }
+    requires { ⌜ (length (now map) ≡ chunkCount (now code)) × (chunkCount (now code) ≤ 65535) ⌝ }
+    ensures { λ r. ⌜ (r ≡ many (isPhi (now (code .entry))) (chunkCount (now (code .entry)))) × (now (map .exit) ≡ indexed (now (code .entry))) ⌝ }
 {
     let n = map.len();
     let mut next: usize = 0;

@@ -10,21 +10,21 @@ use Rattle.code.specs.declared.Ins.{Ins}
 use Rattle.roles.specs.Kinds.{isJump}
 use Rattle.paths.specs.Search.{ways, pushed, Searched, owed}
 use Rattle.paths.proofs.Loop as path
-use Rattle.phis.specs.Phi.{reads, stops, goesOn, readsAt, stopsAt, leadsAt, Read, Room}
+use Rattle.phis.specs.Phi.{phiReads, stops, goesOn, readsAt, stopsAt, leadsAt, Read, PhiRoom}
 
 abbrev pub Loop : List ℕ → ℕ → ℕ → List ℕ → List ℕ → List ℕ → List ℕ → ℕ → Type 0
 Loop w r start seen₀ todo₀ seen todo top = path.Loop (count w) (readsAt w r) (stopsAt w r) (leadsAt w) start seen₀ todo₀ seen todo top
 
-pub enters : (w : List ℕ) (r start : ℕ) (seen₀ todo₀ : List ℕ) → Room w seen₀ todo₀ → ((j : ℕ) → j < length w / 6 → getD seen₀ j 0 ≡ 0)
+pub enters : (w : List ℕ) (r start : ℕ) (seen₀ todo₀ : List ℕ) → PhiRoom w seen₀ todo₀ → ((j : ℕ) → j < length w / 6 → getD seen₀ j 0 ≡ 0)
     → Loop w r start seen₀ (set todo₀ 0 start) seen₀ (set todo₀ 0 start) 1
 enters w r start seen₀ todo₀ m none =
     path.enters (count w) (readsAt w r) (stopsAt w r) (leadsAt w) start seen₀ todo₀ (record { few = m .few; marks = m .marks; waiting = m .waiting }) none
 
 -- a test of the instruction at j is one of j
 module _ (w : List ℕ) (r j : ℕ) (i : Ins) (at : i ≡ insAt w j) where
-  read-is : (b t : Bool) → b ≡ reads i r → b ≡ t → readsAt w r j ≡ t
+  read-is : (b t : Bool) → b ≡ phiReads i r → b ≡ t → readsAt w r j ≡ t
   unfolding readsAt
-  read-is b t e f = sym (ap (λ (x : Ins). reads x r) at) ∙ sym e ∙ f
+  read-is b t e f = sym (ap (λ (x : Ins). phiReads x r) at) ∙ sym e ∙ f
 
   stop-is : (b t : Bool) → b ≡ stops i r → b ≡ t → stopsAt w r j ≡ t
   unfolding stopsAt
@@ -36,7 +36,7 @@ module _ (w : List ℕ) (r j : ℕ) (i : Ins) (at : i ≡ insAt w j) where
 
 module _ (w : List ℕ) (r start : ℕ) (seen₀ todo₀ seen todo : List ℕ) (top : ℕ) (l : Loop w r start seen₀ todo₀ seen todo top) (some : 0 < top)
     (j : ℕ) (popped : j ≡ getD todo (top - 1) 0) (h : j < length w / 6) (fresh : getD seen j 0 ≡ 0) (i : Ins) (at : i ≡ insAt w j)
-    (b : Bool) (e : b ≡ reads i r) (t : b ≡ false) (d : Bool) (f : d ≡ stops i r) where
+    (b : Bool) (e : b ≡ phiReads i r) (t : b ≡ false) (d : Bool) (f : d ≡ stops i r) where
   pub stands : d ≡ true → Loop w r start seen₀ todo₀ (set seen j 1) todo (top - 1)
   stands u =
       path.stands (count w) (readsAt w r) (stopsAt w r) (leadsAt w) start seen₀ todo₀ seen todo top l some j popped h fresh
@@ -59,7 +59,7 @@ module _ (w : List ℕ) (r start : ℕ) (seen₀ todo₀ seen todo : List ℕ) (
 
 -- a read is found
 pub tells : (w : List ℕ) (r start : ℕ) (seen₀ todo₀ seen todo : List ℕ) (top : ℕ) → Loop w r start seen₀ (set todo₀ 0 start) seen todo top → 0 < top
-    → (j : ℕ) → j ≡ getD todo (top - 1) 0 → j < length w / 6 → getD seen j 0 ≡ 0 → (i : Ins) → i ≡ insAt w j → (b : Bool) → b ≡ reads i r → b ≡ true
+    → (j : ℕ) → j ≡ getD todo (top - 1) 0 → j < length w / 6 → getD seen j 0 ≡ 0 → (i : Ins) → i ≡ insAt w j → (b : Bool) → b ≡ phiReads i r → b ≡ true
     → Searched (Read w r start) (length w / 6) seen₀ todo₀ true (set seen j 1) todo
 tells w r start seen₀ todo₀ seen todo top l some j popped h fresh i at b e t =
     path.tells (count w) (readsAt w r) (stopsAt w r) (leadsAt w) start seen₀ todo₀ seen todo top l some j popped h fresh (read-is w r j i at b true e t)

@@ -13,15 +13,15 @@ use Rattle.code.specs.declared.Checked.{Checked}
 use Rattle.code.specs.declared.Checked.the-variants.{Count, No}
 use Rattle.code.proofs.Checks.{valid-of}
 use Rattle.walks.proofs.Rooms.{before-inside, within, before-room, roomy}
-use Rattle.paths.specs.Search.{Says, Settles}
-use Rattle.phis.specs.Phi.{Room}
+use Rattle.paths.specs.Search.{Says, SearchSettles}
+use Rattle.phis.specs.Phi.{PhiRoom}
 use Rattle.phis.specs.Answers.{Tells}
 
 module _ (v s : Checked) (e : v ≡ s) (P : Type 0) (m : ℕ) (seen todo : List ℕ) (r : Answer) where
   pub tells-no : (q : Refusal) → v ≡ No q → r ≡ refusedOf q → Tells s P m seen todo r seen todo
   tells-no q h z = rw (sym e ∙ h) (z, refl, refl)
 
-  pub tells : (n : ℕ) (b : Bool) (seen′ todo′ : List ℕ) → v ≡ Count n → Settles P m seen todo b seen′ todo′ → r ≡ answerOf (boolByte b) 0 0 0
+  pub tells : (n : ℕ) (b : Bool) (seen′ todo′ : List ℕ) → v ≡ Count n → SearchSettles P m seen todo b seen′ todo′ → r ≡ answerOf (boolByte b) 0 0 0
       → Tells s P m seen todo r seen′ todo′
   tells n b seen′ todo′ h d z = rw (sym e ∙ h) (b, z, d)
 
@@ -33,7 +33,7 @@ module _ (w seen todo : List ℕ) (n : ℕ) (t u v : Checked) (g : u ≡ roomOf 
   code-passed : t ≡ Count n
   code-passed = before-room n 1 (length seen) (length w / 6 + 1) t u g marks-passed
 
-  room : Valid w → Room w seen todo
+  room : Valid w → PhiRoom w seen todo
   room a =
       record {
         whole = a .whole;
@@ -42,11 +42,11 @@ module _ (w seen todo : List ℕ) (n : ℕ) (t u v : Checked) (g : u ≡ roomOf 
         waiting = roomy n 2 (length todo) (length w / 6 + 1) u v h c;
       }
 
-  pub code-room : t ≡ checkOf w → Room w seen todo
+  pub code-room : t ≡ checkOf w → PhiRoom w seen todo
   code-room e = room (valid-of w n t e code-passed)
 
   module _ (k : ℕ) (s : Checked) (e : s ≡ checkOf w) (f : t ≡ insideOf s k) where
-    pub place-room : Room w seen todo
+    pub place-room : PhiRoom w seen todo
     place-room = room (valid-of w n s e (before-inside n k s t f code-passed))
 
     pub place-in : k < length w / 6

@@ -11,7 +11,7 @@ use Rattle.code.specs.Answers.{answerOf, refusedOf}
 use Rattle.code.specs.declared.Answer.{Answer}
 use Rattle.code.specs.declared.Checked.{Checked}
 use Rattle.code.specs.declared.Checked.the-variants.{Count, No}
-use Rattle.paths.specs.Search.{Settles}
+use Rattle.paths.specs.Search.{SearchSettles}
 use Rattle.phis.specs.Phi.{Dead}
 
 -- both buffers have n + 1 words
@@ -21,7 +21,7 @@ roomBoth v w seen todo = roomOf (roomOf v 1 (length seen) (count w + 1)) 2 (leng
 -- refused and nothing touched; or told whether P holds, the n + 1 words of both buffers 0, and the words past them untouched
 abbrev pub Tells : Checked → Type 0 → ℕ → List ℕ → List ℕ → Answer → List ℕ → List ℕ → Type 0
 Tells (No q) P m seen todo r seen′ todo′ = (r ≡ refusedOf q) × (seen′ ≡ seen) × (todo′ ≡ todo)
-Tells (Count n) P m seen todo r seen′ todo′ = (b : Bool) × (r ≡ answerOf (boolByte b) 0 0 0) × Settles P m seen todo b seen′ todo′
+Tells (Count n) P m seen todo r seen′ todo′ = (b : Bool) × (r ≡ answerOf (boolByte b) 0 0 0) × SearchSettles P m seen todo b seen′ todo′
 
 -- 1, 2, 6, 5
 abbrev pub DeadPhi : List ℕ → ℕ → ℕ → List ℕ → List ℕ → Answer → List ℕ → List ℕ → Type 0

@@ -17,24 +17,24 @@ abbrev pub inFields : ℕ → Ins → ℕ → Bool
 inFields k i r = has field.a k && eqb (i .a) r || has field.b k && eqb (i .b) r || has field.c k && eqb (i .c) r
 
 -- i reads r: by its role, but for a `for` step, which writes the b that its role names; with no role, a LoadName of r
-unfoldable pub reads : Ins → ℕ → Bool
-reads i r =
+unfoldable pub phiReads : Ins → ℕ → Bool
+phiReads i r =
     not (has none (kindsOf i)) && not (eqb (i .op) ForIterR) && inFields (kindsOf i) i r
     || has none (kindsOf i) && eqb (i .op) LoadName && eqb (i .a) r
 
 -- i writes r: by its role, or as the item of a `for` step; with no role, a StoreName of r
-unfoldable pub writes : Ins → ℕ → Bool
-writes i r =
+unfoldable pub phiWrites : Ins → ℕ → Bool
+phiWrites i r =
     not (has none (kindsOf i)) && (eqb (i .op) ForIterR && eqb (i .b) r || not (eqb (i .op) ForIterR) && has dest (kindsOf i) && eqb (i .a) r)
     || has none (kindsOf i) && eqb (i .op) StoreName && eqb (i .a) r
 
 -- a path stops at i: r is written, or the code is left
 unfoldable pub stops : Ins → ℕ → Bool
-stops i r = writes i r || eqb (i .op) ReturnR || eqb (i .op) ReturnValue || eqb (i .op) Raise
+stops i r = phiWrites i r || eqb (i .op) ReturnR || eqb (i .op) ReturnValue || eqb (i .op) Raise
 
 -- the same of the instruction at j
 unfoldable pub readsAt : List ℕ → ℕ → ℕ → Bool
-readsAt w r j = reads (insAt w j) r
+readsAt w r j = phiReads (insAt w j) r
 
 unfoldable pub stopsAt : List ℕ → ℕ → ℕ → Bool
 stopsAt w r j = stops (insAt w j) r
@@ -56,7 +56,7 @@ abbrev pub Dead : List ℕ → ℕ → ℕ → Type 0
 Dead w k r = Read w r (k + 1) → ⊥
 
 -- accepted code, and buffers for a search of it
-pub record Room (w seen todo : List ℕ) : Type 0 where
+pub record PhiRoom (w seen todo : List ℕ) : Type 0 where
   pub whole : Whole w
   pub few : length w / 6 ≤ 65535
   pub marks : length w / 6 + 1 ≤ length seen

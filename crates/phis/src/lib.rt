@@ -5,8 +5,8 @@ ghost use lib.ListN.{length, getD};
 ghost use mir.Val.{boolByte};
 ghost use Rattle.roles.specs.Kinds.{isJump};
 ghost use Rattle.roles.specs.Roles.{roleTable};
-ghost use Rattle.paths.specs.Search.{pushed, Searched, Settles};
-ghost use Rattle.phis.specs.Phi.{reads, stops, goesOn, Read, Dead, Room};
+ghost use Rattle.paths.specs.Search.{pushed, Searched, SearchSettles};
+ghost use Rattle.phis.specs.Phi.{phiReads, stops, goesOn, Read, Dead, PhiRoom};
 ghost use Rattle.phis.specs.Answers.{DeadPhi};
 use code::Answer;
 use code::Checked;
@@ -32,7 +32,7 @@ pub fn dead_phi(code: &[u16], at: usize, r: u16, seen: &mut [u8], todo: &mut [u3
 // Whether i reads r.
 fn reads(roles: &[u8; 1280], i: Ins, r: u16) -> bool
     requires { ⌜ now roles ≡ roleTable ⌝ }
-    ensures { λ b. ⌜ b ≡ reads i r ⌝ }
+    ensures { λ b. ⌜ b ≡ phiReads i r ⌝ }
 {
     let k = roles::kinds_in(roles, i);
     let o = i.op;
@@ -78,7 +78,7 @@ fn search(
     seen: &mut [u8],
     todo: &mut [u32],
 ) -> bool
-    requires { ⌜ (now roles ≡ roleTable) × Room (now code) (now seen) (now todo) × ((j : ℕ) → j < length (now code) / 6 → getD (now seen) j 0 ≡ 0) ⌝ }
+    requires { ⌜ (now roles ≡ roleTable) × PhiRoom (now code) (now seen) (now todo) × ((j : ℕ) → j < length (now code) / 6 → getD (now seen) j 0 ≡ 0) ⌝ }
     ensures { λ b. ⌜ Searched (Read (now (code .entry)) r start) (length (now (code .entry)) / 6)
         (now (seen .entry)) (now (todo .entry)) b (now (seen .exit)) (now (todo .exit)) ⌝ }
 {
@@ -109,8 +109,8 @@ fn search(
 
 // `dead_phi` in accepted code.
 pub fn dead(code: &[u16], k: usize, r: u16, seen: &mut [u8], todo: &mut [u32]) -> bool
-    requires { ⌜ Room (now code) (now seen) (now todo) × (k < length (now code) / 6) ⌝ }
-    ensures { λ b. ⌜ Settles (Dead (now (code .entry)) k r) (length (now (code .entry)) / 6 + 1) (now (seen .entry)) (now (todo .entry)) b (now (seen .exit)) (now (todo .exit)) ⌝ }
+    requires { ⌜ PhiRoom (now code) (now seen) (now todo) × (k < length (now code) / 6) ⌝ }
+    ensures { λ b. ⌜ SearchSettles (Dead (now (code .entry)) k r) (length (now (code .entry)) / 6 + 1) (now (seen .entry)) (now (todo .entry)) b (now (seen .exit)) (now (todo .exit)) ⌝ }
 {
     let roles = roles::table();
     let words = code.len() / 6 + 1;

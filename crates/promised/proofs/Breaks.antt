@@ -6,10 +6,10 @@ use mathlib.Core.List.{[], _∷_}
 use mathlib.Core.Bool.{true}
 use Rattle.code.specs.Op.{LoadConst}
 use Rattle.lent.specs.Chunk.{opAt, folds}
-use Rattle.optimizer.specs.Fold.{Outcome}
+use Rattle.optimizer.specs.Fold.{FoldOutcome}
 use Rattle.optimizer.specs.Fold.{FoldAnswer}
 use Rattle.runs.specs.Machine.{Plain}
-use Rattle.runs.specs.Rule.{known, Rule}
+use Rattle.runs.specs.Rule.{known, WishRule}
 use Rattle.runs.specs.Kept.{Same}
 use Rattle.runs.proofs.Examples as example
 use Rattle.promised.specs.Marked.{code13}
@@ -38,6 +38,6 @@ plain-breaks =
       breaks = λ same.
           example.plain-breaks
           (subst
-          (λ (o : Outcome FoldAnswer). Same code13 (1 ∷ 1 ∷ 9 ∷ []) (2 ∷ 3 ∷ 9 ∷ []) 4 (o .after .code) (o .after .kinds) (o .after .words) 2)
+          (λ (o : FoldOutcome FoldAnswer). Same code13 (1 ∷ 1 ∷ 9 ∷ []) (2 ∷ 3 ∷ 9 ∷ []) 4 (o .after .code) (o .after .kinds) (o .after .words) 2)
           (marked .p13 .0) same);
     }

@@ -24,31 +24,31 @@ use Rattle.flow.proofs.Answer.{again-at, last-same, last-straight}
 use Rattle.steps.specs.Level.{isLevel, firstLevel}
 use Rattle.steps.specs.Code as code
 use Rattle.steps.specs.Code.{storeOf, overPending, pastStore, restores, idle, usedAt, givenAt, afterAt}
-use Rattle.rows.specs.Route.{firstOf}
+use Rattle.rows.specs.Route.{routeStart}
 use Rattle.kept.specs.Level.{resumeOf, resultAt, keptAt}
 use Rattle.kept.specs.Lists.{listsTo, offsetsTo}
 use Rattle.kept.specs.Answers.{Scratch, stagesOf, refused, told}
-use Rattle.callee.specs.Trace.{stepAt, setsIt, passesBy, tracedBy, traced, globalOf}
+use Rattle.callee.specs.Trace.{saysAt, setsIt, passesBy, tracedBy, traced, globalOf}
 use Rattle.callee.specs.Answers.{globalAnswer}
 use Rattle.values.specs.Python.{floorDiv, floorMod, downDiv, downMod, shiftUp}
 use Rattle.values.specs.Folds.{inRange, divmod, quotient, remainder, shifted, ints, floats, foldBinop, foldNeg}
 use Rattle.chunk.specs.Pool.{toVal, constToVal, findOrPush, findOrPushConst}
-use Rattle.lent.specs.Chunk.{folds, rules as chunkRules, lands}
-use Rattle.lent.specs.Check.{checkOf as chunkCheckOf, tablesOf, tallyOf, roomsOf, readyOf}
+use Rattle.lent.specs.Chunk.{folds, chunkRules, lands}
+use Rattle.lent.specs.Check.{chunkCheckOf, tablesOf, tallyOf, roomsOf, readyOf}
 use Rattle.fold.specs.Plan as plan
 use Rattle.landings.specs.Landings.{landsAny, handlesAny, barred}
 use Rattle.fold.specs.Plan.{kindOf, prevLive, skipsInto, blocked, foldUnary, tryFoldBinop, tryFoldUnary, planFor, planAt}
 use Rattle.fold.specs.Pass.{constLoad, put, landed, applied, tryFold, folded, foldAll}
 use Rattle.positions.specs.Remap.{remapOf, mapped}
-use Rattle.compact.specs.Tables.{operandOf, left, compacted}
+use Rattle.compact.specs.Tables.{movedOperand, left, compacted}
 use Rattle.positions.specs.Moved.{placed}
-use Rattle.phi_pass.specs.Phi.{paired, noop, markAt, marked as phisMarked, pairsLeft, indexed}
+use Rattle.phi_pass.specs.Phi.{paired, noop, phiMarkAt, marked as phisMarked, pairsLeft, indexed}
 use Rattle.finish.specs.Finish.{sourcesAfter, renewed, finished}
-use Rattle.optimizer.specs.Fold.{foldPass, constantFold, joined, foldLent, rejoined, foldCall}
+use Rattle.optimizer.specs.Fold.{foldPass, constantFold, joinedBuffers, foldLent, rejoined, foldCall}
 use Rattle.promised.specs.Marked.{K, rowsK, code4, code5, code6, room, Marked}
 
 pub marked : Marked
-unfolding set.minus flow.joined rowAt sweep below tally value rowsOf first page ruleOf kindsOf hasRole isJump cases caseOf usedBy givenBy isLevel firstLevel storeOf overPending pastStore restores idle usedAt givenAt afterAt firstOf listed handlersOf added resumeOf resultAt keptAt listsTo offsetsTo stagesOf checkOf rules firstBadTry tryKept globalAnswer globalOf traced tracedBy stepAt setsIt passesBy writes foldBinop foldNeg ints floats divmod quotient remainder shifted inRange floorDiv floorMod downDiv downMod shiftUp div ofInt eq neg ofBits toBits foldCall rejoined foldLent handlesAny barred joined constantFold foldPass finished renewed sourcesAfter readyOf tablesOf roomsOf tallyOf chunkCheckOf chunkRules folds every many each some remapOf mapped operandOf left compacted placed paired noop markAt phisMarked pairsLeft indexed foldAll folded tryFold applied landed put constLoad planAt planFor kindOf plan.page tryFoldBinop tryFoldUnary foldUnary prevLive plan.operandOf blocked lands skipsInto landsAny constToVal toVal findOrPushConst findOrPush
+unfolding set.minus flow.joined rowAt sweep below tally value rowsOf first page ruleOf kindsOf hasRole isJump cases caseOf usedBy givenBy isLevel firstLevel storeOf overPending pastStore restores idle usedAt givenAt afterAt routeStart listed handlersOf added resumeOf resultAt keptAt listsTo offsetsTo stagesOf checkOf rules firstBadTry tryKept globalAnswer globalOf traced tracedBy saysAt setsIt passesBy writes foldBinop foldNeg ints floats divmod quotient remainder shifted inRange floorDiv floorMod downDiv downMod shiftUp div ofInt eq neg ofBits toBits foldCall rejoined foldLent handlesAny barred joinedBuffers constantFold foldPass finished renewed sourcesAfter readyOf tablesOf roomsOf tallyOf chunkCheckOf chunkRules folds every many each some remapOf mapped movedOperand left compacted placed paired noop phiMarkAt phisMarked pairsLeft indexed foldAll folded tryFold applied landed put constLoad planAt planFor kindOf plan.operatorPage tryFoldBinop tryFoldUnary foldUnary prevLive plan.operandOf blocked lands skipsInto landsAny constToVal toVal findOrPushConst findOrPush
 marked =
     record {
       p1 = (told refl held (leb-true _ _ refl), refl);

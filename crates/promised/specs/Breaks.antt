@@ -1,18 +1,18 @@
 -- Why strict mode is asked for: the plain mode does not keep the runs of P13's code. Assumes nothing.
 use mathlib.Core.List.{[], _∷_}
 use mathlib.Core.Bool.{false}
-use Rattle.optimizer.specs.Fold.{Outcome}
+use Rattle.optimizer.specs.Fold.{FoldOutcome}
 use Rattle.optimizer.specs.Fold.{FoldAnswer}
-use Rattle.runs.specs.Rule.{Rule}
+use Rattle.runs.specs.Rule.{WishRule}
 use Rattle.runs.specs.Kept.{Same}
-use Rattle.promised.specs.Marked.{code13, called}
+use Rattle.promised.specs.Marked.{code13, foldedCall}
 
 -- what the plain mode leaves of it
-abbrev pub plainly : Outcome FoldAnswer
-plainly = called false code13 (1 ∷ 1 ∷ 9 ∷ []) (2 ∷ 3 ∷ 9 ∷ []) 2
+abbrev pub plainly : FoldOutcome FoldAnswer
+plainly = foldedCall false code13 (1 ∷ 1 ∷ 9 ∷ []) (2 ∷ 3 ∷ 9 ∷ []) 2
 
 pub record Breaks : Type 0 where
   -- P13's code is a chunk as wish 14 has it
-  pub rule : Rule code13 2
+  pub rule : WishRule code13 2
   -- and not both of its runs end alike: before the fold it ends, after it never
   pub breaks : Same code13 (1 ∷ 1 ∷ 9 ∷ []) (2 ∷ 3 ∷ 9 ∷ []) 4 (plainly .after .code) (plainly .after .kinds) (plainly .after .words) 2 → ⊥

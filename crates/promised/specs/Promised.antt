@@ -28,36 +28,36 @@ use Rattle.params.specs.Answers.{writtenAnswer, passedAnswer}
 use Rattle.callee.specs.Answers.{globalAnswer}
 use Rattle.pushes.specs.Answers.{pushAnswer}
 use Rattle.stack.specs.Answers.{stackAnswer}
-use Rattle.callee.specs.Trace.{stepAt, heard, tracedBy, traced}
+use Rattle.callee.specs.Trace.{saysAt, heard, tracedBy, traced}
 use Rattle.phis.specs.Phi.{Dead}
 use Rattle.generators.specs.Generator.{GenPure}
 use Rattle.needed.specs.Path.{Needs}
-use Rattle.seek.specs.Asked.{nextAt, jumpsIn}
+use Rattle.seek.specs.Asked.{seekNext, jumpsIn}
 use Rattle.paths.specs.Search.{Turns}
 use Rattle.flow.specs.Set.{bit}
 use Rattle.flow.specs.Flow.{Flow, Least}
-use Rattle.values.specs.Python.{Divides, floorDiv, floorMod, Digitwise, both, some, one, andZ, orZ, xorZ, eqZ, signed, sign}
-use Rattle.values.specs.Folds.{Small}
+use Rattle.values.specs.Python.{Divides, floorDiv, floorMod, Digitwise, both, anyOf, one, andZ, orZ, xorZ, eqZ, signed, sign}
+use Rattle.values.specs.Folds.{SmallInt}
 use Rattle.values.specs.declared.Val.the-variants.{Float as Real}
 use Rattle.values.specs.declared.Maybe.the-variants.{Is}
 use Rattle.chunk.specs.Pool.{toVal, findOrPush, findOrPushConst}
 use Rattle.lent.specs.Chunk as chunk
 use Rattle.lent.specs.Chunk.{operandAt, originAt, names, folds}
-use Rattle.lent.specs.Check.{checkOf, readyOf}
+use Rattle.lent.specs.Check.{chunkCheckOf, readyOf}
 use Rattle.lent.specs.declared.Counts.{Counts}
 use Rattle.fold.specs.Plan.{Chunk, kindOf}
 use Rattle.landings.specs.Landings.{landingsOf, Unmarked}
 use Rattle.fold.specs.Pass.{Bars, byScan, byTable, folded, foldAll}
 use Rattle.optimizer.specs.Fold as fold
-use Rattle.named.specs.Unused.{AllNear, named}
+use Rattle.named.specs.Unused.{AllNear, constantNamed}
 use Rattle.clear.specs.Clear as clearing
-use Rattle.refold.specs.Lending.{Lending, leaving}
+use Rattle.refold.specs.Lending.{Lending, foldLeaving}
 use Rattle.refold.specs.Lendable.{Lendable}
 use Rattle.refold.specs.Left.{PoolLeft, FoldBeyond, NoneDied, asLent, TriesLeft, LandingsLeft, tried}
 use Rattle.refold.specs.Examples.{jumping, summed, crossed, crossedCounts, crossedLens}
 use Rattle.refold.specs.Origins.{OriginsLeft}
 use Rattle.runs.specs.Machine.{Ins, Stack, End, Run}
-use Rattle.runs.specs.Rule.{Rule}
+use Rattle.runs.specs.Rule.{WishRule}
 use Rattle.answers.specs.Answers.{MadeTold, EnterTold, LeaveTold, ReplayTold}
 use Rattle.exported.specs.Settles.{One, Settles}
 use Rattle.exported.specs.Calls.{TargetsCall, LoopsCall, EntriesBeyond, Marks, DeadCall, GenCall, NeededCall, MarksBeyond, Lists, KeptCall, KeptSettles}
@@ -76,7 +76,7 @@ use Rattle.flow.specs.Demand.{Alike}
 use Rattle.steps.specs.Code.{flow}
 use Rattle.levels.specs.Answers.{levelAnswer}
 use Rattle.area.specs.Area.{freeOf, putIn}
-use Rattle.saver.specs.Saver.{Saver, regsOf, usedOf}
+use Rattle.saver.specs.Saver.{Saver, regsOf, inUse}
 use Rattle.leaves.specs.Leaving.{Back, returned, thrown}
 use Rattle.frames.specs.Frames.{fileOf, Sound, Open}
 use Rattle.figures.specs.Figures.{bodyFigures}
@@ -89,7 +89,7 @@ use Rattle.steps.specs.Code.{afterAt}
 use Rattle.blocks.specs.Blocks.{slotAt, stepsOf}
 use Rattle.trace.specs.Trace.{Recorded}
 use Rattle.day.specs.Count.{readsIn, levelsIn}
-use Rattle.day.specs.Day.{stagesOf}
+use Rattle.day.specs.Day.{replayStages}
 use Rattle.replays.specs.Positions.{slotsFrom, visited}
 use Rattle.steps.specs.Level.{isLevel}
 use Rattle.answers.specs.Answers.{ExposedTold}
@@ -105,7 +105,7 @@ OneAnswer x = One (λ r. r ≡ x)
 
 -- instruction k of w has the mark 'names a constant', and its operand is i
 pub record Naming (w : List ℕ) (i k : ℕ) : Type 0 where
-  pub there : k < chunk.count w
+  pub there : k < chunk.chunkCount w
   pub mark : names w k ≡ true
   pub is : operandAt w k ≡ i
 
@@ -171,7 +171,7 @@ pub record Promised : Type 0 where
   -- bit r of a mask, as params_written and passed answer it, says what it is to say of r
   pub mask-bit : (f : ℕ → Bool) (n r : ℕ) → r < n → mask f n / 2 ^ r % 2 ≡ boolByte (f r)
   -- the callee trace goes back instruction by instruction
-  pub by-step : (w : List ℕ) (a d : ℕ) → 0 < d → traced w a d ≡ heard (stepAt w (d - 1) a) (d - 1) (tracedBy w a (d - 1))
+  pub by-step : (w : List ℕ) (a d : ℕ) → 0 < d → traced w a d ≡ heard (saysAt w (d - 1) a) (d - 1) (tracedBy w a (d - 1))
   -- and starts again before the push it found
   pub left-out : (w : List ℕ) (a d p : ℕ) → p ≤ d → tracedBy w a d p ≡ traced w a p
   -- ---- liveness, from refusal 0
@@ -207,10 +207,10 @@ pub record Promised : Type 0 where
   -- as the forced wide route does
   pub wide-zero : (bits regs : ℕ) (w : List ℕ) → startAt bits true regs w ≡ 0
   -- its search begins with the asked position, if that is an instruction, and makes at most as many turns as there are instructions and jumps
-  pub needed-few : (w seen seen′ : List ℕ) (at k top : ℕ) → Turns (count w) (nextAt w) seen (boolByte (ltb at (count w))) k seen′ top
+  pub needed-few : (w seen seen′ : List ℕ) (at k top : ℕ) → Turns (count w) (seekNext w) seen (boolByte (ltb at (count w))) k seen′ top
       → k ≤ count w + jumpsIn w
   -- a turn looks only at an instruction with no mark and marks it, and a mark stays: none is looked at twice
-  pub needed-once : (w seen seen′ : List ℕ) (top k top′ j : ℕ) → Turns (count w) (nextAt w) seen top k seen′ top′ → getD seen j 0 ≡ 1 → getD seen′ j 0 ≡ 1
+  pub needed-once : (w seen seen′ : List ℕ) (top k top′ j : ℕ) → Turns (count w) (seekNext w) seen top k seen′ top′ → getD seen j 0 ≡ 1 → getD seen′ j 0 ≡ 1
   -- ---- Python's numbers
 
   -- quotient and remainder are as Python's law asks
@@ -220,7 +220,7 @@ pub record Promised : Type 0 where
   -- each digit of a & b is 1 where both are
   pub and-law : (a b : ℤ) → Digitwise both a b (andZ a b)
   -- each digit of a | b is 1 where one or both are
-  pub or-law : (a b : ℤ) → Digitwise some a b (orZ a b)
+  pub or-law : (a b : ℤ) → Digitwise anyOf a b (orZ a b)
   -- each digit of a ^ b is 1 where just one is
   pub xor-law : (a b : ℤ) → Digitwise one a b (xorZ a b)
   -- numbers with equal digits are equal
@@ -230,16 +230,16 @@ pub record Promised : Type 0 where
   -- and that an int equals itself
   pub eqZ-same : (a : ℤ) → eqZ a a ≡ true
   -- two ints in range compare through their floats as ints do
-  pub lt-ints : (a b : ℤ) → Small a → Small b → lt (ofInt binary64 a) (ofInt binary64 b) ≡ ltZ a b
-  pub le-ints : (a b : ℤ) → Small a → Small b → le (ofInt binary64 a) (ofInt binary64 b) ≡ leZ a b
-  pub eq-ints : (a b : ℤ) → Small a → Small b → eq (ofInt binary64 a) (ofInt binary64 b) ≡ eqZ a b
-  pub ne-ints : (a b : ℤ) → Small a → Small b → ne (ofInt binary64 a) (ofInt binary64 b) ≡ not (eqZ a b)
+  pub lt-ints : (a b : ℤ) → SmallInt a → SmallInt b → lt (ofInt binary64 a) (ofInt binary64 b) ≡ ltZ a b
+  pub le-ints : (a b : ℤ) → SmallInt a → SmallInt b → le (ofInt binary64 a) (ofInt binary64 b) ≡ leZ a b
+  pub eq-ints : (a b : ℤ) → SmallInt a → SmallInt b → eq (ofInt binary64 a) (ofInt binary64 b) ≡ eqZ a b
+  pub ne-ints : (a b : ℤ) → SmallInt a → SmallInt b → ne (ofInt binary64 a) (ofInt binary64 b) ≡ not (eqZ a b)
   -- an int in range becomes a float exactly
-  pub exact-int : (a : ℤ) → Small a → HasValue (ofInt binary64 a) (sign a) (natAbs a) 1
+  pub exact-int : (a : ℤ) → SmallInt a → HasValue (ofInt binary64 a) (sign a) (natAbs a) 1
   -- an int beside a finite float, ±n * 2 ^ d, compares as the numbers do, both times the power of two below the line
-  pub lt-mixed : (a : ℤ) → Small a → (t : Bool) (n : ℕ) (d : ℤ) → lt (ofInt binary64 a) (fin t n d) ≡ ltZ (a *ℤ pos (down d)) (signed t (n * up d))
-  pub gt-mixed : (a : ℤ) → Small a → (t : Bool) (n : ℕ) (d : ℤ) → lt (fin t n d) (ofInt binary64 a) ≡ ltZ (signed t (n * up d)) (a *ℤ pos (down d))
-  pub eq-mixed : (a : ℤ) → Small a → (t : Bool) (n : ℕ) (d : ℤ) → eq (ofInt binary64 a) (fin t n d) ≡ eqZ (a *ℤ pos (down d)) (signed t (n * up d))
+  pub lt-mixed : (a : ℤ) → SmallInt a → (t : Bool) (n : ℕ) (d : ℤ) → lt (ofInt binary64 a) (fin t n d) ≡ ltZ (a *ℤ pos (down d)) (signed t (n * up d))
+  pub gt-mixed : (a : ℤ) → SmallInt a → (t : Bool) (n : ℕ) (d : ℤ) → lt (fin t n d) (ofInt binary64 a) ≡ ltZ (signed t (n * up d)) (a *ℤ pos (down d))
+  pub eq-mixed : (a : ℤ) → SmallInt a → (t : Bool) (n : ℕ) (d : ℤ) → eq (ofInt binary64 a) (fin t n d) ≡ eqZ (a *ℤ pos (down d)) (signed t (n * up d))
   -- the single NaN has the bits 0x7FF8_0000_0000_0000
   pub the-nan : toBits binary64 nan ≡ 0x7ff8_0000_0000_0000
   -- any lent float whose word is above infinity's, its sign apart, is read as the single NaN
@@ -262,10 +262,10 @@ pub record Promised : Type 0 where
   pub fold-tables : (strict : Bool) (c : Counts) (b : Lending) (r : Answer) (a : Lending) → FoldCall strict c b r a → r .refusal ≡ 0 → Lendable (foldedOf r) c a
   -- with the words past it, which are 0, it keeps them too
   pub fold-code : (strict : Bool) (c : Counts) (b : Lending) (r : Answer) (a : Lending) → FoldCall strict c b r a → r .refusal ≡ 0
-      → (n : ℕ) → checkOf (b .buffers .code) ≡ stage.Count n → checkOf (a .buffers .code) ≡ stage.Count n
+      → (n : ℕ) → chunkCheckOf (b .buffers .code) ≡ stage.Count n → chunkCheckOf (a .buffers .code) ≡ stage.Count n
   -- if nothing died, code, constants, tries and every table stay as lent, the dead marks are 0, and the landings are those of what was lent
   pub fold-idle : (strict : Bool) (c : Counts) (b : Lending) (r : Answer) (a : Lending) → FoldCall strict c b r a → r .refusal ≡ 0
-      → NoneDied (b .buffers) (a .buffers) → leaving (fold.Is (foldedOf r)) a ≡ asLent b c
+      → NoneDied (b .buffers) (a .buffers) → foldLeaving (fold.Is (foldedOf r)) a ≡ asLent b c
   -- ---- fold, clear, fold
 
   -- a folded chunk, its code cut at the answered count and the counts as answered, is folded again and not refused
@@ -288,7 +288,7 @@ pub record Promised : Type 0 where
   pub same-folds : (s : Chunk) → Unmarked (s .code) → (strict : Bool) (tries : List ℕ)
       → foldAll (byTable strict (landingsOf (s .code) tries)) s ≡ foldAll (byScan strict tries) s
   -- the table is true after every fold
-  pub still-true : (s : Chunk) → Unmarked (s .code) → (bars : Bars) (tries : List ℕ) (k : ℕ) → k ≤ chunk.count (s .code)
+  pub still-true : (s : Chunk) → Unmarked (s .code) → (bars : Bars) (tries : List ℕ) (k : ℕ) → k ≤ chunk.chunkCount (s .code)
       → landingsOf (folded bars k s .code) tries ≡ landingsOf (s .code) tries
   -- after an answer each of its n + 1 entries is how many jumps and handlers land there in the chunk that is left, and 0 past its end
   pub fold-landings : (strict : Bool) (c : Counts) (b : Lending) (r : Answer) (a : Lending) → FoldCall strict c b r a → r .refusal ≡ 0
@@ -303,24 +303,24 @@ pub record Promised : Type 0 where
   pub origins-folded : (strict : Bool) (c : Counts) (b : Lending) (r : Answer) (a : Lending) → FoldCall strict c b r a → r .refusal ≡ 0
       → OriginsLeft (b .buffers) (foldedOf r) (a .buffers)
   -- clearing moves none
-  pub origins-cleared : (m : ℕ) (b : clearing.Buffers) (r : Answer) (a : clearing.Buffers) → ClearCall m b r a → r .refusal ≡ 0
-      → (k : ℕ) → k < chunk.count (b .code) → originAt (a .code) k ≡ originAt (b .code) k
+  pub origins-cleared : (m : ℕ) (b : clearing.PoolBuffers) (r : Answer) (a : clearing.PoolBuffers) → ClearCall m b r a → r .refusal ≡ 0
+      → (k : ℕ) → k < chunk.chunkCount (b .code) → originAt (a .code) k ≡ originAt (b .code) k
   -- folded, then cleared, and then folded again: each time every instruction has the origin of one that was there before all of it, in the same order
   pub origins-kept : (strict : Bool) (c : Counts) (b : Lending) (r : Answer) (a : Lending) → FoldCall strict c b r a → r .refusal ≡ 0 → OriginsKept b c r a
   -- ---- wish 14: folding keeps what a rule computes
 
   -- of a chunk as wish 14 has it: in strict mode a run ends before folding exactly when it ends after it, with the same stack or the same stop
   pub runs-kept : (c : Counts) (b : Lending) (r : Answer) (a : Lending) → FoldCall true c b r a → r .refusal ≡ 0
-      → Rule (b .buffers .code) (c .constants) → RunsKept b r a
+      → WishRule (b .buffers .code) (c .constants) → RunsKept b r a
   -- what is left, its code cut at the answered count, is such a chunk again
   pub rule-left : (c : Counts) (b : Lending) (r : Answer) (a : Lending) → FoldCall true c b r a → r .refusal ≡ 0
-      → Rule (b .buffers .code) (c .constants) → Rule (take (chunk.stride * r .first) (a .buffers .code)) (r .second)
+      → WishRule (b .buffers .code) (c .constants) → WishRule (take (chunk.stride * r .first) (a .buffers .code)) (r .second)
   -- clearing does the same: a run ends before it exactly when it ends after it, alike, and what is left is such a chunk
-  pub clears-kept : (m : ℕ) (b : clearing.Buffers) (r : Answer) (a : clearing.Buffers) → ClearCall m b r a → r .refusal ≡ 0
-      → Rule (b .code) m → ClearsKept b r a
+  pub clears-kept : (m : ℕ) (b : clearing.PoolBuffers) (r : Answer) (a : clearing.PoolBuffers) → ClearCall m b r a → r .refusal ≡ 0
+      → WishRule (b .code) m → ClearsKept b r a
   -- folded, then cleared, and then folded again: each time a run ends exactly when it ended before all of it, alike
   pub runs-cleared : (c : Counts) (b : Lending) (r : Answer) (a : Lending) → FoldCall true c b r a → r .refusal ≡ 0
-      → Rule (b .buffers .code) (c .constants) → RunsCleared b c r a
+      → WishRule (b .buffers .code) (c .constants) → RunsCleared b c r a
   -- a run has one end
   pub one-end : (code : ℕ → Ins) (n k : ℕ) (s : Stack) (e e′ : End) → Run code n k s e → Run code n k s e′ → e ≡ e′
   -- why strict: P13's code is such a chunk, and its run, which ends, never ends after the plain fold
@@ -328,14 +328,14 @@ pub record Promised : Type 0 where
   -- ---- wish 1: clear unused constants
 
   -- an instruction with the mark names the constant that its operand says
-  pub named-by : (w : List ℕ) (i k : ℕ) → Naming w i k → named w i ≡ true
+  pub named-by : (w : List ℕ) (i k : ℕ) → Naming w i k → constantNamed w i ≡ true
   -- and a named constant is named by one
-  pub naming : (w : List ℕ) (i : ℕ) → named w i ≡ true → (k : ℕ) × Naming w i k
+  pub naming : (w : List ℕ) (i : ℕ) → constantNamed w i ≡ true → (k : ℕ) × Naming w i k
   -- exactly the named constants are left, in their order, freed entries are 0, and every instruction loads what it loaded
-  pub clear-holds : (m : ℕ) (b : clearing.Buffers) (r : Answer) (a : clearing.Buffers) → ClearCall m b r a → r .refusal ≡ 0 → ClearHolds m b r a
+  pub clear-holds : (m : ℕ) (b : clearing.PoolBuffers) (r : Answer) (a : clearing.PoolBuffers) → ClearCall m b r a → r .refusal ≡ 0 → ClearHolds m b r a
   -- asked again, clear is not refused and changes nothing more but its scratch, which counts the constants that are left
-  pub cleared-twice : (m : ℕ) (b : clearing.Buffers) (r : Answer) (a : clearing.Buffers) → ClearCall m b r a → r .refusal ≡ 0
-      → (s : Answer) (x : clearing.Buffers) → ClearCall (r .first) a s x → ClearedTwice r a s x
+  pub cleared-twice : (m : ℕ) (b : clearing.PoolBuffers) (r : Answer) (a : clearing.PoolBuffers) → ClearCall m b r a → r .refusal ≡ 0
+      → (s : Answer) (x : clearing.PoolBuffers) → ClearCall (r .first) a s x → ClearedTwice r a s x
   -- ---- wish 4: the frame saver
 
   -- make, enter, a return and an exception settle the answer and every word of head, area and file; level has one answer
@@ -355,33 +355,33 @@ pub record Promised : Type 0 where
   -- that leaving is never refused, and the words in use are as before the entry
   pub saved-left : (bits : ℕ) (w : List ℕ) (regs : ℕ) (tries : List ℕ) (a : Lists) (k : ℕ) (v : Answer) (s t : Saver) → AtLevel bits w regs tries a k v s
       → Entered (listLeft a k) (v .third) s t
-      → (back : Back) (t′ : Saver) (r : Answer) → LeaveTold t back t′ r → r ≡ answerOf (usedOf s) 0 0 0
+      → (back : Back) (t′ : Saver) (r : Answer) → LeaveTold t back t′ r → r ≡ answerOf (inUse s) 0 0 0
   -- the kept list of a level is never refused with 14
   pub saved-fine : (bits : ℕ) (w : List ℕ) (regs : ℕ) (tries : List ℕ) (a : Lists) (k : ℕ) (v : Answer) (s : Saver) → AtLevel bits w regs tries a k v s
       → (t : Saver) (r : Answer) → EnterTold s (listLeft a k) (v .third) t r → r .refusal ≢ 14
   -- 8 where free words are fewer than twice the list plus two, and then nothing changes; an answer everywhere else
   pub saved-full : (bits : ℕ) (w : List ℕ) (regs : ℕ) (tries : List ℕ) (a : Lists) (k : ℕ) (v : Answer) (s : Saver) → AtLevel bits w regs tries a k v s
-      → freeOf (usedOf s) < 2 * length (listLeft a k) + 2
-      → (t : Saver) (r : Answer) → EnterTold s (listLeft a k) (v .third) t r → (r ≡ refusalOf 8 (freeOf (usedOf s)) 0) × (t ≡ s)
+      → freeOf (inUse s) < 2 * length (listLeft a k) + 2
+      → (t : Saver) (r : Answer) → EnterTold s (listLeft a k) (v .third) t r → (r ≡ refusalOf 8 (freeOf (inUse s)) 0) × (t ≡ s)
   pub saved-room : (bits : ℕ) (w : List ℕ) (regs : ℕ) (tries : List ℕ) (a : Lists) (k : ℕ) (v : Answer) (s : Saver) → AtLevel bits w regs tries a k v s
-      → 2 * length (listLeft a k) + 2 ≤ freeOf (usedOf s)
-      → (t : Saver) (r : Answer) → EnterTold s (listLeft a k) (v .third) t r → r ≡ answerOf (usedOf s + (2 * length (listLeft a k) + 2)) 0 0 0
+      → 2 * length (listLeft a k) + 2 ≤ freeOf (inUse s)
+      → (t : Saver) (r : Answer) → EnterTold s (listLeft a k) (v .third) t r → r ≡ answerOf (inUse s + (2 * length (listLeft a k) + 2)) 0 0 0
   -- a leaving is refused with 9 exactly where no call is open, after any history, and then nothing changes
   pub saved-none : {s : Saver} → Open s 0 → (back : Back) (t : Saver) (r : Answer) → LeaveTold s back t r → (r ≡ refusalOf 9 0 0) × (t ≡ s)
   pub saved-some : {s : Saver} {n : ℕ} → Open s (suc n) → (back : Back) (t : Saver) (r : Answer) → LeaveTold s back t r → r .refusal ≡ 0
   -- ---- wish 12: a month of scripts in figures
 
   -- all 0 is the report of no body
-  pub figures-none : figured.Holds (replicate 7 0) []
+  pub figures-none : figured.HoldsReport (replicate 7 0) []
   -- an answered add leaves the report of all bodies so far, and tells the body's own levels and kept registers and the mean of all
-  pub figures-add : (xs : List Body) (w o : List ℕ) (len : ℕ) (old new : List ℕ) (r : Answer) → figured.Holds old xs → addCall w o len old ≡ reports new r
+  pub figures-add : (xs : List Body) (w o : List ℕ) (len : ℕ) (old new : List ℕ) (r : Answer) → figured.HoldsReport old xs → addCall w o len old ≡ reports new r
       → r .refusal ≡ 0
       → let all = xs ++ (record { code = w; offsets = o } ∷ []) in
-      figured.Holds new all × (r ≡ answerOf (bodyFigures w o .levels) (bodyFigures w o .kept) (reportOf all .kept) (reportOf all .levels))
+      figured.HoldsReport new all × (r ≡ answerOf (bodyFigures w o .levels) (bodyFigures w o .kept) (reportOf all .kept) (reportOf all .levels))
   -- reports of two groups joined are the report of all
-  pub figures-join : (xs ys : List Body) (later old new : List ℕ) (r : Answer) → figured.Holds old xs → figured.Holds later ys
+  pub figures-join : (xs ys : List Body) (later old new : List ℕ) (r : Answer) → figured.HoldsReport old xs → figured.HoldsReport later ys
       → joinCall later old ≡ reports new r → r .refusal ≡ 0
-      → figured.Holds new (xs ++ ys) × (r ≡ answerOf 0 0 (reportOf (xs ++ ys) .kept) (reportOf (xs ++ ys) .levels))
+      → figured.HoldsReport new (xs ++ ys) × (r ≡ answerOf 0 0 (reportOf (xs ++ ys) .kept) (reportOf (xs ++ ys) .levels))
   -- a refused add or join changes no word of the report
   pub add-keeps : (w o : List ℕ) (len : ℕ) (old new : List ℕ) (r : Answer) → addCall w o len old ≡ reports new r → r .refusal ≢ 0 → new ≡ old
   pub join-keeps : (later old new : List ℕ) (r : Answer) → joinCall later old ≡ reports new r → r .refusal ≢ 0 → new ≡ old
@@ -400,7 +400,7 @@ pub record Promised : Type 0 where
       → Recorded w tries t
   -- a recorded run is answered, where code, registers, tries and reads are not refused
   pub replay-answered : (w : List ℕ) (regs : ℕ) (tries t old new : List ℕ) (r : Answer) → ReplayTold w regs tries t old new r
-      → stagesOf w regs tries (length old) ≡ stage.Count (count w) → Recorded w tries t → r .refusal ≡ 0
+      → replayStages w regs tries (length old) ≡ stage.Count (count w) → Recorded w tries t → r .refusal ≡ 0
   -- where "after" names every move of a stretch, demand 3's machine has choices by which it visits exactly these positions, whatever is written
   pub replay-run : (w : List ℕ) (regs : ℕ) (tries t old new : List ℕ) (r : Answer) → ReplayTold w regs tries t old new r → r .refusal ≡ 0
       → (s m : ℕ) → s + m ≤ stepsOf t → ((j : ℕ) → s ≤ j → suc j < s + m → among (slotAt t (suc j)) (afterAt w (slotAt t j)) ≡ true)

@@ -24,17 +24,17 @@ use Rattle.flow.proofs.Answer.{found-regs}
 use Rattle.flow.proofs.Buffer.{rows-one}
 use Rattle.steps.specs.Level.{firstLevel}
 use Rattle.steps.specs.Code.{usedAt}
-use Rattle.rows.specs.Route.{wordsFor, firstOf, rowsIn}
+use Rattle.rows.specs.Route.{wordsFor, routeStart, rowsIn}
 use Rattle.rows.proofs.Routes.{words-few}
 use Rattle.sets.proofs.Sets.{set-lt}
-use Rattle.kept.specs.Lists.{listsTo, Width, Ready, Filled}
+use Rattle.kept.specs.Lists.{listsTo, Width, LevelsRoom, Filled}
 use Rattle.kept.specs.Answers.{stagesOf}
 use Rattle.kept.specs.declared.KeptAnswer.the-variants.{Is, No}
 use Rattle.kept.proofs.Calls as kept
 use Rattle.kept.proofs.Demand.{inside}
 use Rattle.kept.proofs.Tests.{accepted-few, accepted-valid}
 use Rattle.nested.specs.Raising.{raising, mays, beginsAt}
-use Rattle.raises.specs.Answers.{Outcome}
+use Rattle.raises.specs.Answers.{RaisingOutcome}
 
 width : Width 64 16
 width = record { some = omega arith; more = omega arith; few = omega arith; span = refl }
@@ -53,7 +53,7 @@ module _ (regs : ℕ) (l : regs ≤ 64) where
 
   pub by-near : (f : Flow) (w rows rows₀ : List ℕ) (full lost : ℕ) → length rows ≡ length rows₀ → length rows₀ ≡ suc (count w) * wordsFor 64 regs
       → Found f (firstLevel w) rows full lost → Found f (beginsAt regs w) (rowsIn 64 regs w rows) full lost
-  unfolding firstOf
+  unfolding routeStart
   by-near f w rows rows₀ full lost h h₀ p =
       subst (λ (x : List ℕ). Found f (cond (ltb 64 regs) 0 (firstLevel w)) x full lost) same
       (subst (λ (x : ℕ). Found f x rows full lost) (sym (ap (λ (t : Bool). cond t 0 (firstLevel w)) small)) p)
@@ -67,7 +67,7 @@ module _ (regs : ℕ) (l : regs ≤ 64) where
 
 pub by-far : (regs m : ℕ) (f : Flow) (w rows : List ℕ) (full : ℕ) → 64 < regs → m ≡ wordsFor 64 regs → Found f 0 (rowsOf 64 m (suc (count w)) rows) full 0
     → Found f (beginsAt regs w) (rowsIn 64 regs w rows) full 0
-unfolding firstOf
+unfolding routeStart
 by-far regs m f w rows full l e p =
     subst (λ (x : ℕ). Found f x (rowsIn 64 regs w rows) full 0) (sym (ap (λ (t : Bool). cond t 0 (firstLevel w)) (lt-ltb 64 regs l)))
     (subst (λ (x : ℕ). Found f 0 (rowsOf 64 x (suc (count w)) rows) full 0) e p)
@@ -100,7 +100,7 @@ module _ (regs : ℕ) (w tries rows offsets : List ℕ) (n : ℕ) (h : stagesOf 
 
   module _ (all : Bool) (part : List ℕ) (full lost : ℕ) (f : Found (raising (mays all w) regs w tries) (beginsAt regs w) (rowsIn 64 regs w part) full lost)
       (l : length part ≡ length (take ((count w + 1) * m) rows)) where
-    pub ready : Small 64 (part ++ drop ((count w + 1) * m) rows) → Ready 64 16 regs w m (part ++ drop ((count w + 1) * m) rows)
+    pub ready : Small 64 (part ++ drop ((count w + 1) * m) rows) → LevelsRoom 64 16 regs w m (part ++ drop ((count w + 1) * m) rows)
     ready = kept.ready-by 64 16 width regs w tries rows offsets n h m e (raising (mays all w) regs w tries) (beginsAt regs w)
         (bound all regs w tries) part full lost f l
 
@@ -110,14 +110,14 @@ module _ (regs : ℕ) (w tries rows offsets : List ℕ) (n : ℕ) (h : stagesOf 
 
     module _ (list : List ℕ) (total : ℕ) (q : total ≡ length (listsTo regs w tries (rowsOf 64 m (suc (count w)) (part ++ drop ((count w + 1) * m) rows))
         (count w))) where
-      pub out-short : length list < total → Outcome w regs tries all rows offsets list (part ++ drop ((count w + 1) * m) rows) offsets list (No (Short 3 total))
+      pub out-short : length list < total → RaisingOutcome w regs tries all rows offsets list (part ++ drop ((count w + 1) * m) rows) offsets list (No (Short 3 total))
       out-short =
           kept.short-by 64 16 width regs w tries rows offsets n h m e (raising (mays all w) regs w tries) (beginsAt regs w)
           (bound all regs w tries) part full lost f l list total q
 
       pub out-told : total ≤ length list → (o l′ : List ℕ) → Filled regs w tries
           (rowsOf 64 m (suc (count w)) (part ++ drop ((count w + 1) * m) rows)) offsets list o l′
-          → Outcome w regs tries all rows offsets list (part ++ drop ((count w + 1) * m) rows) o l′ (Is total full lost)
+          → RaisingOutcome w regs tries all rows offsets list (part ++ drop ((count w + 1) * m) rows) o l′ (Is total full lost)
       out-told =
           kept.told-by 64 16 width regs w tries rows offsets n h m e (raising (mays all w) regs w tries) (beginsAt regs w)
           (bound all regs w tries) part full lost f l list total q
@@ -127,5 +127,5 @@ module _ (w : List ℕ) (regs : ℕ) (tries rows offsets : List ℕ) (v : Checke
   pub go-on : (n : ℕ) → v ≡ stage.Count n → stagesOf 64 w regs tries (length rows) (length offsets) ≡ stage.Count (count w)
   go-on = kept.go-on 64 w regs tries rows offsets v e
 
-  pub go-no : (r : Refusal) → v ≡ stage.No r → (all : Bool) (list : List ℕ) → Outcome w regs tries all rows offsets list rows offsets list (No r)
+  pub go-no : (r : Refusal) → v ≡ stage.No r → (all : Bool) (list : List ℕ) → RaisingOutcome w regs tries all rows offsets list rows offsets list (No r)
   go-no r h all list = kept.no-by 64 w regs tries rows offsets v e r h (raising (mays all w) regs w tries) (beginsAt regs w) list

@@ -17,7 +17,7 @@ use Rattle.flow.specs.Set.{minus}
 use Rattle.flow.specs.Flow.{joined, onto, rowAt}
 use Rattle.flow.specs.Sweep.{row, below, Put, Found}
 use Rattle.flow.specs.Kept.{handlersOf}
-use Rattle.flow.specs.Words.{value, window, rowsOf, Small, Holds, Stored}
+use Rattle.flow.specs.Words.{value, window, rowsOf, Small, Holds, WordsStored}
 use Rattle.flow.proofs.Bits.{bit-ext, or-bit}
 use Rattle.flow.proofs.Rows.{In, onto-bit, rowAt-lt}
 use Rattle.flow.proofs.Tally.{below-zero}
@@ -79,7 +79,7 @@ pub ruleset holds = (holds-level, holds-plain)
 
 pub put-is : (words n k regs : ℕ) (tries rows : List ℕ) (s : Step) (may past : Bool) (out new : List ℕ) (changed : Bool) → k < n → regs ≤ words * 64
     → Small 64 rows
-    → Holds 64 new (rowAt (raisingStep may past n regs tries s) (row (rowsOf 64 words (suc n) rows)) k) → Stored rows (k * words) words new out changed
+    → Holds 64 new (rowAt (raisingStep may past n regs tries s) (row (rowsOf 64 words (suc n) rows)) k) → WordsStored rows (k * words) words new out changed
     → Put (raisingStep may past n regs tries s) (rowsOf 64 words (suc n) rows) k (rowsOf 64 words (suc n) out) changed
 put-is words n k regs tries rows s may past out new changed l le sr h st =
     put-row 64 words wide (suc n) rows out new k (rowAt (raisingStep may past n regs tries s) R′ k) changed (omega arith) sr h

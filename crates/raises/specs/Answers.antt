@@ -15,8 +15,8 @@ use Rattle.nested.specs.Raising.{raising, mays, beginsAt}
 use Rattle.nested.specs.Exposed.{exposed}
 
 -- refusals and leavings are those of the kept-register call; the rows are those of the equations with handlers
-abbrev pub Outcome : List ℕ → ℕ → List ℕ → Bool → (rows offsets list new o l : List ℕ) → KeptAnswer → Type 0
-Outcome w regs tries all rows offsets list new o l r = ListsLeft (raising (mays all w) regs w tries)
+abbrev pub RaisingOutcome : List ℕ → ℕ → List ℕ → Bool → (rows offsets list new o l : List ℕ) → KeptAnswer → Type 0
+RaisingOutcome w regs tries all rows offsets list new o l r = ListsLeft (raising (mays all w) regs w tries)
     (beginsAt regs w) 64 w regs tries rows offsets list new o l r
 
 -- what is exposed of a list stands at the front of `out`, words past it as lent, and is counted; refusal 5 where `out` is shorter than the list

@@ -12,7 +12,7 @@ ghost use Rattle.roles.specs.Sets.{only, from};
 ghost use Rattle.flow.specs.Set.{minus};
 ghost use Rattle.flow.specs.Flow.{joined, rowAt};
 ghost use Rattle.flow.specs.Sweep.{row, Put, Found};
-ghost use Rattle.flow.specs.Words.{value, rowsOf, Small, Holds, Stored};
+ghost use Rattle.flow.specs.Words.{value, rowsOf, Small, Holds, WordsStored};
 ghost use Rattle.steps.specs.Code.{setOf};
 ghost use Rattle.steps.specs.Level.{isLevel, firstLevel};
 ghost use Rattle.steps.specs.Step.{named, givenOf, afterOf, stepFlow};
@@ -24,7 +24,7 @@ ghost use Rattle.nested.specs.Raising.{stranded as strandedOf, raising, mays, b
 ghost use Rattle.nested.specs.Exposed.{Exposes};
 ghost use Rattle.raises.specs.Step.{raisingStep};
 ghost use Rattle.raises.specs.Near.{moreOf, moreStep, WentAt, edgeOf, lowestOf, Covered, Covers};
-ghost use Rattle.raises.specs.Answers.{Outcome, ExposedLeft};
+ghost use Rattle.raises.specs.Answers.{RaisingOutcome, ExposedLeft};
 use code::Checked;
 use code::Ins;
 use code::Refusal;
@@ -113,7 +113,7 @@ fn row_wide(s: Step, regs: usize, rows: &[u64], n: usize, words: usize, k: usize
 // The words of a set are stored in the row that starts at `at`: whether that changed one.
 fn store_row(rows: &mut [u64], at: usize, words: usize, set: [u64; 16]) -> bool
     requires { ⌜ (words ≤ 16) × (at + words ≤ length (now rows)) ⌝ }
-    ensures { λ r. ⌜ Stored (now (rows .entry)) at words set (now (rows .exit)) r ⌝ }
+    ensures { λ r. ⌜ WordsStored (now (rows .entry)) at words set (now (rows .exit)) r ⌝ }
 {
     let mut changed = false;
     let mut j = 0;
@@ -580,7 +580,7 @@ pub fn kept_raising(
     offsets: &mut [u32],
     list: &mut [u16],
 ) -> KeptAnswer
-    ensures { λ r. ⌜ Outcome (now (code .entry)) regs (now (tries .entry)) all (now (rows .entry)) (now (offsets .entry)) (now (list .entry))
+    ensures { λ r. ⌜ RaisingOutcome (now (code .entry)) regs (now (tries .entry)) all (now (rows .entry)) (now (offsets .entry)) (now (list .entry))
         (now (rows .exit)) (now (offsets .exit)) (now (list .exit)) r ⌝ }
 {
     let v = kept::stages(code, regs, tries, rows.len(), offsets.len());
@@ -614,7 +614,7 @@ fn keep_all(
     list: &mut [u16],
 ) -> KeptAnswer
     requires { ⌜ stagesOf 64 (now code) regs (now tries) (length (now rows)) (length (now offsets)) ≡ Checked.Count (count (now code)) ⌝ }
-    ensures { λ r. ⌜ Outcome (now (code .entry)) regs (now (tries .entry)) all (now (rows .entry)) (now (offsets .entry)) (now (list .entry))
+    ensures { λ r. ⌜ RaisingOutcome (now (code .entry)) regs (now (tries .entry)) all (now (rows .entry)) (now (offsets .entry)) (now (list .entry))
         (now (rows .exit)) (now (offsets .exit)) (now (list .exit)) r ⌝ }
 {
     let words = rows::words_for(regs);

@@ -15,13 +15,13 @@ use Rattle.laws.proofs.Each.{each-ext}
 use Rattle.code.specs.Op.{Phi}
 use Rattle.landings.specs.Landings.{landingsOf}
 use Rattle.landings.proofs.Kept.{landings-same}
-use Rattle.lent.specs.Chunk.{stride, count, opAt, markAt, operandAt, jumps, names, isPhi}
+use Rattle.lent.specs.Chunk.{stride, chunkCount, opAt, markAt, operandAt, marksJump, names, isPhi}
 use Rattle.fold.specs.Plan.{Chunk}
 use Rattle.positions.specs.Remap.{alive, live, remapOf, mapped}
-use Rattle.compact.specs.Tables.{operandOf, wordsOf, leftAt, left, compacted}
+use Rattle.compact.specs.Tables.{movedOperand, wordsOf, leftAt, left, compacted}
 use Rattle.compact.proofs.Left.{left-long}
 use Rattle.positions.specs.Moved.{placed}
-use Rattle.phi_pass.specs.Phi.{paired, noop, markAt as phiMark, marked, pairLeft, pairsLeft, indexed}
+use Rattle.phi_pass.specs.Phi.{paired, noop, phiMarkAt as phiMark, marked, pairLeft, pairsLeft, indexed}
 use Rattle.lent.proofs.Counting.{many-ext}
 use Rattle.clear.proofs.Alike.{Loads, Alike}
 use Rattle.finish.specs.Finish.{Tables, tables, sourcesAfter, renewed, finished}
@@ -122,9 +122,9 @@ module _ (limit : ℕ) (s t : Chunk) where
 indexed-same : (u v : List ℕ) → length u ≡ length v → ((k : ℕ) → isPhi u k ≡ isPhi v k) → indexed u ≡ indexed v
 unfolding indexed
 indexed-same u v l e =
-    let c : count u ≡ count v = ap (λ (x : ℕ). x / stride) l in
+    let c : chunkCount u ≡ chunkCount v = ap (λ (x : ℕ). x / stride) l in
     ap (each (λ i. cond (isPhi u i) (many (isPhi u) i) 0 ∷ [])) c
-    ∙ each-ext (λ i. cond (isPhi u i) (many (isPhi u) i) 0 ∷ []) (λ i. cond (isPhi v i) (many (isPhi v) i) 0 ∷ []) (count v)
+    ∙ each-ext (λ i. cond (isPhi u i) (many (isPhi u) i) 0 ∷ []) (λ i. cond (isPhi v i) (many (isPhi v) i) 0 ∷ []) (chunkCount v)
     (λ k h. rw (e k, many-ext (isPhi u) (isPhi v) k (λ i q. e i)))
 
 module _ {limit : ℕ} {s t : Chunk} (a : Alike limit s t) where
@@ -135,7 +135,7 @@ module _ {limit : ℕ} {s t : Chunk} (a : Alike limit s t) where
   v = t .code
 
   -- a jump names no constant
-  jump-plain : (k : ℕ) → jumps w k ≡ true → names w k ≡ false
+  jump-plain : (k : ℕ) → marksJump w k ≡ true → names w k ≡ false
   jump-plain k j = go (names w k) refl
     where
       go : (b : Bool) → names w k ≡ b → b ≡ false
@@ -151,16 +151,16 @@ module _ {limit : ℕ} {s t : Chunk} (a : Alike limit s t) where
   -- ---- compaction
 
   module _ (dead : List ℕ) where
-    operand-like : (k : ℕ) → Pair limit s t (opAt w k) (markAt w k) (operandOf dead w k) (opAt v k) (markAt v k) (operandOf dead v k)
-    unfolding operandOf
+    operand-like : (k : ℕ) → Pair limit s t (opAt w k) (markAt w k) (movedOperand dead w k) (opAt v k) (markAt v k) (movedOperand dead v k)
+    unfolding movedOperand
     operand-like k =
         record {
           op = a .ops k;
           mark = a .marks k;
           plain = λ e. rw (a .marks k, a .plain k e);
           load = λ e.
-              let j : jumps w k ≡ false = a .apart k e in
-              let j′ : jumps v k ≡ false = sym (ap (λ (x : ℕ). eqb (x % 2) 1) (a .marks k)) ∙ j in
+              let j : marksJump w k ≡ false = a .apart k e in
+              let j′ : marksJump v k ≡ false = sym (ap (λ (x : ℕ). eqb (x % 2) 1) (a .marks k)) ∙ j in
               rw (j, j′) (a .loads k e);
           goal = λ j. rw (a .marks k, a .plain k (jump-plain k j));
         }
@@ -259,11 +259,11 @@ module _ {limit : ℕ} {s t : Chunk} (a : Alike limit s t) (map sources stmts ca
   new-phis : (d : List ℕ) (k : ℕ) → isPhi (compacted d (s .code)) k ≡ isPhi (compacted d (t .code)) k
   new-phis d k = ap (λ (o : ℕ). eqb o Phi) (compacted-like a d k .op)
 
-  new-count : (d : List ℕ) → many (isPhi (compacted d (s .code))) (count (compacted d (s .code))) ≡ many (isPhi (compacted d (t .code)))
-      (count (compacted d (t .code)))
+  new-count : (d : List ℕ) → many (isPhi (compacted d (s .code))) (chunkCount (compacted d (s .code))) ≡ many (isPhi (compacted d (t .code)))
+      (chunkCount (compacted d (t .code)))
   new-count d =
       ap (λ (x : ℕ). many (isPhi (compacted d (s .code))) (x / stride)) (compacted-long a d)
-      ∙ many-ext (isPhi (compacted d (s .code))) (isPhi (compacted d (t .code))) (count (compacted d (t .code))) (λ k h. new-phis d k)
+      ∙ many-ext (isPhi (compacted d (s .code))) (isPhi (compacted d (t .code))) (chunkCount (compacted d (t .code))) (λ k h. new-phis d k)
 
   renewed-beside : (d : List ℕ) → Beside limit s t (renewed (with-code (s .code) d)) (renewed (with-code (t .code) d))
   unfolding renewed sourcesAfter

@@ -11,7 +11,7 @@ use Rattle.lent.specs.declared.Lens.{Lens}
 use Rattle.optimizer.specs.Fold.{lensOf}
 use Rattle.optimizer.specs.declared.Folded.{Folded}
 use Rattle.clear.specs.Clear as clearing
-use Rattle.named.specs.Unused.{named, before, pooled}
+use Rattle.named.specs.Unused.{constantNamed, before, pooled}
 use Rattle.clear.proofs.Answers.{answered-call, answered}
 use Rattle.clear.proofs.Accepts.{accepted-after}
 use Rattle.clear.proofs.Kept.{pooled-length}
@@ -25,12 +25,12 @@ pub folds : (strict : Bool) (l : Lending) (c : Counts) (n : ℕ) → readyFor l 
 folds strict l c n e = (o strict l c .answer, all-left strict l c, call-answered strict l c n e)
 
 module _ (f : Folded) (c : Counts) (a : Lending) (x : Lendable f c a) (scratch : List ℕ) (h : f .constants ≤ length scratch) where
-  abbrev b : clearing.Buffers
+  abbrev b : clearing.PoolBuffers
   b = clearable f a scratch
 
   -- the clearing call refuses nothing but a scratch that is too short
-  pub clears-after : clearing.readyOf b (f .constants) ≡ Count (f .instructions)
-  unfolding clearing.readyOf
+  pub clears-after : clearing.clearReadyOf b (f .constants) ≡ Count (f .instructions)
+  unfolding clearing.clearReadyOf
   clears-after = rw (x .code, x .pool, le-ltb (length scratch) (f .constants) h)
 
   pub chained : (strict : Bool) → Chained f c a scratch strict
@@ -48,8 +48,8 @@ module _ (f : Folded) (c : Counts) (a : Lending) (x : Lendable f c a) (scratch :
         y .code,
         y .kinds,
         y .words,
-        pooled-length (named w) m (a .buffers .kinds) (k .kinds),
-        pooled-length (named w) m (a .buffers .words) (k .words),
+        pooled-length (constantNamed w) m (a .buffers .kinds) (k .kinds),
+        pooled-length (constantNamed w) m (a .buffers .words) (k .words),
       ) i in
       let (g, u, v) = folds strict d (countsCleared f c (before w m)) (f .instructions) z in
       record { left = before w m; cleared = clearing.cleared b m .after; clears = e; folded = g; after = u; folds = v }

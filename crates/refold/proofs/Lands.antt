@@ -11,17 +11,17 @@ use lib.ListN.{length, getD, take, drop}
 use lib.Seq.{length-take-le, getD-take, take-at}
 use mir.Val.{boolByte}
 use Rattle.laws.specs.All.{every, many}
-use Rattle.lent.specs.Chunk.{stride, count, markAt, operandAt, jumps}
+use Rattle.lent.specs.Chunk.{stride, chunkCount, markAt, operandAt, marksJump}
 use Rattle.lent.specs.declared.Counts.{Counts}
 use Rattle.lent.proofs.Counting.{many-ext}
-use Rattle.landings.specs.Landings.{jumpsTo, handledAt, landingsAt}
+use Rattle.landings.specs.Landings.{jumpLands, handlerLands, landingsAt}
 use Rattle.positions.specs.Remap.{alive, live}
 use Rattle.positions.specs.Moved.{movedAll}
 use Rattle.compact.proofs.Left.{mark-past}
 use Rattle.phi_pass.specs.Phi.{marked}
 use Rattle.phi_pass.proofs.Pairs.{marked-length}
 use Rattle.finish.specs.Finish.{Tables, tables, mapOf, sourcesOf, renewed, finished}
-use Rattle.optimizer.specs.Fold.{Called, constantFold, joined}
+use Rattle.optimizer.specs.Fold.{Called, constantFold, joinedBuffers}
 use Rattle.optimizer.specs.declared.Folded.{Folded}
 use Rattle.optimizer.proofs.Tries.{table-after, past-none}
 use Rattle.refold.specs.Lending.{Lending, readyFor, Folds}
@@ -44,26 +44,26 @@ many-cut f r (suc n) h e =
     nothing x = omega arith
 
 -- what has no jump from r on has the landings of its first r instructions
-module _ (w tries : List ℕ) (r : ℕ) (h : r ≤ count w) (e : (k : ℕ) → r ≤ k → k < count w → jumps w k ≡ false) (t : ℕ) where
-  cut-count : count (take (stride * r) w) ≡ r
+module _ (w tries : List ℕ) (r : ℕ) (h : r ≤ chunkCount w) (e : (k : ℕ) → r ≤ k → k < chunkCount w → marksJump w k ≡ false) (t : ℕ) where
+  cut-count : chunkCount (take (stride * r) w) ≡ r
   cut-count = let l = length-take-le (stride * r) w (omega arith) in omega arith
 
-  cut-to : (k : ℕ) → k < r → jumpsTo w t k ≡ jumpsTo (take (stride * r) w) t k
+  cut-to : (k : ℕ) → k < r → jumpLands w t k ≡ jumpLands (take (stride * r) w) t k
   cut-to k l = rw (getD-take (stride * r) w (stride * k + 1) 0 (omega arith), getD-take (stride * r) w (stride * k + 2) 0 (omega arith)) refl
 
-  none-to : (k : ℕ) → r ≤ k → k < count w → jumpsTo w t k ≡ false
+  none-to : (k : ℕ) → r ≤ k → k < chunkCount w → jumpLands w t k ≡ false
   none-to k a b = rw (e k a b) refl
 
   cut-landings : landingsAt w tries t ≡ landingsAt (take (stride * r) w) tries t
   unfolding landingsAt
   cut-landings =
       rw (cut-count)
-      (ap (λ (x : ℕ). x + many (handledAt tries t) (length tries / 2))
-      (many-cut (jumpsTo w t) r (count w) h none-to ∙ many-ext (jumpsTo w t) (jumpsTo (take (stride * r) w) t) r cut-to))
+      (ap (λ (x : ℕ). x + many (handlerLands tries t) (length tries / 2))
+      (many-cut (jumpLands w t) r (chunkCount w) h none-to ∙ many-ext (jumpLands w t) (jumpLands (take (stride * r) w) t) r cut-to))
 
 -- past the new end there is no jump
 finished-calm : (t : Tables) → t .left .instructions ≡ length (t .dead) → (k : ℕ) → finished t .left .instructions ≤ k → k < length (t .dead)
-    → jumps (finished t .code) k ≡ false
+    → marksJump (finished t .code) k ≡ false
 unfolding finished renewed
 finished-calm t e k = go (every (alive d) (length d))
   where
@@ -73,7 +73,7 @@ finished-calm t e k = go (every (alive d) (length d))
     m : Tables
     m = tables (t .code) (t .map) (t .sources) (t .stmts) (t .calls) d (t .remap) (t .left)
 
-    go : (u : Bool) → cond u m (renewed m) .left .instructions ≤ k → k < length (t .dead) → jumps (cond u m (renewed m) .code) k ≡ false
+    go : (u : Bool) → cond u m (renewed m) .left .instructions ≤ k → k < length (t .dead) → marksJump (cond u m (renewed m) .code) k ≡ false
     go true a b = absurd (omega arith)
     go false a b = rw (mark-past d (t .code) k a) refl
 
@@ -82,28 +82,28 @@ module _ (strict : Bool) (l : Lending) (c : Counts) where
     abbrev answer : Folds strict l c (o strict l c .answer) (all-left strict l c)
     answer = call-answered strict l c m q
 
-    pub front : take (count (l .buffers .code)) (all-left strict l c .buffers .dead) ≡ o strict l c .after .dead
-    unfolding joined constantFold
+    pub front : take (chunkCount (l .buffers .code)) (all-left strict l c .buffers .dead) ≡ o strict l c .after .dead
+    unfolding joinedBuffers constantFold
     front =
-        take-at (after strict l c .dead) (drop (count (l .buffers .code)) (l .buffers .dead)) (count (l .buffers .code))
+        take-at (after strict l c .dead) (drop (chunkCount (l .buffers .code)) (l .buffers .dead)) (chunkCount (l .buffers .code))
         (all-settled strict l c m q .dead ∙ end-marks strict l c m q)
 
     tries-moved : TriesLeft l (o strict l c .answer) (all-left strict l c)
     unfolding constantFold
     tries-moved = record { moved = ap (λ (d : List ℕ). movedAll d (l .tries)) (sym front); kept = tries-left strict l c m q }
 
-    calm : (k : ℕ) → after strict l c .left .instructions ≤ k → k < count (l .buffers .code) → jumps (after strict l c .code) k ≡ false
+    calm : (k : ℕ) → after strict l c .left .instructions ≤ k → k < chunkCount (l .buffers .code) → marksJump (after strict l c .code) k ≡ false
     calm k a b =
         finished-calm (before strict l c) (marks strict l c m q ∙ sym (end-marks strict l c m q)) k a (omega (arith, end-marks strict l c m q))
 
     landings-left : LandingsLeft l (o strict l c .answer) (all-left strict l c)
-    unfolding constantFold joined
+    unfolding constantFold joinedBuffers
     landings-left =
         let b = l .buffers in
         let f = o strict l c .answer in
         let e = ap (λ (x : Called). x .result .answer) answer in
         let w = after strict l c .code in
-        let z : count w ≡ count (b .code) = check-count w m (after-code strict l c m q) ∙ sym (n-is strict l c m q) in
+        let z : chunkCount w ≡ chunkCount (b .code) = check-count w m (after-code strict l c m q) ∙ sym (n-is strict l c m q) in
         record {
           counts = λ k h.
               subst (λ (x : Called). getD (x .landings) k 0 ≡ landingsAt (x .result .after .code) (x .tries) k) answer

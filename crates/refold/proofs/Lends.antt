@@ -22,9 +22,9 @@ use Rattle.code.specs.declared.Refusal.the-variants.{Length, Record, Try, Table
 use Rattle.code.specs.declared.Checked.{Checked}
 use Rattle.code.specs.declared.Checked.the-variants.{Count, No as Refused}
 use Rattle.code.proofs.Stages.{room-before}
-use Rattle.lent.specs.Chunk.{stride, count, opAt, folds, isPhi}
+use Rattle.lent.specs.Chunk.{stride, chunkCount, opAt, folds, isPhi}
 use Rattle.lent.specs.Tables.{constantKept, within, constantsKept, mapKept, pairsKept, tableOf}
-use Rattle.lent.specs.Check.{uneven, firstBad, checkOf, tablesOf, tallyOf, constantRoom, sourceRoom, roomsOf, readyOf}
+use Rattle.lent.specs.Check.{unevenChunk, firstBadOf, chunkCheckOf, tablesOf, tallyOf, constantRoom, sourceRoom, roomsOf, readyOf}
 use Rattle.lent.proofs.Kept.{kinds-there, words-there}
 use Rattle.lent.specs.declared.Counts.{Counts}
 use Rattle.lent.specs.declared.Lens.{Lens}
@@ -32,13 +32,13 @@ use Rattle.lent.proofs.Counting.{every-at}
 use Rattle.fold.specs.Plan.{Chunk, chunk}
 use Rattle.landings.specs.Landings.{landingsOf}
 use Rattle.landings.proofs.Asked.{table-long}
-use Rattle.fold.specs.Pass.{Bars, byScan, foldAll, Lent}
+use Rattle.fold.specs.Pass.{Bars, byScan, foldAll, PassRoom}
 use Rattle.positions.specs.Remap.{alive}
 use Rattle.positions.specs.Moved.{movedAll}
 use Rattle.positions.proofs.Mapped.{moved-long, none-moved}
-use Rattle.finish.specs.Finish.{Tables, tables, finished, Fit}
-use Rattle.optimizer.specs.Fold.{Buffers, lensOf, needed, sourcesNeeded, Outcome, outcome, foldPass, constantFold, joined}
-use Rattle.optimizer.specs.Fold.{foldLent, Called, rejoined, foldCall, Held, Exact}
+use Rattle.finish.specs.Finish.{Tables, tables, finished, TableRoom}
+use Rattle.optimizer.specs.Fold.{Buffers, lensOf, needed, sourcesNeeded, FoldOutcome, foldOutcome, foldPass, constantFold, joinedBuffers}
+use Rattle.optimizer.specs.Fold.{foldLent, Called, rejoined, foldCall, FoldRoom, Exact}
 use Rattle.optimizer.specs.declared.Folded.{Folded}
 use Rattle.optimizer.specs.Fold.{FoldAnswer}
 use Rattle.optimizer.specs.Fold.{Is, No}
@@ -54,7 +54,7 @@ use Rattle.refold.proofs.Prefix.{prefix}
 use Rattle.refold.proofs.Spent.{waiting, all-spent}
 use Rattle.refold.proofs.Settled.{Settled, settled}
 use Rattle.refold.specs.Pushed.{Pushed}
-use Rattle.refold.specs.Lending.{Lending, lending, readyFor, leaving, foldOf, Folds}
+use Rattle.refold.specs.Lending.{Lending, lending, readyFor, foldLeaving, foldOf, Folds}
 use Rattle.refold.specs.Left.{PoolLeft, BuffersBeyond, FoldBeyond, NoneDied, asLent}
 use Rattle.refold.specs.Lendable.{cutCode, cutAt, countsLeft, Lendable}
 
@@ -90,10 +90,10 @@ tables-kept n k v kinds words c l e =
 rooms-kept : (n : ℕ) (v : Checked) (w : List ℕ) (c : Counts) (l : Lens) → roomsOf v w c l ≡ Count n → v ≡ Count n
 unfolding roomsOf
 rooms-kept n v w c l e =
-    let r₆ = room-before n _ 6 (l .remap) (count w + 1) (sym e) in
-    let r₅ = room-before n _ 5 (l .dead) (count w) (sym r₆) in
+    let r₆ = room-before n _ 6 (l .remap) (chunkCount w + 1) (sym e) in
+    let r₅ = room-before n _ 5 (l .dead) (chunkCount w) (sym r₆) in
     let r₄ = room-before n _ 4 (l .sources) (sourceRoom (c .sources) (tallyOf w .phis)) (sym r₅) in
-    let r₃ = room-before n _ 3 (l .map) (count w) (sym r₄) in
+    let r₃ = room-before n _ 3 (l .map) (chunkCount w) (sym r₄) in
     let r₂ = room-before n _ 2 (l .words) (constantRoom (c .constants) (tallyOf w .folding)) (sym r₃) in
     room-before n v 1 (l .kinds) (constantRoom (c .constants) (tallyOf w .folding)) (sym r₂)
 
@@ -106,21 +106,21 @@ tried-kept n (Count m) t e = go (ltb (firstBadTry t m) (pairs t)) e
     go false e = e
 
 ready-kept : (n : ℕ) (w tries kinds words : List ℕ) (c : Counts) (l : Lens) (landings : ℕ) → readyOf w tries kinds words c l landings ≡ Count n
-    → Kept n (count w) (triedOf (checkOf w) tries) kinds words c l
+    → Kept n (chunkCount w) (triedOf (chunkCheckOf w) tries) kinds words c l
 unfolding readyOf
 ready-kept n w tries kinds words c l landings e =
-    let v = tablesOf (triedOf (checkOf w) tries) (count w) kinds words c l in
-    tables-kept n (count w) (triedOf (checkOf w) tries) kinds words c l
-    (rooms-kept n v w c l (room-before n (roomsOf v w c l) 7 landings (count w + 1) (sym e)))
+    let v = tablesOf (triedOf (chunkCheckOf w) tries) (chunkCount w) kinds words c l in
+    tables-kept n (chunkCount w) (triedOf (chunkCheckOf w) tries) kinds words c l
+    (rooms-kept n v w c l (room-before n (roomsOf v w c l) 7 landings (chunkCount w + 1) (sym e)))
 
-pub check-count : (w : List ℕ) (n : ℕ) → checkOf w ≡ Count n → count w ≡ n
-unfolding checkOf
-check-count w n e = go (uneven w) refl (ltb (firstBad w) (count w)) refl e
+pub check-count : (w : List ℕ) (n : ℕ) → chunkCheckOf w ≡ Count n → chunkCount w ≡ n
+unfolding chunkCheckOf
+check-count w n e = go (unevenChunk w) refl (ltb (firstBadOf w) (chunkCount w)) refl e
   where
-    go : (u : Bool) → uneven w ≡ u → (b : Bool) → ltb (firstBad w) (count w) ≡ b → checkOf w ≡ Count n → count w ≡ n
+    go : (u : Bool) → unevenChunk w ≡ u → (b : Bool) → ltb (firstBadOf w) (chunkCount w) ≡ b → chunkCheckOf w ≡ Count n → chunkCount w ≡ n
     go true p b q g = never n (Length (length w)) (rw p at g)
-    go false p true q g = never n (Record (firstBad w)) (rw (p, q) at g)
-    go false p false q g = let z : Count (count w) ≡ Count n = rw (p, q) at g in cc
+    go false p true q g = never n (Record (firstBadOf w)) (rw (p, q) at g)
+    go false p false q g = let z : Count (chunkCount w) ≡ Count n = rw (p, q) at g in cc
 
 -- ---- and what they ask for
 
@@ -137,18 +137,18 @@ tables-on n k v kinds words c l x =
 record Roomy (w : List ℕ) (c : Counts) (l : Lens) : Type 0 where
   kinds : constantRoom (c .constants) (tallyOf w .folding) ≤ l .kinds
   words : constantRoom (c .constants) (tallyOf w .folding) ≤ l .words
-  map : count w ≤ l .map
+  map : chunkCount w ≤ l .map
   sources : sourceRoom (c .sources) (tallyOf w .phis) ≤ l .sources
-  dead : count w ≤ l .dead
-  remap : count w + 1 ≤ l .remap
+  dead : chunkCount w ≤ l .dead
+  remap : chunkCount w + 1 ≤ l .remap
 
 rooms-on : (n : ℕ) (v : Checked) (w : List ℕ) (c : Counts) (l : Lens) → v ≡ Count n → Roomy w c l → roomsOf v w c l ≡ Count n
 unfolding roomsOf
 rooms-on n v w c l e r =
-    room-on n _ 6 (l .remap) (count w + 1)
-    (room-on n _ 5 (l .dead) (count w)
+    room-on n _ 6 (l .remap) (chunkCount w + 1)
+    (room-on n _ 5 (l .dead) (chunkCount w)
     (room-on n _ 4 (l .sources) (sourceRoom (c .sources) (tallyOf w .phis))
-    (room-on n _ 3 (l .map) (count w)
+    (room-on n _ 3 (l .map) (chunkCount w)
     (room-on n _ 2 (l .words) (constantRoom (c .constants) (tallyOf w .folding))
     (room-on n v 1 (l .kinds) (constantRoom (c .constants) (tallyOf w .folding)) e (r .kinds))
     (r .words)) (r .map)) (r .sources)) (r .dead)) (r .remap)
@@ -165,12 +165,12 @@ tried-on n v t e h =
     let f = first-none-below (λ j. not (tryKept t n j)) (pairs t) 0 (λ j l. ap not (h j (omega arith))) in
     rw (e, le-ltb (first (λ j. not (tryKept t n j)) 0 (pairs t)) (pairs t) (omega arith))
 
-ready-on : (n : ℕ) (w tries kinds words : List ℕ) (c : Counts) (l : Lens) (landings : ℕ) → Kept n (count w) (triedOf (checkOf w) tries) kinds words c l
-    → Roomy w c l → count w + 1 ≤ landings → readyOf w tries kinds words c l landings ≡ Count n
+ready-on : (n : ℕ) (w tries kinds words : List ℕ) (c : Counts) (l : Lens) (landings : ℕ) → Kept n (chunkCount w) (triedOf (chunkCheckOf w) tries) kinds words c l
+    → Roomy w c l → chunkCount w + 1 ≤ landings → readyOf w tries kinds words c l landings ≡ Count n
 unfolding readyOf
 ready-on n w tries kinds words c l landings x r h =
-    let v = tablesOf (triedOf (checkOf w) tries) (count w) kinds words c l in
-    room-on n (roomsOf v w c l) 7 landings (count w + 1) (rooms-on n v w c l (tables-on n (count w) (triedOf (checkOf w) tries) kinds words c l x) r) h
+    let v = tablesOf (triedOf (chunkCheckOf w) tries) (chunkCount w) kinds words c l in
+    room-on n (roomsOf v w c l) 7 landings (chunkCount w + 1) (rooms-on n v w c l (tables-on n (chunkCount w) (triedOf (chunkCheckOf w) tries) kinds words c l x) r) h
 
 map-on : (n entries len : ℕ) → (entries ≡ 0) ⊎ (entries ≡ n) → entries ≤ len → mapKept n entries len ≡ true
 map-on n entries len e h = ⊎-elim (λ q. rw (eq-eqb entries 0 q, le-leb entries len h))
@@ -218,7 +218,7 @@ module _ (strict : Bool) (l : Lending) (c : Counts) where
   abbrev scan : Bars
   scan = byScan strict (l .tries)
 
-  abbrev pub o : Outcome Folded
+  abbrev pub o : FoldOutcome Folded
   o = constantFold scan (needed b c) c
 
   -- the tries follow, and the table counts what lands in the chunk that is left
@@ -226,22 +226,22 @@ module _ (strict : Bool) (l : Lending) (c : Counts) where
   moved = movedAll (o .after .dead) (l .tries)
 
   abbrev pub all-left : Lending
-  all-left = lending (joined b c o .after) moved (landingsOf (o .after .code) moved ++ drop (count (b .code) + 1) (l .landings))
+  all-left = lending (joinedBuffers b c o .after) moved (landingsOf (o .after .code) moved ++ drop (chunkCount (b .code) + 1) (l .landings))
 
-  pub call-refused : (r : Refusal) → readyFor l c ≡ Refused r → foldOf strict l c ≡ leaving (No r) l
+  pub call-refused : (r : Refusal) → readyFor l c ≡ Refused r → foldOf strict l c ≡ foldLeaving (No r) l
   unfolding foldCall
   call-refused r e = rw e
 
   pub call-answered : (m : ℕ) → readyFor l c ≡ Count m → Folds strict l c (o .answer) all-left
-  unfolding foldCall rejoined joined foldLent
+  unfolding foldCall rejoined joinedBuffers foldLent
   call-answered m e = rw e
 
   -- the chunk that the pass begins with, and ends with
   abbrev pub clean : Chunk
-  clean = chunk (b .code) (replicate (length (take (count (b .code)) (b .dead))) 0) (b .kinds) (b .words) (c .constants)
+  clean = chunk (b .code) (replicate (length (take (chunkCount (b .code)) (b .dead))) 0) (b .kinds) (b .words) (c .constants)
 
   abbrev pub end : Chunk
-  end = foldPass scan (chunk (b .code) (take (count (b .code)) (b .dead)) (b .kinds) (b .words) (c .constants))
+  end = foldPass scan (chunk (b .code) (take (chunkCount (b .code)) (b .dead)) (b .kinds) (b .words) (c .constants))
 
   abbrev pub before : Tables
   before =
@@ -256,36 +256,36 @@ module _ (strict : Bool) (l : Lending) (c : Counts) where
   end-is = refl
 
   module _ (m : ℕ) (q : readyFor l c ≡ Count m) where
-    pub rules : Kept m (count (b .code)) (triedOf (checkOf (b .code)) (l .tries)) (b .kinds) (b .words) c (lensOf b)
+    pub rules : Kept m (chunkCount (b .code)) (triedOf (chunkCheckOf (b .code)) (l .tries)) (b .kinds) (b .words) c (lensOf b)
     rules = ready-kept m (b .code) (l .tries) (b .kinds) (b .words) c (lensOf b) (length (l .landings)) q
 
-    pub code-fine : checkOf (b .code) ≡ Count m
-    code-fine = tried-kept m (checkOf (b .code)) (l .tries) (rules .before)
+    pub code-fine : chunkCheckOf (b .code) ≡ Count m
+    code-fine = tried-kept m (chunkCheckOf (b .code)) (l .tries) (rules .before)
 
-    held : Held b c
+    held : FoldRoom b c
     held = held-of b (l .tries) c (length (l .landings)) m (Count m) (sym q) refl
 
-    pub n-is : count (b .code) ≡ m
+    pub n-is : chunkCount (b .code) ≡ m
     n-is = check-count (b .code) m code-fine
 
-    pub marks : length (take (count (b .code)) (b .dead)) ≡ count (b .code)
-    marks = length-take-le (count (b .code)) (b .dead) (held .dead)
+    pub marks : length (take (chunkCount (b .code)) (b .dead)) ≡ chunkCount (b .code)
+    marks = length-take-le (chunkCount (b .code)) (b .dead) (held .dead)
 
     exact : Exact (needed b c) c
     exact = exact-of (b .code) (b .kinds) (b .words) (b .map) (b .sources) (b .stmts) (b .calls) (b .dead) (b .remap) c (sourcesNeeded b c) refl held
 
-    fit : Fit before
+    fit : TableRoom before
     fit =
         fit-of (b .code) (b .kinds) (b .words) (needed b c .map) (needed b c .sources) (needed b c .stmts) (needed b c .calls) (needed b c .dead)
         (needed b c .remap) c
         scan (end .code) (end .dead) (end .kinds) (end .words) (end .constants) exact refl
 
-    pub lent-clean : Lent clean
+    pub lent-clean : PassRoom clean
     unfolding tallyOf
     lent-clean =
         record {
           few = held .constants;
-          marks = omega (arith, marks, length-replicate {A = ℕ} (length (take (count (b .code)) (b .dead))) 0);
+          marks = omega (arith, marks, length-replicate {A = ℕ} (length (take (chunkCount (b .code)) (b .dead))) 0);
           kinds-room = held .kinds;
           words-room = held .words;
         }
@@ -293,8 +293,8 @@ module _ (strict : Bool) (l : Lending) (c : Counts) where
     pushed : Pushed clean end
     pushed = rw end-is (all-pushed scan clean)
 
-    pub pool-left : PoolLeft b c (o .answer) (joined b c o .after)
-    unfolding constantFold joined
+    pub pool-left : PoolLeft b c (o .answer) (joinedBuffers b c o .after)
+    unfolding constantFold joinedBuffers
     pool-left =
         let p = pushed in
         record {
@@ -307,13 +307,13 @@ module _ (strict : Bool) (l : Lending) (c : Counts) where
           words-long = p .words-long;
         }
 
-    pub end-marks : length (end .dead) ≡ count (b .code)
-    end-marks = pushed .dead-long ∙ length-replicate (length (take (count (b .code)) (b .dead))) 0 ∙ marks
+    pub end-marks : length (end .dead) ≡ chunkCount (b .code)
+    end-marks = pushed .dead-long ∙ length-replicate (length (take (chunkCount (b .code)) (b .dead))) 0 ∙ marks
 
     pub all-settled : Settled before after
     all-settled =
         settled before fit (marks ∙ sym end-marks)
-        (rw end-marks (map-is (count (b .code)) (c .map) (length (b .map)) (rules .map)))
+        (rw end-marks (map-is (chunkCount (b .code)) (c .map) (length (b .map)) (rules .map)))
         (pairs-is (c .sources) (length (b .sources)) (rules .sources))
 
     abbrev r : ℕ
@@ -322,27 +322,27 @@ module _ (strict : Bool) (l : Lending) (c : Counts) where
     abbrev short : List ℕ
     short = take (stride * r) (after .code)
 
-    pub after-code : checkOf (after .code) ≡ Count m
-    unfolding constantFold joined
-    after-code = sym (ap (λ (x : Called). checkOf (x .result .after .code)) (call-answered m q)) ∙ again strict b (l .tries) (l .landings) c m code-fine
+    pub after-code : chunkCheckOf (after .code) ≡ Count m
+    unfolding constantFold joinedBuffers
+    after-code = sym (ap (λ (x : Called). chunkCheckOf (x .result .after .code)) (call-answered m q)) ∙ again strict b (l .tries) (l .landings) c m code-fine
 
     pub few : r ≤ m
     few = omega (arith, all-settled .few, end-marks, n-is)
 
-    code-again : checkOf short ≡ Count r
+    code-again : chunkCheckOf short ≡ Count r
     code-again = prefix (after .code) m r after-code few
 
     pool-kept : constantsKept (end .kinds) (end .words) (end .constants) ≡ true
     pool-kept = rw end-is (pool-again scan clean lent-clean (rules .constants))
 
-    short-count : count short ≡ r
+    short-count : chunkCount short ≡ r
     short-count = check-count short r code-again
 
     -- the operators that are left, with the constants, ask for no more room
     spent : many (λ k. folds (opAt short k)) r + end .constants ≤ tallyOf (b .code) .folding + c .constants
     unfolding tallyOf
     spent =
-        let n = count (b .code) in
+        let n = chunkCount (b .code) in
         let s : many (waiting (end .code) (end .dead)) n + end .constants ≤ many (waiting (clean .code) (clean .dead)) n + c .constants =
         rw end-is (all-spent scan clean (lent-clean .marks)) in
         let u : many (waiting (clean .code) (clean .dead)) n ≤ many (λ k. folds (opAt (b .code) k)) n =
@@ -356,32 +356,32 @@ module _ (strict : Bool) (l : Lending) (c : Counts) where
     unfolding tallyOf
     phis-few =
         let p = pass-kept scan (chunk (b .code) (needed b c .dead) (b .kinds) (b .words) (c .constants)) end (omega (arith, marks)) refl in
-        let u = many-fewer (isPhi (end .code)) (isPhi (b .code)) (λ k h. sym (p .phis k) ∙ h) (count (b .code)) in
-        let v : many (isPhi (end .code)) (length (end .dead)) ≡ many (isPhi (end .code)) (count (b .code)) = ap (many (isPhi (end .code))) end-marks in
+        let u = many-fewer (isPhi (end .code)) (isPhi (b .code)) (λ k h. sym (p .phis k) ∙ h) (chunkCount (b .code)) in
+        let v : many (isPhi (end .code)) (length (end .dead)) ≡ many (isPhi (end .code)) (chunkCount (b .code)) = ap (many (isPhi (end .code))) end-marks in
         omega (arith, all-settled .phis)
 
     -- the tries that are left keep their rule
     pub tries-left : (j : ℕ) → j < pairs moved → tryKept moved r j ≡ true
-    unfolding constantFold joined
+    unfolding constantFold joinedBuffers
     tries-left j h =
         let e = call-answered m q in
         let z = tries-kept strict b (l .tries) (l .landings) c (o .answer) (ap (λ (x : Called). x .result .answer) e) j
         (rw (moved-long (o .after .dead) (l .tries)) at h) in
         subst (λ (x : Called). tryKept (x .tries) r j ≡ true) e z
 
-    rules-left : Kept r (count short) (triedOf (checkOf short) moved) (end .kinds) (end .words) (countsLeft (o .answer) c)
-        (lensOf (cutCode (o .answer) (joined b c o .after)))
-    unfolding constantFold joined
+    rules-left : Kept r (chunkCount short) (triedOf (chunkCheckOf short) moved) (end .kinds) (end .words) (countsLeft (o .answer) c)
+        (lensOf (cutCode (o .answer) (joinedBuffers b c o .after)))
+    unfolding constantFold joinedBuffers
     rules-left =
         record {
-          before = tried-on r (checkOf short) moved code-again tries-left;
+          before = tried-on r (chunkCheckOf short) moved code-again tries-left;
           constants = pool-kept;
           map =
               rw short-count
-              (map-on r (after .left .map) (length (after .map ++ drop (count (b .code)) (b .map))) (all-settled .entries)
+              (map-on r (after .left .map) (length (after .map ++ drop (chunkCount (b .code)) (b .map))) (all-settled .entries)
               (⊎-elim
               (λ z. omega (arith, z))
-              (λ z. omega (arith, z, few, n-is, length-append (after .map) (drop (count (b .code)) (b .map)), all-settled .map, fit .map, end-marks))
+              (λ z. omega (arith, z, few, n-is, length-append (after .map) (drop (chunkCount (b .code)) (b .map)), all-settled .map, fit .map, end-marks))
               (all-settled .entries)));
           sources =
               pairs-on (after .left .sources) (length (after .sources ++ drop (sourcesNeeded b c) (b .sources))) (all-settled .even)
@@ -409,12 +409,12 @@ module _ (strict : Bool) (l : Lending) (c : Counts) where
     room-of : (len : ℕ) → constantRoom (c .constants) (tallyOf (b .code) .folding) ≤ len → end .constants ≤ len
         → constantRoom (end .constants) (tallyOf short .folding) ≤ len
     unfolding tallyOf
-    room-of len h k = let e : many (λ j. folds (opAt short j)) (count short) ≡ many (λ j. folds (opAt short j)) r = ap (many (λ j. folds (opAt short j)))
+    room-of len h k = let e : many (λ j. folds (opAt short j)) (chunkCount short) ≡ many (λ j. folds (opAt short j)) r = ap (many (λ j. folds (opAt short j)))
         short-count in omega (arith, spent)
 
     phi-room : (len : ℕ) → sourcesNeeded b c ≤ len → after .left .sources ≤ len → sourceRoom (after .left .sources) (tallyOf short .phis) ≤ len
     unfolding tallyOf
-    phi-room len h k = let e : many (isPhi short) (count short) ≡ many (isPhi short) r = ap (many (isPhi short)) short-count in omega
+    phi-room len h k = let e : many (isPhi short) (chunkCount short) ≡ many (isPhi short) r = ap (many (isPhi short)) short-count in omega
         (arith, phis-few, all-settled .even)
 
     pool-within : (end .constants ≤ length (end .kinds)) × (end .constants ≤ length (end .words))
@@ -423,13 +423,13 @@ module _ (strict : Bool) (l : Lending) (c : Counts) where
         (every (constantKept (end .kinds) (end .words)) (end .constants)) pool-kept .0 in
         (kinds-there (end .constants) (length (end .kinds)) (length (end .words)) w, words-there (end .constants) (length (end .kinds)) (length (end .words)) w)
 
-    room-left : Roomy short (countsLeft (o .answer) c) (lensOf (cutCode (o .answer) (joined b c o .after)))
-    unfolding constantFold joined
+    room-left : Roomy short (countsLeft (o .answer) c) (lensOf (cutCode (o .answer) (joinedBuffers b c o .after)))
+    unfolding constantFold joinedBuffers
     room-left =
         record {
           kinds = room-of (length (end .kinds)) (rw (pushed .kinds-long) (held .kinds)) (pool-within .0);
           words = room-of (length (end .words)) (rw (pushed .words-long) (held .words)) (pool-within .1);
-          map = rw short-count (omega (arith, few, n-is, length-append (after .map) (drop (count (b .code)) (b .map)), all-settled .map, fit .map, end-marks));
+          map = rw short-count (omega (arith, few, n-is, length-append (after .map) (drop (chunkCount (b .code)) (b .map)), all-settled .map, fit .map, end-marks));
           sources =
               phi-room (length (after .sources ++ drop (sourcesNeeded b c) (b .sources)))
               (omega (
@@ -440,49 +440,49 @@ module _ (strict : Bool) (l : Lending) (c : Counts) where
                     (drop (sourcesNeeded b c) (b .sources)),
               ))
               (omega (arith, all-settled .pairs, length-append (after .sources) (drop (sourcesNeeded b c) (b .sources))));
-          dead = rw short-count (omega (arith, few, n-is, length-append (after .dead) (drop (count (b .code)) (b .dead)), all-settled .dead, end-marks));
+          dead = rw short-count (omega (arith, few, n-is, length-append (after .dead) (drop (chunkCount (b .code)) (b .dead)), all-settled .dead, end-marks));
           remap =
               rw short-count
               (omega (
                 arith,
                 few,
                 n-is,
-                length-append (after .remap) (drop (count (b .code) + 1) (b .remap)),
+                length-append (after .remap) (drop (chunkCount (b .code) + 1) (b .remap)),
                 all-settled .remap,
                 length-take-le
-                    (count (b .code) + 1) (b .remap) (held .remap),
+                    (chunkCount (b .code) + 1) (b .remap) (held .remap),
               ));
         }
 
     -- the table keeps its length, and its words past n + 1
-    table-held : Table.Held (count (b .code) + 1) (l .landings) (all-left .landings)
+    table-held : Table.Held (chunkCount (b .code) + 1) (l .landings) (all-left .landings)
     unfolding constantFold
     table-held =
-        let z : count (after .code) ≡ count (b .code) = check-count (after .code) m after-code ∙ sym n-is in
-        front-held (count (b .code) + 1) (landingsOf (after .code) moved) (l .landings) (table-long (after .code) moved ∙ ap (λ (x : ℕ). x + 1) z)
+        let z : chunkCount (after .code) ≡ chunkCount (b .code) = check-count (after .code) m after-code ∙ sym n-is in
+        front-held (chunkCount (b .code) + 1) (landingsOf (after .code) moved) (l .landings) (table-long (after .code) moved ∙ ap (λ (x : ℕ). x + 1) z)
         (table-there b (l .tries) c (length (l .landings)) m (Count m) (sym q) refl)
 
-    table-room : count short + 1 ≤ length (all-left .landings)
+    table-room : chunkCount short + 1 ≤ length (all-left .landings)
     table-room =
         omega (arith, short-count, few, n-is, table-held .same, table-there b (l .tries) c (length (l .landings)) m (Count m) (sym q) refl)
 
     lendable : Lendable (o .answer) c all-left
-    unfolding constantFold joined
+    unfolding constantFold joinedBuffers
     lendable =
         record {
           code = code-again;
           pool = pool-kept;
           ready =
-              ready-on r short moved (end .kinds) (end .words) (countsLeft (o .answer) c) (lensOf (cutCode (o .answer) (joined b c o .after)))
+              ready-on r short moved (end .kinds) (end .words) (countsLeft (o .answer) c) (lensOf (cutCode (o .answer) (joinedBuffers b c o .after)))
               (length (all-left .landings)) rules-left room-left table-room;
         }
 
     -- ---- words past a need
 
-    buffers-beyond : BuffersBeyond c b (joined b c o .after)
-    unfolding constantFold joined tallyOf
+    buffers-beyond : BuffersBeyond c b (joinedBuffers b c o .after)
+    unfolding constantFold joinedBuffers tallyOf
     buffers-beyond =
-        let n = count (b .code) in
+        let n = chunkCount (b .code) in
         let room = constantRoom (c .constants) (tallyOf (b .code) .folding) in
         let few : end .constants ≤ room = rw end-is (pool-few scan clean lent-clean) in
         let p = pushed in
@@ -513,7 +513,7 @@ module _ (strict : Bool) (l : Lending) (c : Counts) where
           let y : No r ≡ Is f = ap (λ (x : Called). x .result .answer) (sym (call-refused r q) ∙ e) in
           absurd (let z : _≡_ {A = ℕ} 0 1 = cc in omega arith)
       go (Count m) q =
-          let y : leaving (Is (o .answer)) all-left ≡ leaving (Is f) a = sym (call-answered m q) ∙ e in
+          let y : foldLeaving (Is (o .answer)) all-left ≡ foldLeaving (Is f) a = sym (call-answered m q) ∙ e in
           let i : Is (o .answer) ≡ Is f = ap (λ (x : Called). x .result .answer) y in
           let j : o .answer ≡ f = cc in
           let k : all-left ≡ a = ap (λ (x : Called). lending (x .result .after) (x .tries) (x .landings)) y in
@@ -532,7 +532,7 @@ module _ (strict : Bool) (l : Lending) (c : Counts) where
   stays-beyond = by-call (λ f a. FoldBeyond c l a) fold-beyond
 
   -- a refusal leaves all as lent
-  pub refusal-leaves : (r : Refusal) (a : Lending) → foldOf strict l c ≡ leaving (No r) a → a ≡ l
+  pub refusal-leaves : (r : Refusal) (a : Lending) → foldOf strict l c ≡ foldLeaving (No r) a → a ≡ l
   refusal-leaves r a e = go (readyFor l c) refl
     where
       go : (v : Checked) → readyFor l c ≡ v → a ≡ l
@@ -544,29 +544,29 @@ module _ (strict : Bool) (l : Lending) (c : Counts) where
   -- ---- if nothing died
 
   module _ (m : ℕ) (q : readyFor l c ≡ Count m) where
-    all-alive : NoneDied b (joined b c o .after) → every (alive (o .after .dead)) (length (o .after .dead)) ≡ true
-    unfolding joined constantFold
+    all-alive : NoneDied b (joinedBuffers b c o .after) → every (alive (o .after .dead)) (length (o .after .dead)) ≡ true
+    unfolding joinedBuffers constantFold
     all-alive e =
-        let n = count (b .code) in
+        let n = chunkCount (b .code) in
         let l : length (after .dead) ≡ n = all-settled m q .dead ∙ end-marks m q in
         every-of (alive (after .dead)) (length (after .dead))
         (λ k h.
         let z : getD (after .dead ++ drop n (b .dead)) k 0 ≡ getD (after .dead) k 0 = List·getD-append (after .dead) (drop n (b .dead)) 0 k h in
         sym (ap (λ (x : ℕ). eqb x 0) z) ∙ every-at (alive (after .dead ++ drop n (b .dead))) n k e (rw l at h))
 
-    idle : NoneDied b (joined b c o .after) → leaving (Is (o .answer)) all-left ≡ asLent l c
-    unfolding joined
+    idle : NoneDied b (joinedBuffers b c o .after) → foldLeaving (Is (o .answer)) all-left ≡ asLent l c
+    unfolding joinedBuffers
     idle e =
-        let h : count (b .code) ≤ length (needed b c .dead) = omega (arith, marks m q) in
+        let h : chunkCount (b .code) ≤ length (needed b c .dead) = omega (arith, marks m q) in
         rw (
           ← none-moved (o .after .dead) (l .tries) (all-alive e),
           as-lent scan (needed b c) c h (all-alive e),
           marks m q,
-          take-append-drop (count (b .code)) (b .map),
+          take-append-drop (chunkCount (b .code)) (b .map),
           take-append-drop (sourcesNeeded b c) (b .sources),
           take-append-drop (c .stmts) (b .stmts),
           take-append-drop (c .calls) (b .calls),
-          take-append-drop (count (b .code) + 1) (b .remap),
+          take-append-drop (chunkCount (b .code) + 1) (b .remap),
         )
 
   -- then code, constants, tries and every table stay as lent, the dead marks are 0, and the landings are counted

@@ -8,7 +8,7 @@ use Rattle.laws.specs.Page.{among}
 use Rattle.laws.proofs.Keys.{every}
 use Rattle.code.specs.Op.{Add, Sub, Mul, Div, Mod, FloorDiv, Eq, NotEq, Lt, Gt, LtEq, GtEq, BitAnd, BitOr, BitXor, Shl, Shr, Not, Minus}
 use Rattle.lent.specs.Chunk.{folds}
-use Rattle.fold.specs.Plan.{page, kindOf}
+use Rattle.fold.specs.Plan.{operatorPage, kindOf}
 use Rattle.fold.specs.declared.Kind.{Kind}
 use Rattle.fold.specs.declared.Kind.the-variants as kind
 use Rattle.fold.proofs.Planned.{named-folds}
@@ -32,7 +32,7 @@ unfolding folds
 folds-among o = simp (or-assoc, or-none)
 
 folds-tried : (o : ℕ) → folds o ≡ true → tried (kindOf o) ≡ true
-unfolding page kindOf
+unfolding operatorPage kindOf
 folds-tried o e = every (λ p. tried (kindOf p)) operators o refl (folds-among o ∙ e)
 
 -- what is tried is counted, and what is counted is tried

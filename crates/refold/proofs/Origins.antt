@@ -10,7 +10,7 @@ use lib.Seq.{getD-take}
 use borrow.Author.Tests.{eqb-true, eq-eqb, ltb-true, ltb-false}
 use Rattle.laws.specs.All.{every, many}
 use Rattle.code.specs.declared.Checked.the-variants.{Count}
-use Rattle.lent.specs.Chunk.{stride, count, originAt}
+use Rattle.lent.specs.Chunk.{stride, chunkCount, originAt}
 use Rattle.lent.specs.declared.Counts.{Counts}
 use Rattle.lent.proofs.Counting.{many-le, many-all, every-le}
 use Rattle.fold.specs.Plan.{Chunk, planAt}
@@ -25,7 +25,7 @@ use Rattle.compact.proofs.Left.{live-less, from, origin-left}
 use Rattle.phi_pass.specs.Phi.{marked}
 use Rattle.phi_pass.proofs.Pairs.{marked-length}
 use Rattle.finish.specs.Finish.{Tables, tables, mapOf, sourcesOf, renewed, finished}
-use Rattle.optimizer.specs.Fold.{constantFold, joined}
+use Rattle.optimizer.specs.Fold.{constantFold, joinedBuffers}
 use Rattle.optimizer.specs.declared.Folded.{Folded}
 use Rattle.refold.specs.Lending.{Lending, readyFor, Folds}
 use Rattle.refold.specs.Origins.{Survive, OriginsLeft, Carried}
@@ -62,7 +62,7 @@ module _ (k : ℕ) where
 
   pub pass-origin : (bars : Bars) (s : Chunk) → originAt (foldAll bars s .code) k ≡ originAt (s .code) k
   unfolding foldAll
-  pass-origin bars s = some-origin bars s (count (s .code))
+  pass-origin bars s = some-origin bars s (chunkCount (s .code))
 
 -- ---- the Phi pass and compaction
 
@@ -104,7 +104,7 @@ module _ (t : Tables) (all : t .left .instructions ≡ length (t .dead)) where
       go true = refl
       go false = refl
 
-  survive : (w : List ℕ) → count w ≡ length (t .dead) → ((k : ℕ) → originAt (t .code) k ≡ originAt w k)
+  survive : (w : List ℕ) → chunkCount w ≡ length (t .dead) → ((k : ℕ) → originAt (t .code) k ≡ originAt w k)
       → Survive (finished t .dead) w (finished t .code) (finished t .left .instructions)
   survive w c o =
       subst (λ (x : List ℕ). Survive x w (finished t .code) (finished t .left .instructions)) (sym finished-dead)
@@ -124,7 +124,7 @@ module _ (strict : Bool) (l : Lending) (c : Counts) where
     end-origin k = ap (λ (s : Chunk). originAt (s .code) k) (end-is strict l c) ∙ pass-origin k (byScan strict (l .tries)) (clean strict l c)
 
     left : OriginsLeft (l .buffers) (o strict l c .answer) (all-left strict l c .buffers)
-    unfolding constantFold joined
+    unfolding constantFold joinedBuffers
     left =
         subst (λ (x : List ℕ). Survive x (l .buffers .code) (after strict l c .code) (after strict l c .left .instructions)) (sym (front strict l c n q))
         (survive (before strict l c) (marks strict l c n q ∙ sym (end-marks strict l c n q)) (l .buffers .code) (sym (end-marks strict l c n q)) end-origin)
@@ -135,7 +135,7 @@ module _ (strict : Bool) (l : Lending) (c : Counts) where
 
 -- ---- one after the other
 
-pub carried-fold : (dead w v : List ℕ) (m : ℕ) → Survive dead w v m → Carried (count w) w m v
+pub carried-fold : (dead w v : List ℕ) (m : ℕ) → Survive dead w v m → Carried (chunkCount w) w m v
 carried-fold dead w v m s =
     record {
       place = λ k h. s .onto k h .0;
@@ -144,8 +144,8 @@ carried-fold dead w v m s =
       origin = λ k h. let p = s .onto k h in ap (originAt v) (sym (p .3)) ∙ s .kept (p .0) (p .1) (p .2);
     }
   where
-    ordered : (j k : ℕ) (x : (i : ℕ) × (i < count w) × (alive dead i ≡ true) × (live dead i ≡ j))
-        (y : (i : ℕ) × (i < count w) × (alive dead i ≡ true) × (live dead i ≡ k)) → j < k → x .0 < y .0
+    ordered : (j k : ℕ) (x : (i : ℕ) × (i < chunkCount w) × (alive dead i ≡ true) × (live dead i ≡ j))
+        (y : (i : ℕ) × (i < chunkCount w) × (alive dead i ≡ true) × (live dead i ≡ k)) → j < k → x .0 < y .0
     ordered j k x y l = go (ltb (x .0) (y .0)) refl
       where
         go : (t : Bool) → ltb (x .0) (y .0) ≡ t → x .0 < y .0

@@ -16,7 +16,7 @@ use mir.Val.{ofZ}
 use Rattle.code.specs.Op.{LoadConst, LoadTrue, LoadFalse}
 use Rattle.lent.specs.Tables.{constantKept, within, constantsKept}
 use Rattle.lent.specs.Check.{constantRoom}
-use Rattle.lent.specs.Chunk.{count, opAt, folds}
+use Rattle.lent.specs.Chunk.{chunkCount, opAt, folds}
 use Rattle.lent.proofs.Counting.{every-at}
 use Rattle.clear.proofs.Twice.{every-of}
 use Rattle.laws.specs.All.{every, many}
@@ -29,7 +29,7 @@ use Rattle.values.specs.declared.Val.the-variants.{Int, Float as Real, Bool as 
 use Rattle.chunk.specs.Pool.{Stored, stored, position, findOrPush, findOrPushConst}
 use Rattle.chunk.specs.declared.Kept.the-variants.{At, Full}
 use Rattle.fold.specs.Plan.{Chunk, chunk, planAt}
-use Rattle.fold.specs.Pass.{loadOf, constLoad, put, landed, applied, tryFold, Bars, folded, foldAll, Lent}
+use Rattle.fold.specs.Pass.{loadOf, constLoad, put, landed, applied, tryFold, Bars, folded, foldAll, PassRoom}
 use Rattle.fold.specs.declared.Plan.{Plan}
 use Rattle.fold.specs.declared.Plan.the-variants.{Stay, Put}
 use Rattle.refold.specs.Pushed.{Pushed}
@@ -166,7 +166,7 @@ module _ (bars : Bars) (s : Chunk) where
 
   pub all-pushed : Pushed s (foldAll bars s)
   unfolding foldAll
-  all-pushed = some-pushed (count (s .code))
+  all-pushed = some-pushed (chunkCount (s .code))
 
 -- ---- and its table rule holds again
 
@@ -179,7 +179,7 @@ module _ (bars : Bars) (s : Chunk) where
   unfolding folded
   folded-none = refl
 
-  held-at : Lent s → (k : ℕ) → k ≤ count (s .code) → Held bars s (folded bars k s) k
+  held-at : PassRoom s → (k : ℕ) → k ≤ chunkCount (s .code) → Held bars s (folded bars k s) k
   held-at x zero h = rw folded-none (held-none bars s)
   held-at x (suc k) h =
       let g = held-at x k (omega arith) in
@@ -188,12 +188,12 @@ module _ (bars : Bars) (s : Chunk) where
       (l .words-long) in
       rw (folded-next k) (rw (add-one k) at z)
 
-  pub all-held : Lent s → foldAll bars s .constants ≤ constantRoom (s .constants) (many (λ k. folds (opAt (s .code) k)) (count (s .code)))
+  pub all-held : PassRoom s → foldAll bars s .constants ≤ constantRoom (s .constants) (many (λ k. folds (opAt (s .code) k)) (chunkCount (s .code)))
   unfolding foldAll
-  all-held x = held-at x (count (s .code)) (omega arith) .few
+  all-held x = held-at x (chunkCount (s .code)) (omega arith) .few
 
   -- a pool that keeps the table rule keeps it after the pass: test 7 finds nothing new in table 1
-  pub pool-again : Lent s → constantsKept (s .kinds) (s .words) (s .constants) ≡ true
+  pub pool-again : PassRoom s → constantsKept (s .kinds) (s .words) (s .constants) ≡ true
       → constantsKept (foldAll bars s .kinds) (foldAll bars s .words) (foldAll bars s .constants) ≡ true
   pool-again x e =
       let t = foldAll bars s in

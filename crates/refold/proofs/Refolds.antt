@@ -8,7 +8,7 @@ use mathlib.Core.List.{List, [], _∷_, _++_}
 use lib.ListN.{length, getD, take, drop, replicate}
 use borrow.Author.Tests.{lt-ltb, le-ltb}
 use Rattle.code.specs.declared.Checked.the-variants.{Count}
-use Rattle.lent.specs.Chunk.{count, operandAt}
+use Rattle.lent.specs.Chunk.{chunkCount, operandAt}
 use Rattle.lent.specs.Tables.{constantKept, within}
 use Rattle.lent.specs.Check.{sourceRoom, tallyOf}
 use Rattle.lent.proofs.Kept.{kinds-there, words-there}
@@ -21,9 +21,9 @@ use Rattle.landings.specs.Landings.{landingsOf}
 use Rattle.fold.specs.Pass.{byScan, foldAll}
 use Rattle.positions.specs.Moved.{movedAll}
 use Rattle.finish.specs.Finish.{Tables, tables, finished}
-use Rattle.optimizer.specs.Fold.{Buffers, buffers, lensOf, needed, sourcesNeeded, foldPass, constantFold, joined}
+use Rattle.optimizer.specs.Fold.{Buffers, buffers, lensOf, needed, sourcesNeeded, foldPass, constantFold, joinedBuffers}
 use Rattle.optimizer.specs.declared.Folded.{Folded}
-use Rattle.named.specs.Unused.{AllNear, named, before as number, pooled, recoded, loaded}
+use Rattle.named.specs.Unused.{AllNear, constantNamed, before as number, pooled, recoded, loaded}
 use Rattle.clear.specs.Clear as clearing
 use Rattle.clear.proofs.Answers.{answered-call, answered}
 use Rattle.clear.proofs.Accepts.{tally-same, countsAfter, accepted-after}
@@ -75,7 +75,7 @@ module _ (strict : Bool) (l : Lending) (c : Counts) (n : ℕ) (q : readyFor l c 
   -- the chunk after clearing
   abbrev b′ : Buffers
   b′ =
-      buffers (recoded (number w) m w) (pooled (named w) m (b .kinds)) (pooled (named w) m (b .words)) (b .map) (b .sources) (b .stmts) (b .calls) (b .dead)
+      buffers (recoded (number w) m w) (pooled (constantNamed w) m (b .kinds)) (pooled (constantNamed w) m (b .words)) (b .map) (b .sources) (b .stmts) (b .calls) (b .dead)
       (b .remap)
 
   abbrev l′ : Lending
@@ -90,7 +90,7 @@ module _ (strict : Bool) (l : Lending) (c : Counts) (n : ℕ) (q : readyFor l c 
   abbrev t : Chunk
   t = foldAll (byScan strict (l .tries)) (clearedChunk (clean strict l c))
 
-  same-count : count (recoded (number w) m w) ≡ count w
+  same-count : chunkCount (recoded (number w) m w) ≡ chunkCount w
   same-count = recoded-count (number w) m w
 
   same-need : sourcesNeeded b′ c′ ≡ sourcesNeeded b c
@@ -127,8 +127,8 @@ module _ (strict : Bool) (l : Lending) (c : Counts) (n : ℕ) (q : readyFor l c 
       (finished-beside alike (needed b c .map) (needed b c .sources) (needed b c .stmts) (needed b c .calls) (s .dead) (needed b c .remap)
       (record { instructions = length (needed b c .dead); map = c .map; sources = c .sources }))
 
-  refolded : Refolded (o strict l c .answer) (joined b c (o strict l c) .after) (o strict l′ c′ .answer) (joined b′ c′ (o strict l′ c′) .after)
-  unfolding constantFold joined foldPass
+  refolded : Refolded (o strict l c .answer) (joinedBuffers b c (o strict l c) .after) (o strict l′ c′ .answer) (joinedBuffers b′ c′ (o strict l′ c′) .after)
+  unfolding constantFold joinedBuffers foldPass
   refolded =
       let x = beside in
       let v : ℕ → ℕ = λ k. operandAt (after strict l c .code) k in
@@ -171,11 +171,11 @@ module _ (strict : Bool) (l : Lending) (c : Counts) (n : ℕ) (q : readyFor l c 
       }
 
   module _ (scratch : List ℕ) (room : m ≤ length scratch) where
-    abbrev lent : clearing.Buffers
-    lent = clearing.buffers (b .code) (b .kinds) (b .words) scratch
+    abbrev lent : clearing.PoolBuffers
+    lent = clearing.poolBuffers (b .code) (b .kinds) (b .words) scratch
 
-    clear-ready : clearing.readyOf lent m ≡ Count n
-    unfolding clearing.readyOf
+    clear-ready : clearing.clearReadyOf lent m ≡ Count n
+    unfolding clearing.clearReadyOf
     clear-ready = rw (code-fine strict l c n q, rules strict l c n q .constants, le-ltb (length scratch) m room)
 
     refolds : Refolds strict l c (o strict l c .answer) (all-left strict l c) scratch
@@ -184,7 +184,7 @@ module _ (strict : Bool) (l : Lending) (c : Counts) (n : ℕ) (q : readyFor l c 
         let y = answered lent m (number w m) (clearing.cleared lent m .after) e in
         let k = held-of lent m (Count n) (sym clear-ready) n refl in
         let z : readyFor l′ c′ ≡ Count n =
-        rw (pooled-length (named w) m (b .kinds) (k .kinds), pooled-length (named w) m (b .words) (k .words))
+        rw (pooled-length (constantNamed w) m (b .kinds) (k .kinds), pooled-length (constantNamed w) m (b .words) (k .words))
         (accepted-after n w (l .tries) (b .kinds) (b .words) c (lensOf b) (length (l .landings)) q) in
         record {
           left = number w m;
@@ -210,10 +210,10 @@ refold-call strict l c f a e few near scratch room =
 
 -- ---- whatever the operands: a chunk that is accepted is accepted after clearing too
 
-module _ (strict : Bool) (l : Lending) (c : Counts) (f : Folded) (a : Lending) (e : Folds strict l c f a) (left : ℕ) (x : clearing.Buffers)
-    (count : left ≡ number (l .buffers .code) (c .constants)) (code : x .code ≡ recoded (number (l .buffers .code)) (c .constants) (l .buffers .code))
-    (kinds : x .kinds ≡ pooled (named (l .buffers .code)) (c .constants) (l .buffers .kinds))
-    (words : x .words ≡ pooled (named (l .buffers .code)) (c .constants) (l .buffers .words)) (strict′ : Bool) where
+module _ (strict : Bool) (l : Lending) (c : Counts) (f : Folded) (a : Lending) (e : Folds strict l c f a) (left : ℕ) (x : clearing.PoolBuffers)
+    (chunkCount : left ≡ number (l .buffers .code) (c .constants)) (code : x .code ≡ recoded (number (l .buffers .code)) (c .constants) (l .buffers .code))
+    (kinds : x .kinds ≡ pooled (constantNamed (l .buffers .code)) (c .constants) (l .buffers .kinds))
+    (words : x .words ≡ pooled (constantNamed (l .buffers .code)) (c .constants) (l .buffers .words)) (strict′ : Bool) where
   abbrev Answered : Type 0
   Answered = (g : Folded) × (y : Lending) × Folds strict′ (clearedBuffers l x) (withConstants left c) g y
 
@@ -229,9 +229,9 @@ module _ (strict : Bool) (l : Lending) (c : Counts) (f : Folded) (a : Lending) (
         code,
         kinds,
         words,
-        count,
-        pooled-length (named w) m (b .kinds) (kinds-there m (length (b .kinds)) (length (b .words)) i),
-        pooled-length (named w) m (b .words) (words-there m (length (b .kinds)) (length (b .words)) i),
+        chunkCount,
+        pooled-length (constantNamed w) m (b .kinds) (kinds-there m (length (b .kinds)) (length (b .words)) i),
+        pooled-length (constantNamed w) m (b .words) (words-there m (length (b .kinds)) (length (b .words)) i),
       ) (accepted-after n w (l .tries) (b .kinds) (b .words) c (lensOf b) (length (l .landings)) q) in
       folds strict′ (clearedBuffers l x) (withConstants left c) n z
 

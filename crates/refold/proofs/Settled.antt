@@ -18,15 +18,15 @@ use Rattle.laws.proofs.Branch.{and-true}
 use Rattle.laws.proofs.Each.{each-at, each-length, each-word}
 use Rattle.laws.proofs.Many.{many-few, many-fewer, many-more}
 use Rattle.code.specs.Op.{Phi}
-use Rattle.lent.specs.Chunk.{stride, count, opAt, folds, isPhi}
+use Rattle.lent.specs.Chunk.{stride, chunkCount, opAt, folds, isPhi}
 use Rattle.positions.specs.Remap.{alive, live, remapOf}
 use Rattle.compact.specs.Tables.{wordsOf, leftAt, left, compacted}
 use Rattle.compact.proofs.Left.{left-long}
 use Rattle.positions.specs.Moved.{pairAt, placed}
-use Rattle.phi_pass.specs.Phi.{paired, firstOf, secondOf, markAt as phiMark, marked, pairLeft, pairsLeft, indexed}
+use Rattle.phi_pass.specs.Phi.{paired, leftSource, rightSource, phiMarkAt as phiMark, marked, pairLeft, pairsLeft, indexed}
 use Rattle.phi_pass.proofs.Pairs.{marked-length, dead-stays}
 use Rattle.lent.proofs.Counting.{many-ext, every-at}
-use Rattle.finish.specs.Finish.{Tables, tables, sourcesAfter, mapCount, mapOf, sourcesOf, renewed, finished, Fit}
+use Rattle.finish.specs.Finish.{Tables, tables, sourcesAfter, mapCount, mapOf, sourcesOf, renewed, finished, TableRoom}
 use Rattle.refold.proofs.Spent.{waiting}
 
 -- ---- how many of the live instructions pass a test of their opcode
@@ -95,7 +95,7 @@ alive-marked w map sources dead k e = go (ltb k (length dead)) refl (alive dead 
 -- ---- whole pairs
 
 module _ (w map sources dead : List ℕ) where
-  pair-even : (k : ℕ) (t : Bool) → length (cond t (firstOf map sources k ∷ secondOf map sources k ∷ []) []) % 2 ≡ 0
+  pair-even : (k : ℕ) (t : Bool) → length (cond t (leftSource map sources k ∷ rightSource map sources k ∷ []) []) % 2 ≡ 0
   pair-even k true = refl
   pair-even k false = refl
 
@@ -107,7 +107,7 @@ module _ (w map sources dead : List ℕ) where
       omega (arith, e, some-even n, pair-even n (alive dead n && paired w map sources n))
 
   pair-few : (k : ℕ) (t : Bool) → (t ≡ true → isPhi w k ≡ true)
-      → length (cond t (firstOf map sources k ∷ secondOf map sources k ∷ []) []) ≤ 2 * boolByte (isPhi w k)
+      → length (cond t (leftSource map sources k ∷ rightSource map sources k ∷ []) []) ≤ 2 * boolByte (isPhi w k)
   pair-few k true h = let e = h refl in rw e (omega arith)
   pair-few k false h = omega arith
 
@@ -155,7 +155,7 @@ pub record Settled (t u : Tables) : Type 0 where
       (length (t .dead))
   pub phis : many (isPhi (take (stride * u .left .instructions) (u .code))) (u .left .instructions) ≤ many (isPhi (t .code)) (length (t .dead))
 
-module _ (t : Tables) (fit : Fit t) (all : t .left .instructions ≡ length (t .dead)) (entries : (t .left .map ≡ 0) ⊎ (t .left .map ≡ length (t .dead)))
+module _ (t : Tables) (fit : TableRoom t) (all : t .left .instructions ≡ length (t .dead)) (entries : (t .left .map ≡ 0) ⊎ (t .left .map ≡ length (t .dead)))
     (even : t .left .sources % 2 ≡ 0) where
   abbrev d : List ℕ
   d = marked (t .code) (mapOf t) (sourcesOf t) (t .dead)
@@ -235,9 +235,9 @@ module _ (t : Tables) (fit : Fit t) (all : t .left .instructions ≡ length (t .
   entry true n = inl refl
   entry false n = inr refl
 
-  map-length : length (indexed new) ≡ count new
+  map-length : length (indexed new) ≡ chunkCount new
   unfolding indexed
-  map-length = each-word _ (count new)
+  map-length = each-word _ (chunkCount new)
 
   remap-length : length (remapOf d) ≡ length d + 1
   unfolding remapOf
@@ -259,7 +259,7 @@ module _ (t : Tables) (fit : Fit t) (all : t .left .instructions ≡ length (t .
   anew =
       record {
         few = omega (arith, many-few (alive d) (length d), d-long);
-        entries = entry (eqb (many (isPhi new) (count new)) 0) (live d (length d));
+        entries = entry (eqb (many (isPhi new) (chunkCount new)) 0) (live d (length d));
         even = pairs-even (t .code) (mapOf t) (sourcesOf t) d;
         pairs = omega (arith, after-length);
         map = omega (arith, map-length, new-length, fit .code, fit .map);

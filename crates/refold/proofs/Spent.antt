@@ -15,7 +15,7 @@ use Rattle.laws.specs.All.{many}
 use Rattle.laws.proofs.Branch.{and-true}
 use Rattle.laws.proofs.Many.{bit-small, many-fewer}
 use Rattle.code.specs.Op.{LoadConst, LoadTrue, LoadFalse}
-use Rattle.lent.specs.Chunk.{count, opAt, folds}
+use Rattle.lent.specs.Chunk.{chunkCount, opAt, folds}
 use Rattle.positions.specs.Remap.{alive}
 use Rattle.values.specs.declared.Val.{Val}
 use Rattle.values.specs.declared.Val.the-variants.{Int, Float as Real, Bool as Truth}
@@ -24,7 +24,7 @@ use Rattle.chunk.specs.declared.Kept.{Kept}
 use Rattle.chunk.specs.declared.Kept.the-variants.{At, Full}
 use Rattle.chunk.proofs.Store.{kept-few}
 use Rattle.fold.specs.Plan.{Chunk, planAt}
-use Rattle.fold.specs.Pass.{Loading, loadOf, constLoad, put, landed, applied, tryFold, Bars, folded, foldAll, Lent}
+use Rattle.fold.specs.Pass.{Loading, loadOf, constLoad, put, landed, applied, tryFold, Bars, folded, foldAll, PassRoom}
 use Rattle.fold.specs.declared.Loaded.{Loaded}
 use Rattle.fold.specs.declared.Loaded.the-variants.{As, No}
 use Rattle.fold.specs.declared.Plan.{Plan}
@@ -99,7 +99,7 @@ load-modest (Truth b) kinds words n = (truth-folds b, omega arith)
 abbrev Spent : ℕ → Chunk → Chunk → Type 0
 Spent n s t = many (waiting (t .code) (t .dead)) n + t .constants ≤ many (waiting (s .code) (s .dead)) n + s .constants
 
-module _ (n i : ℕ) (s : Chunk) (l : i < n) (c : i < count (s .code)) (d : i < length (s .dead)) (live : alive (s .dead) i ≡ true) where
+module _ (n i : ℕ) (s : Chunk) (l : i < n) (c : i < chunkCount (s .code)) (d : i < length (s .dead)) (live : alive (s .dead) i ≡ true) where
   module _ (p q : ℕ) (plan : Planned s i p q) where
     narrower : (o x k : ℕ) → folds o ≡ false → waiting (put (s .code) p o x) (set (set (s .dead) q 1) i 1) k ≡ true → waiting (s .code) (s .dead) k ≡ true
     narrower o x k f e =
@@ -144,7 +144,7 @@ module _ (n i : ℕ) (s : Chunk) (l : i < n) (c : i < count (s .code)) (d : i < 
       let r = constLoad v (s .kinds) (s .words) (s .constants) in
       landed-spent p q (planned bars i s e) (r .load) (r .kinds) (r .words) (load-modest v (s .kinds) (s .words) (s .constants))
 
-try-spent : (bars : ℕ → Bool) (n i : ℕ) (s : Chunk) → i < n → i < count (s .code) → i < length (s .dead) → Spent n s (tryFold bars i s)
+try-spent : (bars : ℕ → Bool) (n i : ℕ) (s : Chunk) → i < n → i < chunkCount (s .code) → i < length (s .dead) → Spent n s (tryFold bars i s)
 unfolding tryFold
 try-spent bars n i s l c d = go (alive (s .dead) i) refl
   where
@@ -154,8 +154,8 @@ try-spent bars n i s l c d = go (alive (s .dead) i) refl
 
 -- ---- the pass
 
-module _ (bars : Bars) (s : Chunk) (h : count (s .code) ≤ length (s .dead)) where
-  some-spent : (k : ℕ) → k ≤ count (s .code) → Spent (count (s .code)) s (folded bars k s)
+module _ (bars : Bars) (s : Chunk) (h : chunkCount (s .code) ≤ length (s .dead)) where
+  some-spent : (k : ℕ) → k ≤ chunkCount (s .code) → Spent (chunkCount (s .code)) s (folded bars k s)
   unfolding folded
   some-spent zero l = omega arith
   some-spent (suc k) l =
@@ -163,10 +163,10 @@ module _ (bars : Bars) (s : Chunk) (h : count (s .code) ≤ length (s .dead)) wh
       omega (
         arith,
         some-spent k (omega arith),
-        try-spent (bars (folded bars k s .code) k) (count (s .code)) k (folded bars k s) l (omega (arith, p .code-long)) (omega (arith, p .dead-long)),
+        try-spent (bars (folded bars k s .code) k) (chunkCount (s .code)) k (folded bars k s) l (omega (arith, p .code-long)) (omega (arith, p .dead-long)),
       )
 
   -- constants and operators that may still fold are together no more than before
-  pub all-spent : Spent (count (s .code)) s (foldAll bars s)
+  pub all-spent : Spent (chunkCount (s .code)) s (foldAll bars s)
   unfolding foldAll
-  all-spent = some-spent (count (s .code)) (omega arith)
+  all-spent = some-spent (chunkCount (s .code)) (omega arith)

@@ -8,7 +8,7 @@ use Rattle.laws.specs.All.{every}
 use Rattle.laws.specs.Table.{Held}
 use Rattle.code.specs.Rules.{tryKept}
 use Rattle.code.specs.Check.{pairs}
-use Rattle.lent.specs.Chunk.{stride, count}
+use Rattle.lent.specs.Chunk.{stride, chunkCount}
 use Rattle.lent.specs.Check.{constantRoom, tallyOf}
 use Rattle.lent.specs.declared.Counts.{Counts}
 use Rattle.landings.specs.Landings.{landingsAt, landingsOf}
@@ -19,7 +19,7 @@ use Rattle.fold.specs.declared.Kind.the-variants.{Binop, Not, Minus, Other}
 use Rattle.optimizer.specs.Fold.{Buffers, buffers, sourcesNeeded, Called}
 use Rattle.optimizer.specs.declared.Folded.{Folded}
 use Rattle.optimizer.specs.Fold.{Is}
-use Rattle.refold.specs.Lending.{Lending, lending, leaving}
+use Rattle.refold.specs.Lending.{Lending, lending, foldLeaving}
 
 -- a fold that answers f only pushes: constants below the old count stay, and so do entries past the new one and both lengths
 pub record PoolLeft (b : Buffers) (c : Counts) (f : Folded) (a : Buffers) : Type 0 where
@@ -36,43 +36,43 @@ pub record BuffersBeyond (c : Counts) (b a : Buffers) : Type 0 where
   pub code : length (a .code) ≡ length (b .code)
   pub kinds : Held (constantRoom (c .constants) (tallyOf (b .code) .folding)) (b .kinds) (a .kinds)
   pub words : Held (constantRoom (c .constants) (tallyOf (b .code) .folding)) (b .words) (a .words)
-  pub map : Held (count (b .code)) (b .map) (a .map)
+  pub map : Held (chunkCount (b .code)) (b .map) (a .map)
   pub sources : Held (sourcesNeeded b c) (b .sources) (a .sources)
   pub stmts : Held (c .stmts) (b .stmts) (a .stmts)
   pub calls : Held (c .calls) (b .calls) (a .calls)
-  pub dead : Held (count (b .code)) (b .dead) (a .dead)
-  pub remap : Held (count (b .code) + 1) (b .remap) (a .remap)
+  pub dead : Held (chunkCount (b .code)) (b .dead) (a .dead)
+  pub remap : Held (chunkCount (b .code) + 1) (b .remap) (a .remap)
 
 -- and the tries keep their length, the table n + 1 entries
 pub record FoldBeyond (c : Counts) (b a : Lending) : Type 0 where
   pub buffers : BuffersBeyond c (b .buffers) (a .buffers)
   pub tries : length (a .tries) ≡ length (b .tries)
-  pub landings : Held (count (b .buffers .code) + 1) (b .landings) (a .landings)
+  pub landings : Held (chunkCount (b .buffers .code) + 1) (b .landings) (a .landings)
 
 -- no instruction has a mark of death
 abbrev pub NoneDied : Buffers → Buffers → Type 0
-NoneDied b a = every (alive (a .dead)) (count (b .code)) ≡ true
+NoneDied b a = every (alive (a .dead)) (chunkCount (b .code)) ≡ true
 
 -- all as lent, but for the marks of death, which are 0, and the table, which counts what lands
 abbrev pub asLent : Lending → Counts → Called
 asLent l c =
     let b = l .buffers in
-    let n = count (b .code) in
-    leaving (Is (record { instructions = n; constants = c .constants; map = c .map; sources = c .sources }))
+    let n = chunkCount (b .code) in
+    foldLeaving (Is (record { instructions = n; constants = c .constants; map = c .map; sources = c .sources }))
     (lending
     (buffers (b .code) (b .kinds) (b .words) (b .map) (b .sources) (b .stmts) (b .calls) (replicate n 0 ++ drop n (b .dead)) (b .remap))
     (l .tries) (landingsOf (b .code) (l .tries) ++ drop (n + 1) (l .landings)))
 
 -- a fold that answers f and leaves a: each word of a try moves as a jump's operand does, and each try keeps its rule in the chunk that is left
 pub record TriesLeft (b : Lending) (f : Folded) (a : Lending) : Type 0 where
-  pub moved : a .tries ≡ movedAll (take (count (b .buffers .code)) (a .buffers .dead)) (b .tries)
+  pub moved : a .tries ≡ movedAll (take (chunkCount (b .buffers .code)) (a .buffers .dead)) (b .tries)
   pub kept : (j : ℕ) → j < pairs (a .tries) → tryKept (a .tries) (f .instructions) j ≡ true
 
 -- entry k of the table is how many jumps and handlers land on k in the chunk that is left, and 0 past its end
 pub record LandingsLeft (b : Lending) (f : Folded) (a : Lending) : Type 0 where
-  pub counts : (k : ℕ) → k ≤ count (b .buffers .code)
+  pub counts : (k : ℕ) → k ≤ chunkCount (b .buffers .code)
       → getD (a .landings) k 0 ≡ landingsAt (take (stride * f .instructions) (a .buffers .code)) (a .tries) k
-  pub past : (k : ℕ) → f .instructions < k → k ≤ count (b .buffers .code) → getD (a .landings) k 0 ≡ 0
+  pub past : (k : ℕ) → f .instructions < k → k ≤ chunkCount (b .buffers .code) → getD (a .landings) k 0 ≡ 0
 
 -- the pass tries what the page names
 abbrev pub tried : Kind → Bool

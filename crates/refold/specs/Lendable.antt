@@ -7,7 +7,7 @@ use lib.ListN.{take}
 use Rattle.code.specs.declared.Checked.the-variants.{Count}
 use Rattle.lent.specs.Chunk.{stride}
 use Rattle.lent.specs.Tables.{constantsKept}
-use Rattle.lent.specs.Check.{checkOf}
+use Rattle.lent.specs.Check.{chunkCheckOf}
 use Rattle.lent.specs.declared.Counts.{Counts}
 use Rattle.optimizer.specs.Fold.{Buffers, buffers}
 use Rattle.optimizer.specs.declared.Folded.{Folded}
@@ -30,18 +30,18 @@ countsLeft f c = record { constants = f .constants; map = f .map; sources = f .s
 -- the next call finds nothing to refuse
 pub record Lendable (f : Folded) (c : Counts) (a : Lending) : Type 0 where
   -- the code passes tests 1 and 2
-  pub code : checkOf (take (stride * f .instructions) (a .buffers .code)) ≡ Count (f .instructions)
+  pub code : chunkCheckOf (take (stride * f .instructions) (a .buffers .code)) ≡ Count (f .instructions)
   -- the constants keep their table's rule
   pub pool : constantsKept (a .buffers .kinds) (a .buffers .words) (f .constants) ≡ true
   -- all tests of the folding call pass, those of the tries and of room too
   pub ready : readyFor (cutAt f a) (countsLeft f c) ≡ Count (f .instructions)
 
 -- what the clearing call is lent then
-abbrev pub clearable : Folded → Lending → List ℕ → clearing.Buffers
-clearable f a scratch = clearing.buffers (take (stride * f .instructions) (a .buffers .code)) (a .buffers .kinds) (a .buffers .words) scratch
+abbrev pub clearable : Folded → Lending → List ℕ → clearing.PoolBuffers
+clearable f a scratch = clearing.poolBuffers (take (stride * f .instructions) (a .buffers .code)) (a .buffers .kinds) (a .buffers .words) scratch
 
 -- and the next fold: what clearing left, and all else as the fold left it
-abbrev pub clearedBuffers : Lending → clearing.Buffers → Lending
+abbrev pub clearedBuffers : Lending → clearing.PoolBuffers → Lending
 clearedBuffers l x =
     let a = l .buffers in
     lending (buffers (x .code) (x .kinds) (x .words) (a .map) (a .sources) (a .stmts) (a .calls) (a .dead) (a .remap)) (l .tries) (l .landings)
@@ -56,8 +56,8 @@ countsCleared f c left = withConstants left (countsLeft f c)
 -- fold, clear, fold: the second call and the third are answered, whatever the mode
 pub record Chained (f : Folded) (c : Counts) (a : Lending) (scratch : List ℕ) (strict : Bool) : Type 0 where
   pub left : ℕ
-  pub cleared : clearing.Buffers
-  pub clears : clearCall (clearable f a scratch) (f .constants) ≡ clearing.outcome (clearing.Is left) cleared
+  pub cleared : clearing.PoolBuffers
+  pub clears : clearCall (clearable f a scratch) (f .constants) ≡ clearing.clearOutcome (clearing.Is left) cleared
   pub folded : Folded
   pub after : Lending
   pub folds : Folds strict (clearedBuffers a cleared) (countsCleared f c left) folded after

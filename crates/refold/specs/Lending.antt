@@ -7,7 +7,7 @@ use lib.ListN.{length}
 use Rattle.code.specs.declared.Checked.{Checked}
 use Rattle.lent.specs.Check.{readyOf}
 use Rattle.lent.specs.declared.Counts.{Counts}
-use Rattle.optimizer.specs.Fold.{Buffers, lensOf, outcome, Called, called, foldCall}
+use Rattle.optimizer.specs.Fold.{Buffers, lensOf, foldOutcome, Called, called, foldCall}
 use Rattle.optimizer.specs.declared.Folded.{Folded}
 use Rattle.optimizer.specs.Fold.{FoldAnswer}
 use Rattle.optimizer.specs.Fold.{Is}
@@ -25,12 +25,12 @@ abbrev pub readyFor : Lending → Counts → Checked
 readyFor l c = readyOf (l .buffers .code) (l .tries) (l .buffers .kinds) (l .buffers .words) c (lensOf (l .buffers)) (length (l .landings))
 
 -- an answer, with what all that was lent holds then
-abbrev pub leaving : FoldAnswer → Lending → Called
-leaving v a = called (outcome v (a .buffers)) (a .tries) (a .landings)
+abbrev pub foldLeaving : FoldAnswer → Lending → Called
+foldLeaving v a = called (foldOutcome v (a .buffers)) (a .tries) (a .landings)
 
 abbrev pub foldOf : Bool → Lending → Counts → Called
 foldOf strict l c = foldCall strict (l .buffers) (l .tries) (l .landings) c
 
 -- the call answers f and leaves a
 abbrev pub Folds : Bool → Lending → Counts → Folded → Lending → Type 0
-Folds strict l c f a = foldOf strict l c ≡ leaving (Is f) a
+Folds strict l c f a = foldOf strict l c ≡ foldLeaving (Is f) a

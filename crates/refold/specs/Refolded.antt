@@ -48,9 +48,9 @@ pub record RefoldedAll (f : Folded) (a : Lending) (g : Folded) (y : Lending) : T
 -- the chunk b, cleared to so many constants, and folded: answered, and as f that leaves a
 pub record Refolds (strict : Bool) (b : Lending) (c : Counts) (f : Folded) (a : Lending) (scratch : List ℕ) : Type 0 where
   pub left : ℕ
-  pub cleared : clearing.Buffers
-  pub clears : clearCall (clearing.buffers (b .buffers .code) (b .buffers .kinds) (b .buffers .words) scratch) (c .constants)
-      ≡ clearing.outcome (clearing.Is left) cleared
+  pub cleared : clearing.PoolBuffers
+  pub clears : clearCall (clearing.poolBuffers (b .buffers .code) (b .buffers .kinds) (b .buffers .words) scratch) (c .constants)
+      ≡ clearing.clearOutcome (clearing.Is left) cleared
   pub folded : Folded
   pub after : Lending
   pub folds : Folds strict (clearedBuffers b cleared) (withConstants left c) folded after

@@ -19,7 +19,7 @@ use Rattle.steps.specs.Code.{afterAt, flow}
 use Rattle.blocks.specs.Blocks.{slotAt, stepsOf}
 use Rattle.trace.specs.Trace.{verdictOf, Recorded}
 use Rattle.day.specs.Count.{readsIn, levelsIn}
-use Rattle.day.specs.Day.{stagesOf, Day, refused, check, filler, move, told}
+use Rattle.day.specs.Day.{replayStages, Day, refused, check, filler, move, told}
 use Rattle.day.specs.Answers.{dayTold}
 use Rattle.trace.specs.declared.Verdict.{Verdict}
 use Rattle.trace.specs.declared.Verdict.the-variants as found
@@ -35,7 +35,7 @@ use Rattle.replays.proofs.Stretch.{stretch}
 module _ (w : List ℕ) (regs : ℕ) (tries t old : List ℕ) where
   -- what an answer is
   record Fine (new : List ℕ) (r : Answer) : Type 0 where
-    passed : stagesOf w regs tries (length old) ≡ stage.Count (count w)
+    passed : replayStages w regs tries (length old) ≡ stage.Count (count w)
     fine : verdictOf w tries t ≡ found.Fine
     reads : new ≡ filledTo (readsIn w t (stepsOf t)) regs old
     told : r ≡ answerOf (stepsOf t) (levelsIn w t (stepsOf t)) 0 0
@@ -54,7 +54,7 @@ module _ (w : List ℕ) (regs : ℕ) (tries t old : List ℕ) where
   lent-of (move p q) h = refl
   lent-of (told p q) h = absurd (h refl)
 
-  zero-of : {new : List ℕ} {v : DayAnswer} → Day w regs tries t old new v → stagesOf w regs tries (length old) ≡ stage.Count (count w)
+  zero-of : {new : List ℕ} {v : DayAnswer} → Day w regs tries t old new v → replayStages w regs tries (length old) ≡ stage.Count (count w)
       → verdictOf w tries t ≡ found.Fine
       → dayTold v .refusal ≡ 0
   zero-of (refused p) s f = let z : _≡_ {A = ℕ} 0 1 = cc in absurd (omega arith)
@@ -69,7 +69,7 @@ module _ (w : List ℕ) (regs : ℕ) (tries t old : List ℕ) where
     no-report h = lent-of (x .allowed) (λ z. h (ap (λ (a : Answer). a .refusal) (x .is) ∙ z))
 
     -- A recorded run is answered, where code, registers, tries and reads are not refused.
-    pub recorded-answered : stagesOf w regs tries (length old) ≡ stage.Count (count w) → Recorded w tries t → r .refusal ≡ 0
+    pub recorded-answered : replayStages w regs tries (length old) ≡ stage.Count (count w) → Recorded w tries t → r .refusal ≡ 0
     recorded-answered s f = ap (λ (a : Answer). a .refusal) (x .is) ∙ zero-of (x .allowed) s (recorded-fine w tries t f)
 
     module _ (zeroed : r .refusal ≡ 0) where

@@ -14,7 +14,7 @@ use Rattle.laws.proofs.Branch.{and-true}
 use Rattle.code.specs.Op.{Raise}
 use Rattle.code.specs.declared.Ins.{Ins}
 use Rattle.roles.specs.Kinds.{Rule, Bits, ByX, FirstAbc, FirstBc, Bare, says, page, ruleOf, kindsOf, abc, bc, none}
-use Rattle.roles.specs.Roles.{roleTable, Entry}
+use Rattle.roles.specs.Roles.{roleTable, EntrySays}
 
 -- ---- one test at every entry
 
@@ -54,7 +54,7 @@ oneOk o x k = eqb (cond (eqb o Raise) none k) (says (ruleOf o) x 1)
 right : ℕ → ℕ → Bool
 right i k = both (zeroOk (i / 5) (i % 5) k) (oneOk (i / 5) (i % 5) k)
 
-entries : (xs : List ℕ) → T (every right 0 xs) → length xs ≡ 1280 → (o x : ℕ) → o < 256 → x < 5 → Entry o x (getD xs (o * 5 + x) 0)
+entries : (xs : List ℕ) → T (every right 0 xs) → length xs ≡ 1280 → (o x : ℕ) → o < 256 → x < 5 → EntrySays o x (getD xs (o * 5 + x) 0)
 unfolding right zeroOk oneOk
 entries xs t l o x h j =
     let k = getD xs (o * 5 + x) 0 in
@@ -75,7 +75,7 @@ long : length roleTable ≡ 1280
 unfolding roleTable
 long = refl
 
-pub read : (l : List ℕ) → l ≡ roleTable → (o x : ℕ) → o < 256 → x < 5 → Entry o x (getD l (o * 5 + x) 0)
+pub read : (l : List ℕ) → l ≡ roleTable → (o x : ℕ) → o < 256 → x < 5 → EntrySays o x (getD l (o * 5 + x) 0)
 read l e o x h j = rw e (entries roleTable all long o x h j)
 
 -- ---- every other opcode, x and a
@@ -125,7 +125,7 @@ any (FirstBc k) x f = refl
 any Bare x f = rw (eqb·suc-zero f)
 
 -- what an entry says of an instruction
-module _ (i : Ins) (m k : ℕ) (clips : m ≡ min (i .x) 4) (e : Entry (i .op) m k) where
+module _ (i : Ins) (m k : ℕ) (clips : m ≡ min (i .x) 4) (e : EntrySays (i .op) m k) where
   by-x : (f : ℕ) (b : Bool) → ltb (i .x) 4 ≡ b → says (ruleOf (i .op)) m f ≡ says (ruleOf (i .op)) (i .x) f
   by-x f true t =
       let h : i .x < 4 = ltb-true _ _ t in

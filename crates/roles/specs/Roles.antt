@@ -8,7 +8,7 @@ use Rattle.code.specs.Op.{Raise}
 use Rattle.roles.specs.Kinds.{says, ruleOf, none}
 
 -- the byte k of an opcode and a column is what the rule says where a is 0, and but for Raise where it is 1
-pub record Entry (o x k : ℕ) : Type 0 where
+pub record EntrySays (o x k : ℕ) : Type 0 where
   pub zero : k ≡ says (ruleOf o) x 0
   pub one : cond (eqb o Raise) none k ≡ says (ruleOf o) x 1
 

@@ -47,8 +47,8 @@ abbrev pub from : ℕ → ℕ → List ℕ
 from r zero = []
 from r (suc m) = r ∷ from (suc r) m
 
-abbrev pub run : ℕ → ℕ → ℕ → List ℕ
-run x r m = cond (eqb x 0) [] (from r m)
+abbrev pub inARow : ℕ → ℕ → ℕ → List ℕ
+inARow x r m = cond (eqb x 0) [] (from r m)
 
 -- used: WithEnter with x = 2 uses c, WithJudge with x = 1 uses a, ForIterR with x = 0 uses b
 abbrev pub used : Case → Ins → List ℕ
@@ -64,8 +64,8 @@ used Plain i = readBy i
 abbrev pub given : Case → Ins → List ℕ
 given Store i = i .a ∷ []
 given Unpack i = unpacked i
-given Enter i = run (i .x) (i .b) 2
-given Exit i = run (i .x) (i .b) 5
+given Enter i = inARow (i .x) (i .b) 2
+given Exit i = inARow (i .x) (i .b) 5
 given Judge i = []
 given Step i = []
 given Plain i = destBy i
@@ -74,8 +74,8 @@ given Plain i = destBy i
 abbrev pub written : Case → Ins → List ℕ
 written Store i = only (eqb (i .x) 0) (i .a)
 written Unpack i = unpacked i
-written Enter i = run (i .x) (i .b) 2
-written Exit i = run (i .x) (i .b) 5
+written Enter i = inARow (i .x) (i .b) 2
+written Exit i = inARow (i .x) (i .b) 5
 written Judge i = []
 written Step i = only (eqb (i .x) 0) (i .b)
 written Plain i = destBy i

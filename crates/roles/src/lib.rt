@@ -2,7 +2,7 @@
 ghost use mathlib.Core.Path.{_≡_};
 ghost use Prim.Native.Nat.{_<_, min};
 ghost use Rattle.roles.specs.Kinds.{kindsOf, hasRole, isJump, fieldOf};
-ghost use Rattle.roles.specs.Roles.{roleTable, Entry};
+ghost use Rattle.roles.specs.Roles.{roleTable, EntrySays};
 
 mod page;
 
@@ -40,7 +40,7 @@ fn column(x: u16) -> usize
 // The byte of an opcode and a column.
 fn entry(roles: &[u8; 1280], o: u16, x: usize) -> u8
     requires { ⌜ (now roles ≡ roleTable) × (o < 256) × (x < 5) ⌝ }
-    ensures { λ r. ⌜ Entry o x r ⌝ }
+    ensures { λ r. ⌜ EntrySays o x r ⌝ }
 {
     roles[o as usize * 5 + x]
 }

@@ -11,17 +11,17 @@ use Rattle.flow.specs.Sweep.{row, backs, startOf}
 use Rattle.flow.proofs.Answer.{found-one, found-least, found-below, found-regs, found-few, found-lost}
 use Rattle.steps.specs.Level.{firstLevel}
 use Rattle.steps.specs.Code.{usedAt, flow}
-use Rattle.rows.specs.Route.{firstOf, rowsIn, Rows}
+use Rattle.rows.specs.Route.{routeStart, rowsIn, Rows}
 use Rattle.sets.proofs.Sets.{set-lt}
 use Rattle.rows.proofs.Sweeps.{level-le}
 
 module _ (bits : ℕ) (wide : Bool) (regs : ℕ) (w buf : List ℕ) (full lost : ℕ) (found : Rows bits wide regs w buf full lost) where
   -- where the sweeps began in the end
   abbrev pub start : ℕ
-  start = startOf (flow regs w) (firstOf bits wide regs w)
+  start = startOf (flow regs w) (routeStart bits wide regs w)
 
-  inside : firstOf bits wide regs w ≤ count w
-  unfolding firstOf
+  inside : routeStart bits wide regs w ≤ count w
+  unfolding routeStart
   inside = go (wide || ltb bits regs)
     where
       go : (t : Bool) → cond t 0 (firstLevel w) ≤ count w
@@ -30,11 +30,11 @@ module _ (bits : ℕ) (wide : Bool) (regs : ℕ) (w buf : List ℕ) (full lost :
 
   -- the rows are the least solution of the row equations from there on
   pub rows-least : Least (flow regs w) start (row (rowsIn bits regs w buf))
-  rows-least = found-least (flow regs w) (firstOf bits wide regs w) inside (rowsIn bits regs w buf) full lost found
+  rows-least = found-least (flow regs w) (routeStart bits wide regs w) inside (rowsIn bits regs w buf) full lost found
 
   -- rows below the start are 0
   pub rows-below : (k : ℕ) → k < start → row (rowsIn bits regs w buf) k ≡ 0
-  rows-below = found-below (flow regs w) (firstOf bits wide regs w) inside (rowsIn bits regs w buf) full lost found
+  rows-below = found-below (flow regs w) (routeStart bits wide regs w) inside (rowsIn bits regs w buf) full lost found
 
   -- and so is row n
   pub row-last : row (rowsIn bits regs w buf) (count w) ≡ 0
@@ -42,13 +42,13 @@ module _ (bits : ℕ) (wide : Bool) (regs : ℕ) (w buf : List ℕ) (full lost :
 
   -- a register not below the register count never appears
   pub rows-regs : (k : ℕ) → row (rowsIn bits regs w buf) k < 2 ^ regs
-  rows-regs = found-regs (flow regs w) (firstOf bits wide regs w) inside (rowsIn bits regs w buf) full lost found (λ k. set-lt regs regs (usedAt w k) (le-refl regs))
+  rows-regs = found-regs (flow regs w) (routeStart bits wide regs w) inside (rowsIn bits regs w buf) full lost found (λ k. set-lt regs regs (usedAt w k) (le-refl regs))
 
   -- full sweeps are at most the jumps to their own position or back and two more, and at most one sweep is abandoned
   pub rows-few : (full ≤ backs (flow regs w) start + 2) × (lost ≤ 1)
   rows-few =
-      (found-few (flow regs w) (firstOf bits wide regs w) inside (rowsIn bits regs w buf) full lost found, found-lost (flow regs w) (firstOf bits wide regs w) inside (rowsIn bits regs w buf) full lost found)
+      (found-few (flow regs w) (routeStart bits wide regs w) inside (rowsIn bits regs w buf) full lost found, found-lost (flow regs w) (routeStart bits wide regs w) inside (rowsIn bits regs w buf) full lost found)
 
   -- any other answer has these rows and counts
   pub rows-one : (buf′ : List ℕ) (full′ lost′ : ℕ) → Rows bits wide regs w buf′ full′ lost′ → (rowsIn bits regs w buf ≡ rowsIn bits regs w buf′) × (full ≡ full′) × (lost ≡ lost′)
-  rows-one buf′ full′ lost′ other = found-one (flow regs w) (firstOf bits wide regs w) found other
+  rows-one buf′ full′ lost′ other = found-one (flow regs w) (routeStart bits wide regs w) found other

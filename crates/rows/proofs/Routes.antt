@@ -16,7 +16,7 @@ use Rattle.flow.specs.Words.{rowsOf}
 use Rattle.flow.proofs.Buffer.{rows-one}
 use Rattle.steps.specs.Level.{firstLevel}
 use Rattle.steps.specs.Code.{flow}
-use Rattle.rows.specs.Route.{wordsFor, firstOf, Rows}
+use Rattle.rows.specs.Route.{wordsFor, routeStart, Rows}
 
 -- as many words as hold the registers
 fill : (bits x y : ℕ) → 0 < bits → y ≡ (x + (bits - 1)) / bits → x ≤ y * bits
@@ -56,7 +56,7 @@ module _ (bits : ℕ) (wide : Bool) (regs : ℕ) (z : wide || ltb bits regs ≡ 
     word-long k len h = h ∙ ap (λ (x : ℕ). k * x) word-one ∙ mul-one k
 
     pub by-word : (w rows rows₀ : List ℕ) (full lost : ℕ) → length rows ≡ length rows₀ → length rows₀ ≡ suc (count w) * wordsFor bits regs → Found (flow regs w) (firstLevel w) rows full lost → Rows bits wide regs w rows full lost
-    unfolding firstOf
+    unfolding routeStart
     by-word w rows rows₀ full lost h h₀ f =
         subst (λ (l : List ℕ). Found (flow regs w) (cond (wide || ltb bits regs) 0 (firstLevel w)) l full lost) same
         (subst (λ (x : ℕ). Found (flow regs w) x rows full lost) (sym (ap (λ (t : Bool). cond t 0 (firstLevel w)) z)) f)
@@ -68,7 +68,7 @@ module _ (bits : ℕ) (wide : Bool) (regs : ℕ) (z : wide || ltb bits regs ≡ 
         same = sym (ap (λ (x : ℕ). rowsOf bits x (suc (count w)) rows) word-one ∙ rows-one bits (suc (count w)) rows (omega (arith, long)) ∙ take-all (suc (count w)) rows (omega (arith, long)))
 
 pub by-wide : (bits : ℕ) (wide : Bool) (regs m : ℕ) (w rows : List ℕ) (full lost : ℕ) → wide || ltb bits regs ≡ true → m ≡ wordsFor bits regs → Found (flow regs w) 0 (rowsOf bits m (suc (count w)) rows) full lost → Rows bits wide regs w rows full lost
-unfolding firstOf
+unfolding routeStart
 by-wide bits wide regs m w rows full lost z e f =
     subst (λ (x : ℕ). Found (flow regs w) x (rowsOf bits (wordsFor bits regs) (suc (count w)) rows) full lost) (sym (ap (λ (t : Bool). cond t 0 (firstLevel w)) z))
     (subst (λ (x : ℕ). Found (flow regs w) 0 (rowsOf bits x (suc (count w)) rows) full lost) e f)

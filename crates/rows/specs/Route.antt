@@ -14,8 +14,8 @@ abbrev pub wordsFor : ℕ → ℕ → ℕ
 wordsFor bits regs = max 1 ((regs + (bits - 1)) / bits)
 
 -- registers that one word holds take the word route, which begins at the first level; more take the wide route from 0, and so does any count if forced
-unfoldable pub firstOf : ℕ → Bool → ℕ → List ℕ → ℕ
-firstOf bits wide regs w = cond (wide || ltb bits regs) 0 (firstLevel w)
+unfoldable pub routeStart : ℕ → Bool → ℕ → List ℕ → ℕ
+routeStart bits wide regs w = cond (wide || ltb bits regs) 0 (firstLevel w)
 
 -- the rows that the words of a buffer hold
 abbrev pub rowsIn : ℕ → ℕ → List ℕ → List ℕ → List ℕ
@@ -23,4 +23,4 @@ rowsIn bits regs w buf = rowsOf bits (wordsFor bits regs) (suc (count w)) buf
 
 -- what the words hold are the rows that the definition's sweeps find, and the counts are theirs
 abbrev pub Rows : ℕ → Bool → ℕ → List ℕ → List ℕ → ℕ → ℕ → Type 0
-Rows bits wide regs w buf full abandoned = Found (flow regs w) (firstOf bits wide regs w) (rowsIn bits regs w buf) full abandoned
+Rows bits wide regs w buf full abandoned = Found (flow regs w) (routeStart bits wide regs w) (rowsIn bits regs w buf) full abandoned

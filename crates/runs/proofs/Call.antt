@@ -12,23 +12,23 @@ use Rattle.laws.specs.All.{every}
 use Rattle.laws.specs.Each.{each}
 use Rattle.laws.proofs.Each.{each-word, each-at}
 use Rattle.code.specs.Op.{Phi}
-use Rattle.lent.specs.Chunk.{stride, count, opAt, isPhi, folds}
+use Rattle.lent.specs.Chunk.{stride, chunkCount, opAt, isPhi, folds}
 use Rattle.lent.specs.declared.Counts.{Counts}
 use Rattle.lent.proofs.Counting.{every-at, zeros-at}
 use Rattle.fold.specs.Plan.{Chunk, chunk}
-use Rattle.fold.specs.Pass.{Bars, byScan, foldAll, Lent}
+use Rattle.fold.specs.Pass.{Bars, byScan, foldAll, PassRoom}
 use Rattle.fold.proofs.Passed.{all-passed}
 use Rattle.positions.specs.Remap.{alive, live}
 use Rattle.compact.specs.Tables.{compacted}
-use Rattle.phi_pass.specs.Phi.{paired, noop, markAt, marked}
+use Rattle.phi_pass.specs.Phi.{paired, noop, phiMarkAt, marked}
 use Rattle.finish.specs.Finish.{Tables, tables, mapOf, sourcesOf, renewed, finished}
-use Rattle.optimizer.specs.Fold.{Buffers, needed, foldPass, constantFold, joined, foldLent, rejoined}
+use Rattle.optimizer.specs.Fold.{Buffers, needed, foldPass, constantFold, joinedBuffers, foldLent, rejoined}
 use Rattle.optimizer.specs.Fold.{foldCall, Exact}
 use Rattle.optimizer.specs.declared.Folded.{Folded}
 use Rattle.optimizer.specs.Fold.{Is}
 use Rattle.optimizer.proofs.Answered.{answered}
-use Rattle.runs.specs.Kept.{Same, Keeps, Strict, Fresh}
-use Rattle.runs.specs.Rule.{known, Rule}
+use Rattle.runs.specs.Kept.{Same, RunsAs, Strict, Fresh}
+use Rattle.runs.specs.Rule.{known, WishRule}
 use Rattle.runs.proofs.Same.{scan-strict, folded-same, idle-same, folded-ruled, idle-ruled}
 use Rattle.runs.proofs.Cut.{cut-rule}
 
@@ -43,13 +43,13 @@ no-phi o e = go (eqb o Phi) refl
 
 -- so none dies
 none-marked : (w map sources dead : List ℕ) → ((k : ℕ) → k < length dead → isPhi w k ≡ false) → marked w map sources dead ≡ dead
-unfolding marked markAt noop paired
+unfolding marked phiMarkAt noop paired
 none-marked w map sources dead h =
     sym
-    (ext-getD 0 dead (each (λ i. markAt w map sources dead i ∷ []) (length dead)) (sym (each-word (markAt w map sources dead) (length dead)))
-    (λ k l. sym (each-at (markAt w map sources dead) (length dead) k l ∙ at k (h k l))))
+    (ext-getD 0 dead (each (λ i. phiMarkAt w map sources dead i ∷ []) (length dead)) (sym (each-word (phiMarkAt w map sources dead) (length dead)))
+    (λ k l. sym (each-at (phiMarkAt w map sources dead) (length dead) k l ∙ at k (h k l))))
   where
-    at : (k : ℕ) → isPhi w k ≡ false → markAt w map sources dead k ≡ getD dead k 0
+    at : (k : ℕ) → isPhi w k ≡ false → phiMarkAt w map sources dead k ≡ getD dead k 0
     at k e = rw e (go (alive dead k) refl)
       where
         go : (t : Bool) → alive dead k ≡ t → cond t 0 (getD dead k 0) ≡ getD dead k 0
@@ -57,7 +57,7 @@ none-marked w map sources dead h =
         go false q = refl
 
 module _ (bars : Bars) (strict : Strict bars) (code kinds words map sources stmts calls remap : List ℕ) (constants m p : ℕ) (n : ℕ)
-    (whole : length code ≡ stride * n) (lent : Lent (chunk code (replicate n 0) kinds words constants)) (rule : Rule code constants) where
+    (whole : length code ≡ stride * n) (lent : PassRoom (chunk code (replicate n 0) kinds words constants)) (rule : WishRule code constants) where
   abbrev s : Chunk
   s = chunk code (replicate n 0) kinds words constants
 
@@ -79,7 +79,7 @@ module _ (bars : Bars) (strict : Strict bars) (code kinds words map sources stmt
   abbrev tabs : Tables
   tabs = tables (t .code) map sources stmts calls (t .dead) remap (record { instructions = n; map = m; sources = p })
 
-  fits : count code ≤ length {A = ℕ} (replicate n 0)
+  fits : chunkCount code ≤ length {A = ℕ} (replicate n 0)
   fits = omega (arith, long)
 
   philess : (k : ℕ) → k < length (t .dead) → isPhi (t .code) k ≡ false
@@ -90,13 +90,13 @@ module _ (bars : Bars) (strict : Strict bars) (code kinds words map sources stmt
   only : (k : ℕ) → k < length (s .dead) → known (opAt code k) ≡ true
   only k h = rule .only k (omega (arith, long))
 
-  ends-alike : Keeps code kinds words n (finished tabs .code) (t .kinds) (t .words) (t .constants) (finished tabs .left .instructions)
+  ends-alike : RunsAs code kinds words n (finished tabs .code) (t .kinds) (t .words) (t .constants) (finished tabs .left .instructions)
   unfolding finished renewed
   ends-alike =
       rw (none-marked (t .code) (mapOf tabs) (sourcesOf tabs) (t .dead) philess) (go (every (alive (t .dead)) (length (t .dead))) refl)
     where
       go : (u : Bool) → every (alive (t .dead)) (length (t .dead)) ≡ u
-          → Keeps code kinds words n (cond u tabs (renewed tabs) .code) (t .kinds) (t .words) (t .constants) (cond u tabs (renewed tabs) .left .instructions)
+          → RunsAs code kinds words n (cond u tabs (renewed tabs) .code) (t .kinds) (t .words) (t .constants) (cond u tabs (renewed tabs) .left .instructions)
       go true e =
           record {
             same =
@@ -114,8 +114,8 @@ module _ (bars : Bars) (strict : Strict bars) (code kinds words map sources stmt
 
 -- ---- the call
 
-module _ (b : Buffers) (c : Counts) (x : Exact b c) (rule : Rule (b .code) (c .constants)) (bars : Bars) (strict : Strict bars) where
-  fold-same : Keeps (b .code) (b .kinds) (b .words) (length (b .dead)) (constantFold bars b c .after .code) (constantFold bars b c .after .kinds)
+module _ (b : Buffers) (c : Counts) (x : Exact b c) (rule : WishRule (b .code) (c .constants)) (bars : Bars) (strict : Strict bars) where
+  fold-same : RunsAs (b .code) (b .kinds) (b .words) (length (b .dead)) (constantFold bars b c .after .code) (constantFold bars b c .after .kinds)
       (constantFold bars b c .after .words) (constantFold bars b c .answer .constants) (constantFold bars b c .answer .instructions)
   unfolding constantFold foldPass
   fold-same =
@@ -129,30 +129,30 @@ module _ (b : Buffers) (c : Counts) (x : Exact b c) (rule : Rule (b .code) (c .c
       })
       rule
 
-module _ (b : Buffers) (tries landings : List ℕ) (c : Counts) (rule : Rule (b .code) (c .constants)) (f : Folded)
+module _ (b : Buffers) (tries landings : List ℕ) (c : Counts) (rule : WishRule (b .code) (c .constants)) (f : Folded)
     (e : foldCall true b tries landings c .result .answer ≡ Is f) where
-  keeps-all : Keeps (b .code) (b .kinds) (b .words) (count (b .code)) (foldCall true b tries landings c .result .after .code)
+  keeps-all : RunsAs (b .code) (b .kinds) (b .words) (chunkCount (b .code)) (foldCall true b tries landings c .result .after .code)
       (foldCall true b tries landings c .result .after .kinds) (foldCall true b tries landings c .result .after .words) (f .constants) (f .instructions)
-  unfolding rejoined joined foldLent
+  unfolding rejoined joinedBuffers foldLent
   keeps-all =
       let a = answered true b tries landings c f e in
       let o = constantFold (byScan true tries) (needed b c) c in
-      let l : length (take (count (b .code)) (b .dead)) ≡ count (b .code) = length-take-le (count (b .code)) (b .dead) (a .held .dead) in
+      let l : length (take (chunkCount (b .code)) (b .dead)) ≡ chunkCount (b .code) = length-take-le (chunkCount (b .code)) (b .dead) (a .held .dead) in
       let y = fold-same (needed b c) c (a .exact) rule (byScan true tries) (scan-strict tries) in
       rw (a .is)
       (subst
       (λ (g : Folded).
-      Keeps (b .code) (b .kinds) (b .words) (count (b .code)) (o .after .code) (o .after .kinds) (o .after .words) (g .constants) (g .instructions))
+      RunsAs (b .code) (b .kinds) (b .words) (chunkCount (b .code)) (o .after .code) (o .after .kinds) (o .after .words) (g .constants) (g .instructions))
       (a .counts)
       (subst
-      (λ (k : ℕ). Keeps (b .code) (b .kinds) (b .words) k (o .after .code) (o .after .kinds) (o .after .words) (o .answer .constants) (o .answer .instructions))
+      (λ (k : ℕ). RunsAs (b .code) (b .kinds) (b .words) k (o .after .code) (o .after .kinds) (o .after .words) (o .answer .constants) (o .answer .instructions))
       l y))
 
   -- Every run from an empty stack that ends before folding ends after it with the same stack or the same stop, and back.
-  pub keeps-runs : Same (b .code) (b .kinds) (b .words) (count (b .code)) (foldCall true b tries landings c .result .after .code)
+  pub keeps-runs : Same (b .code) (b .kinds) (b .words) (chunkCount (b .code)) (foldCall true b tries landings c .result .after .code)
       (foldCall true b tries landings c .result .after .kinds) (foldCall true b tries landings c .result .after .words) (f .instructions)
   keeps-runs = keeps-all .same
 
   -- What is left, cut at the answered count, is such a chunk again.
-  pub keeps-rule : Rule (take (stride * f .instructions) (foldCall true b tries landings c .result .after .code)) (f .constants)
+  pub keeps-rule : WishRule (take (stride * f .instructions) (foldCall true b tries landings c .result .after .code)) (f .constants)
   keeps-rule = cut-rule (foldCall true b tries landings c .result .after .code) (f .instructions) (f .constants) (keeps-all .rule)

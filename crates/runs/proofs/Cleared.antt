@@ -11,35 +11,35 @@ use Rattle.code.specs.Op.{Jump, JumpIfFalse, LoadConst}
 use Rattle.code.specs.declared.Checked.{Checked}
 use Rattle.code.specs.declared.Checked.the-variants.{Count, No as Refused}
 use Rattle.code.proofs.Stages.{room-before}
-use Rattle.lent.specs.Chunk.{count, opAt, markAt, operandAt, names}
+use Rattle.lent.specs.Chunk.{chunkCount, opAt, markAt, operandAt, names}
 use Rattle.lent.specs.Tables.{constantsKept, tableOf}
-use Rattle.lent.specs.Check.{checkOf}
+use Rattle.lent.specs.Check.{chunkCheckOf}
 use Rattle.fold.specs.Plan.{kindOf}
-use Rattle.named.specs.Unused.{named, before, pooled, recoded}
+use Rattle.named.specs.Unused.{constantNamed, before, pooled, recoded}
 use Rattle.clear.specs.Clear as clearing
-use Rattle.clear.specs.Clear.{Is, No, readyOf, clearCall}
+use Rattle.clear.specs.Clear.{Is, No, clearReadyOf, clearCall}
 use Rattle.clear.proofs.Answers.{refused-call, answered}
 use Rattle.clear.proofs.Kept.{named-by, in-order, pooled-kept}
 use Rattle.clear.proofs.Loads.{recoded-count, recoded-op, recoded-mark, unmarked-stays, near-moves}
 use Rattle.clear.proofs.Refold.{accepted-at, rule-const, rule-both}
 use Rattle.clear.proofs.Tested.{table-met}
 use Rattle.runs.specs.Machine.{ins, Plain}
-use Rattle.runs.specs.Rule.{Rule}
-use Rattle.runs.specs.Kept.{Keeps}
+use Rattle.runs.specs.Rule.{WishRule}
+use Rattle.runs.specs.Kept.{RunsAs}
 use Rattle.runs.proofs.Pass.{alike}
 use Rattle.runs.proofs.Alike.{SameEntry, read-both}
 
-module _ (w kinds words : List ℕ) (m n : ℕ) (ok : checkOf w ≡ Count n) (rule : Rule w m) where
+module _ (w kinds words : List ℕ) (m n : ℕ) (ok : chunkCheckOf w ≡ Count n) (rule : WishRule w m) where
   abbrev w′ : List ℕ
   w′ = recoded (before w) m w
 
   abbrev kinds′ : List ℕ
-  kinds′ = pooled (named w) m kinds
+  kinds′ = pooled (constantNamed w) m kinds
 
   abbrev words′ : List ℕ
-  words′ = pooled (named w) m words
+  words′ = pooled (constantNamed w) m words
 
-  module _ (k : ℕ) (h : k < count w) where
+  module _ (k : ℕ) (h : k < chunkCount w) where
     -- a jump names no constant, so it goes where it went
     goal-stays : eqb (opAt w k) Jump || eqb (opAt w k) JumpIfFalse ≡ true → operandAt w′ k ≡ operandAt w k
     goal-stays j = go (names w k) refl
@@ -56,7 +56,7 @@ module _ (w kinds words : List ℕ) (m n : ℕ) (ok : checkOf w ≡ Count n) (ru
       there : operandAt w k < m
       there = rule .plain k h .there o
 
-      is-named : named w (operandAt w k) ≡ true
+      is-named : constantNamed w (operandAt w k) ≡ true
       is-named = named-by w (operandAt w k) k h marked refl
 
       moves : operandAt w′ k ≡ before w (operandAt w k)
@@ -67,12 +67,12 @@ module _ (w kinds words : List ℕ) (m n : ℕ) (ok : checkOf w ≡ Count n) (ru
       loads =
           rw moves
           (record {
-            kind = pooled-kept (named w) m kinds (operandAt w k) there is-named;
-            word = pooled-kept (named w) m words (operandAt w k) there is-named;
+            kind = pooled-kept (constantNamed w) m kinds (operandAt w k) there is-named;
+            word = pooled-kept (constantNamed w) m words (operandAt w k) there is-named;
           })
 
       inside : operandAt w′ k < before w m
-      inside = rw moves (in-order (named w) (operandAt w k) m there is-named)
+      inside = rw moves (in-order (constantNamed w) (operandAt w k) m there is-named)
 
     ins-same : ins w′ kinds′ words′ k ≡ ins w kinds words k
     unfolding ins
@@ -87,7 +87,7 @@ module _ (w kinds words : List ℕ) (m n : ℕ) (ok : checkOf w ≡ Count n) (ru
           there = λ e. inside (sym (recoded-op (before w) m w k h) ∙ e);
         }
 
-  pub cleared-same : Keeps w kinds words (count w) w′ kinds′ words′ (before w m) (count w)
+  pub cleared-same : RunsAs w kinds words (chunkCount w) w′ kinds′ words′ (before w m) (chunkCount w)
   cleared-same =
       record {
         same = record { ends = λ e run. alike (λ k h. ins-same k h) run; back = λ e run. alike (λ k h. sym (ins-same k h)) run };
@@ -96,31 +96,31 @@ module _ (w kinds words : List ℕ) (m n : ℕ) (ok : checkOf w ≡ Count n) (ru
 
 -- ---- the call
 
-module _ (b : clearing.Buffers) (m : ℕ) where
+module _ (b : clearing.PoolBuffers) (m : ℕ) where
   -- an answered call was lent a code that passes tests 1 and 2
-  tested : (n : ℕ) → readyOf b m ≡ Count n → checkOf (b .code) ≡ Count n
-  unfolding readyOf
+  tested : (n : ℕ) → clearReadyOf b m ≡ Count n → chunkCheckOf (b .code) ≡ Count n
+  unfolding clearReadyOf
   tested n e =
       let pool = constantsKept (b .kinds) (b .words) m in
-      table-met n (checkOf (b .code)) 1 pool
-      (sym (room-before n (tableOf (checkOf (b .code)) 1 pool) 1 (length (b .scratch)) m (sym e))) .0
+      table-met n (chunkCheckOf (b .code)) 1 pool
+      (sym (room-before n (tableOf (chunkCheckOf (b .code)) 1 pool) 1 (length (b .scratch)) m (sym e))) .0
 
   -- A run ends before clearing exactly when it ends after it, with the same stack or the same stop.
-  pub clear-keeps : (r : ℕ) (a : clearing.Buffers) → clearCall b m ≡ clearing.outcome (Is r) a → Rule (b .code) m
-      → Keeps (b .code) (b .kinds) (b .words) (count (b .code)) (a .code) (a .kinds) (a .words) r (count (b .code))
-  clear-keeps r a e rule = go (readyOf b m) refl
+  pub clear-keeps : (r : ℕ) (a : clearing.PoolBuffers) → clearCall b m ≡ clearing.clearOutcome (Is r) a → WishRule (b .code) m
+      → RunsAs (b .code) (b .kinds) (b .words) (chunkCount (b .code)) (a .code) (a .kinds) (a .words) r (chunkCount (b .code))
+  clear-keeps r a e rule = go (clearReadyOf b m) refl
     where
-      go : (v : Checked) → readyOf b m ≡ v
-          → Keeps (b .code) (b .kinds) (b .words) (count (b .code)) (a .code) (a .kinds) (a .words) r (count (b .code))
+      go : (v : Checked) → clearReadyOf b m ≡ v
+          → RunsAs (b .code) (b .kinds) (b .words) (chunkCount (b .code)) (a .code) (a .kinds) (a .words) r (chunkCount (b .code))
       go (Refused q) f =
-          let y : No q ≡ Is r = ap (λ (x : clearing.Outcome). x .answer) (sym (refused-call b m q f) ∙ e) in
+          let y : No q ≡ Is r = ap (λ (x : clearing.ClearOutcome). x .answer) (sym (refused-call b m q f) ∙ e) in
           absurd (let z : _≡_ {A = ℕ} 0 1 = cc in omega arith)
       go (Count n) f =
           let y = answered b m r a e in
           rw (y .code, y .kinds, y .words, y .count) (cleared-same (b .code) (b .kinds) (b .words) m n (tested n f) rule)
 
-  pub clear-rule : (r : ℕ) (a : clearing.Buffers) → clearCall b m ≡ clearing.outcome (Is r) a → Rule (b .code) m → Rule (a .code) r
+  pub clear-rule : (r : ℕ) (a : clearing.PoolBuffers) → clearCall b m ≡ clearing.clearOutcome (Is r) a → WishRule (b .code) m → WishRule (a .code) r
   clear-rule r a e rule =
-      let same : count (b .code) ≡ count (a .code) =
-      sym (recoded-count (before (b .code)) m (b .code)) ∙ ap (λ (w : List ℕ). count w) (sym (answered b m r a e .code)) in
+      let same : chunkCount (b .code) ≡ chunkCount (a .code) =
+      sym (recoded-count (before (b .code)) m (b .code)) ∙ ap (λ (w : List ℕ). chunkCount w) (sym (answered b m r a e .code)) in
       rw same at (clear-keeps r a e rule .rule)

@@ -5,9 +5,9 @@ use mathlib.Core.Path.{_≡_, refl, sym, _∙_}
 use mathlib.Core.List.{List}
 use lib.ListN.{length, take, length-take}
 use lib.Seq.{getD-take}
-use Rattle.lent.specs.Chunk.{stride, count, opAt, markAt, operandAt}
+use Rattle.lent.specs.Chunk.{stride, chunkCount, opAt, markAt, operandAt}
 use Rattle.runs.specs.Machine.{ins, Plain}
-use Rattle.runs.specs.Rule.{Ruled, Rule}
+use Rattle.runs.specs.Rule.{Ruled, WishRule}
 use Rattle.runs.specs.Kept.{Same}
 use Rattle.runs.proofs.Pass.{alike}
 
@@ -15,10 +15,10 @@ module _ (w : List ℕ) (r : ℕ) where
   abbrev front : List ℕ
   front = take (stride * r) w
 
-  few : count front ≤ r
+  few : chunkCount front ≤ r
   few = short (length-take (stride * r) w)
     where
-      short : length front ≡ min (stride * r) (length w) → count front ≤ r
+      short : length front ≡ min (stride * r) (length w) → chunkCount front ≤ r
       short e = omega arith
 
   module _ (k : ℕ) (h : k < r) where
@@ -49,7 +49,7 @@ module _ (w : List ℕ) (r : ℕ) where
         back = λ e run. alike (λ k h. sym (ins-cut k h kinds words)) run;
       }
 
-  pub cut-rule : (m : ℕ) → Ruled w m r → Rule front m
+  pub cut-rule : (m : ℕ) → Ruled w m r → WishRule front m
   cut-rule m x =
       record {
         only = λ k h. let l : k < r = omega (arith, few) in rw (op-cut k l) (x .only k l);

@@ -9,7 +9,7 @@ use lib.Dec.{eqb}
 use lib.ListN.{length, getD}
 use borrow.Author.Tests.{eqb-true, eqb-false}
 use Rattle.code.specs.Op as op
-use Rattle.lent.specs.Chunk.{opAt, operandAt, jumps}
+use Rattle.lent.specs.Chunk.{opAt, operandAt, marksJump}
 use Rattle.values.specs.declared.Val.the-variants.{Bool as Truth}
 use Rattle.values.specs.declared.Maybe.{Maybe}
 use Rattle.values.specs.declared.Maybe.the-variants.{Is, Nothing}
@@ -18,7 +18,7 @@ use Rattle.fold.specs.declared.Kind.{Kind}
 use Rattle.fold.specs.declared.Kind.the-variants.{Binop, Not, Minus, Other}
 use Rattle.fold.specs.Plan.{kindOf}
 use Rattle.positions.specs.Remap.{live, mapped}
-use Rattle.compact.specs.Tables.{operandOf, compacted}
+use Rattle.compact.specs.Tables.{movedOperand, compacted}
 use Rattle.positions.proofs.Moves.{live-on, live-off}
 use Rattle.compact.proofs.Left.{live-less, from, op-left, mark-left, operand-left}
 use Rattle.positions.proofs.Mapped.{map-in, map-past}
@@ -67,7 +67,7 @@ read-turn g Other c x kinds words = plain-turn g c x kinds words
 
 module _ (code dead kinds words : List ℕ) (constants : ℕ) (plains : (k : ℕ) → k < length dead → Plain code constants k) where
   ins-left : (k : ℕ) → k < length dead → getD dead k 0 ≡ 0 → ins (compacted dead code) kinds words (live dead k) ≡ turn (mapped dead) (ins code kinds words k)
-  unfolding ins operandOf
+  unfolding ins movedOperand
   ins-left k h d =
       rw (op-left dead code k h d, operand-left dead code k h d, plains k h .marks)
       (read-turn (mapped dead) (kindOf (opAt code k)) (opAt code k) (operandAt code k) kinds words)
@@ -90,11 +90,11 @@ module _ (code dead kinds words : List ℕ) (constants : ℕ) (plains : (k : ℕ
 
   -- ---- a LoadConst is no jump, so its operand stays
 
-  load-still : (k : ℕ) → k < length dead → opAt code k ≡ op.LoadConst → jumps code k ≡ false
+  load-still : (k : ℕ) → k < length dead → opAt code k ≡ op.LoadConst → marksJump code k ≡ false
   load-still k h e = plains k h .marks ∙ rw e refl
 
   plain-left : (k : ℕ) → k < length dead → getD dead k 0 ≡ 0 → Plain (compacted dead code) constants (live dead k)
-  unfolding operandOf
+  unfolding movedOperand
   plain-left k h d =
       record {
         marks = rw (mark-left dead code k h d, op-left dead code k h d) (plains k h .marks);

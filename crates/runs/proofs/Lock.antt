@@ -11,7 +11,7 @@ use Rattle.values.specs.declared.Maybe.{Maybe}
 use Rattle.values.specs.declared.Maybe.the-variants.{Is, Nothing}
 use Rattle.fold.specs.declared.Kind.{Kind}
 use Rattle.fold.specs.declared.Kind.the-variants.{Binop, Not, Minus, Other}
-use Rattle.runs.specs.Machine.{Value, Stack, truth, Ins, Push, Unread, Apply, Jump, JumpIfFalse, Pass, End, Move, At, Stop, answer, apply, test, act}
+use Rattle.runs.specs.Machine.{Value, Stack, isTrue, Ins, Push, Unread, Apply, Jump, JumpIfFalse, Pass, End, Onto, At, Stop, answer, apply, test, act}
 use Rattle.runs.specs.Machine.{Run, ends, stops, goes, binopV, negV}
 
 -- outside (p, i]
@@ -59,7 +59,7 @@ module _ (p i k : ℕ) (on : Outside p i (suc k)) where
   test-clear : (x : ℕ) (s : Stack) {j : ℕ} {t : Stack} → Outside p i x → test x s k ≡ At j t → Outside p i j
   unfolding test
   test-clear x [] h e = stop-at e
-  test-clear x (v ∷ s) h e = branch (truth v) x h e
+  test-clear x (v ∷ s) h e = branch (isTrue v) x h e
 
   act-clear : (c : Ins) (s : Stack) {j : ℕ} {t : Stack} → Clear p i c → act c s k ≡ At j t → Outside p i j
   unfolding act
@@ -89,7 +89,7 @@ pub data Same (p i : ℕ) (held : ℕ → Stack) (v : Value) (k : ℕ) (s t : St
   within : p < k → k ≤ i → (u : Stack) → s ≡ held k ++ u → t ≡ v ∷ u → Same p i held v k s t
 
 -- one step of both
-pub data Both (p i : ℕ) (held : ℕ → Stack) (v : Value) (e f : Move) : Type 0 where
+pub data Both (p i : ℕ) (held : ℕ → Stack) (v : Value) (e f : Onto) : Type 0 where
   stopped : (o : End) → e ≡ Stop o → f ≡ Stop o → Both p i held v e f
   moved : (j : ℕ) (s t : Stack) → e ≡ At j s → f ≡ At j t → Same p i held v j s t → Both p i held v e f
 
@@ -97,7 +97,7 @@ module _ {code code′ : ℕ → Ins} {n p i : ℕ} {held : ℕ → Stack} {v : 
   apart : (k : ℕ) → k < n → Outside p i k → Outside p i (suc k) → (s : Stack) → code′ k ≡ code k → Both p i held v (act (code k) s k) (act (code′ k) s k)
   apart k h o on s e = go (act (code k) s k) refl
     where
-      go : (m : Move) → act (code k) s k ≡ m → Both p i held v (act (code k) s k) (act (code′ k) s k)
+      go : (m : Onto) → act (code k) s k ≡ m → Both p i held v (act (code k) s k) (act (code′ k) s k)
       go (At j t) q = moved j t t q (rw e q) (out (act-clear p i k on (code k) s (g .clear k h) q) refl)
       go (Stop o) q = stopped o q (rw e q)
 

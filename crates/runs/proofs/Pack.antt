@@ -10,7 +10,7 @@ use Rattle.values.specs.declared.Maybe.{Maybe}
 use Rattle.values.specs.declared.Maybe.the-variants.{Is, Nothing}
 use Rattle.fold.specs.declared.Kind.{Kind}
 use Rattle.fold.specs.declared.Kind.the-variants.{Binop, Not, Minus, Other}
-use Rattle.runs.specs.Machine.{Stack, truth, Ins, Push, Unread, Apply, Jump, JumpIfFalse, Pass, End, Move, At, Stop, answer, apply, test, act, Run}
+use Rattle.runs.specs.Machine.{Stack, isTrue, Ins, Push, Unread, Apply, Jump, JumpIfFalse, Pass, End, Onto, At, Stop, answer, apply, test, act, Run}
 use Rattle.runs.specs.Machine.{ends, stops, goes, binopV, negV}
 
 -- its targets moved
@@ -22,7 +22,7 @@ turn g (Jump t) = Jump (g t)
 turn g (JumpIfFalse t) = JumpIfFalse (g t)
 turn g Pass = Pass
 
-abbrev onward : (ℕ → ℕ) → Move → Move
+abbrev onward : (ℕ → ℕ) → Onto → Onto
 onward g (At j t) = At (g j) t
 onward g (Stop e) = Stop e
 
@@ -50,7 +50,7 @@ module _ (g : ℕ → ℕ) (k k₂ : ℕ) (on : g (suc k) ≡ suc k₂) where
   test-turn : (x : ℕ) (s : Stack) → test (g x) s k₂ ≡ onward g (test x s k)
   unfolding test
   test-turn x [] = refl
-  test-turn x (v ∷ s) = ap (λ (j : ℕ). At j s) (branch-turn (truth v) x)
+  test-turn x (v ∷ s) = ap (λ (j : ℕ). At j s) (branch-turn (isTrue v) x)
 
   act-turn : (c : Ins) (s : Stack) → act (turn g c) s k₂ ≡ onward g (act c s k)
   unfolding act
@@ -112,7 +112,7 @@ module _ {code code₂ : ℕ → Ins} {n m : ℕ} {g : ℕ → ℕ} (w : Packed 
           at (kept l p e) = here k refl (ltb-true k n q) l p e
       go false q ih = past k refl (ltb-false k n q)
 
-  back-stop : (mv : Move) {o : End} → onward g mv ≡ Stop o → mv ≡ Stop o
+  back-stop : (mv : Onto) {o : End} → onward g mv ≡ Stop o → mv ≡ Stop o
   back-stop (At j t) e = stop-at (sym e)
   back-stop (Stop o′) e = e
 
@@ -130,7 +130,7 @@ module _ {code code₂ : ℕ → Ins} {n m : ℕ} {g : ℕ → ℕ} (w : Packed 
       walk n k (omega arith) (λ j r l. absurd (omega (arith, w .past j l, r, e)))
       (λ j r hj l p on. onto j hj (act (code j) s j) refl (sym (acts s j (r ∙ e) p on) ∙ q) (λ j′ e′. unpack run j′ e′))
     where
-      onto : (j : ℕ) → j < n → (mv : Move) → act (code j) s j ≡ mv → onward g mv ≡ At j₂ t → ((j′ : ℕ) → g j′ ≡ j₂ → Run code n j′ t o) → Run code n j s o
+      onto : (j : ℕ) → j < n → (mv : Onto) → act (code j) s j ≡ mv → onward g mv ≡ At j₂ t → ((j′ : ℕ) → g j′ ≡ j₂ → Run code n j′ t o) → Run code n j s o
       onto j hj (At j′ t′) a b ih =
           let et : t′ ≡ t = cc in
           let ej : g j′ ≡ j₂ = cc in

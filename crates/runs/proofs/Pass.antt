@@ -8,13 +8,13 @@ use mathlib.Core.List.{List, [], _∷_, _++_}
 use lib.Dec.{ltb, leb, eqb}
 use lib.ListN.{getD}
 use borrow.Author.Tests.{ltb-true, ltb-false, eqb-true, le-leb, lt-leb}
-use Rattle.lent.specs.Chunk.{stride, count, opAt, operandAt}
+use Rattle.lent.specs.Chunk.{stride, chunkCount, opAt, operandAt}
 use Rattle.landings.specs.Landings.{landsAny}
 use Rattle.values.specs.declared.Val.{Val}
 use Rattle.values.specs.declared.Op.{Op}
 use Rattle.values.specs.declared.Maybe.the-variants.{Is}
 use Rattle.values.specs.Folds.{foldBinop}
-use Rattle.chunk.specs.Pool.{Room}
+use Rattle.chunk.specs.Pool.{PushRoom}
 use Rattle.fold.specs.declared.Kind.{Kind}
 use Rattle.fold.specs.declared.Kind.the-variants.{Binop, Not, Minus, Other}
 use Rattle.fold.specs.declared.Plan.{Plan}
@@ -22,7 +22,7 @@ use Rattle.fold.specs.declared.Plan.the-variants.{Stay, Put}
 use Rattle.fold.specs.declared.Loaded.{Loaded}
 use Rattle.fold.specs.declared.Loaded.the-variants.{As, No}
 use Rattle.fold.specs.Plan.{Chunk, chunk, kindOf, foldUnary, planAt}
-use Rattle.fold.specs.Pass.{constLoad, put, landed, applied, tryFold, Bars, folded, Ready, Lent}
+use Rattle.fold.specs.Pass.{constLoad, put, landed, applied, tryFold, Bars, folded, OperatorRoom, PassRoom}
 use Rattle.fold.proofs.Planned.{planned}
 use Rattle.fold.proofs.Grown.{Held, held-none, held-ready, held-more}
 use Rattle.positions.specs.Remap.{alive}
@@ -60,7 +60,7 @@ held-high : (a b : Val) (q k : ℕ) (s : Stack) → q < k → held2 a b q k ++ s
 held-high a b q k s h = rw (lt-leb k q h) refl
 
 module _ {n i : ℕ} {code dead kinds words : List ℕ} {constants : ℕ} (fine : Fine n (chunk code dead kinds words constants))
-    (whole : n ≡ count code) (hi : i < n)
+    (whole : n ≡ chunkCount code) (hi : i < n)
     (di : getD dead i 0 ≡ 0) where
   pushes : (p : ℕ) (a : Val) → getD dead p 0 ≡ 0 → Operates code kinds words p a → (s : Stack)
       → act (living code dead kinds words p) s p ≡ At (suc p) (Known a ∷ s)
@@ -72,7 +72,7 @@ module _ {n i : ℕ} {code dead kinds words : List ℕ} {constants : ℕ} (fine 
   passes k d s = rw (living-off code dead kinds words k d) refl
 
   module _ (p q : ℕ) (v : Val)
-      (none : landsAny code p i ≡ false) (room : Room kinds words constants) (c x m : ℕ) (e : constLoad v kinds words constants .load ≡ As c x m) where
+      (none : landsAny code p i ≡ false) (room : PushRoom kinds words constants) (c x m : ℕ) (e : constLoad v kinds words constants .load ≡ As c x m) where
     abbrev Done : Type 0
     Done =
         Kept n (chunk code dead kinds words constants)
@@ -150,7 +150,7 @@ kept-same s fine =
       words-long = refl;
     }
 
-module _ {n i : ℕ} (s : Chunk) (fine : Fine n s) (whole : n ≡ count (s .code)) (hi : i < n) (ready : Ready s i)
+module _ {n i : ℕ} (s : Chunk) (fine : Fine n s) (whole : n ≡ chunkCount (s .code)) (hi : i < n) (ready : OperatorRoom s i)
     (bars : ℕ → Bool) (strict : (p : ℕ) → bars p ≡ false → landsAny (s .code) p i ≡ false) where
   stay : Kept n s s
   stay = kept-same s fine
@@ -180,7 +180,7 @@ module _ {n i : ℕ} (s : Chunk) (fine : Fine n s) (whole : n ≡ count (s .code
           (load-grows v (s .kinds) (s .words) (s .constants)) (kindOf (opAt (s .code) k)) (opAt (s .code) k) (operandAt (s .code) k) (fine .each k h .there))
 
   told-after : (di : getD (s .dead) i 0 ≡ 0) (p q : ℕ) (v : Val) (c x m : ℕ) → constLoad v (s .kinds) (s .words) (s .constants) .load ≡ As c x m
-      → Room (s .kinds) (s .words) (s .constants)
+      → PushRoom (s .kinds) (s .words) (s .constants)
       → Told bars i s p q v
       → Kept n s (chunk (put (s .code) p c x) (kill (s .dead) q i) (constLoad v (s .kinds) (s .words) (s .constants) .kinds) (constLoad v (s .kinds)
       (s .words) (s .constants) .words) m)
@@ -226,7 +226,7 @@ pub record Passed (bars : Bars) (n : ℕ) (s : Chunk) (k : ℕ) : Type 0 where
   pub held : Held bars s (folded bars k s) k
   pub kept : Kept n s (folded bars k s)
 
-module _ (bars : Bars) (strict : Strict bars) (n : ℕ) (s : Chunk) (fine : Fine n s) (whole : n ≡ count (s .code)) (lent : Lent s) where
+module _ (bars : Bars) (strict : Strict bars) (n : ℕ) (s : Chunk) (fine : Fine n s) (whole : n ≡ chunkCount (s .code)) (lent : PassRoom s) where
   pub pass : (k : ℕ) → k ≤ n → Passed bars n s k
   unfolding folded
   pass zero h = record { held = held-none bars s; kept = kept-same s fine }

@@ -22,10 +22,10 @@ use Rattle.values.specs.Folds.{inRange}
 use Rattle.values.specs.declared.Val.{Val}
 use Rattle.values.specs.declared.Val.the-variants.{Int, Float as Real, Bool as Truth}
 use Rattle.values.specs.declared.Maybe.the-variants.{Is}
-use Rattle.chunk.specs.Pool.{toVal, equals, position, Room, Stored, stored, findOrPush, findOrPushConst}
+use Rattle.chunk.specs.Pool.{toVal, equals, position, PushRoom, Stored, stored, findOrPush, findOrPushConst}
 use Rattle.chunk.specs.declared.Kept.{Kept}
 use Rattle.chunk.specs.declared.Kept.the-variants.{At, Full}
-use Rattle.fold.specs.Plan.{page, kindOf}
+use Rattle.fold.specs.Plan.{operatorPage, kindOf}
 use Rattle.fold.specs.Pass.{loadOf, constLoad}
 use Rattle.fold.specs.declared.Loaded.the-variants.{As}
 use Rattle.lent.specs.Chunk.{folds}
@@ -82,7 +82,7 @@ module _ (k w count : ℕ) (kinds words : List ℕ) where
           }
       go false false = grows-same count kinds words
 
-  placed : Room kinds words count → (i m : ℕ) → findOrPush kinds words count k w .kept ≡ At i m
+  placed : PushRoom kinds words count → (i m : ℕ) → findOrPush kinds words count k w .kept ≡ At i m
       → Placed k w count kinds words (findOrPush kinds words count k w) i m
   unfolding findOrPush
   placed r i m e = go (ltb (position kinds words count k w) count) (ltb count 65535) refl refl e
@@ -136,7 +136,7 @@ pub record Loads (v : Val) (count : ℕ) (kinds words : List ℕ) (o x m : ℕ) 
 kept-loads : (s : Stored) (k w count : ℕ) (kinds words : List ℕ) (v : Val) → toVal k w ≡ Is v → ((i m : ℕ) → s .kept ≡ At i m
     → Placed k w count kinds words s i m)
     → (o x m : ℕ) → loadOf (s .kept) ≡ As o x m → Loads v count (s .kinds) (s .words) o x m
-unfolding read plain pushOf kindOf page known folds
+unfolding read plain pushOf kindOf operatorPage known folds
 kept-loads s k w count kinds words v e h o x m q = go (s .kept) refl q
   where
     go : (y : Kept) → s .kept ≡ y → loadOf y ≡ As o x m → Loads v count (s .kinds) (s .words) o x m
@@ -149,9 +149,9 @@ kept-loads s k w count kinds words v e h o x m q = go (s .kept) refl q
         (record { reads = rw (p .kind, p .word, e) refl; there = λ _. p .below; calm = refl; listed = refl; least = p .least })
     go Full g q = absurd (let z : _≡_ {A = ℕ} 0 1 = cc in omega arith)
 
-pub load-back : (v : Val) → Good v → (count : ℕ) (kinds words : List ℕ) → Room kinds words count → (o x m : ℕ) → constLoad v kinds words count .load ≡ As o x m
+pub load-back : (v : Val) → Good v → (count : ℕ) (kinds words : List ℕ) → PushRoom kinds words count → (o x m : ℕ) → constLoad v kinds words count .load ≡ As o x m
     → Loads v count (constLoad v kinds words count .kinds) (constLoad v kinds words count .words) o x m
-unfolding constLoad findOrPushConst toVal inRange read plain kindOf page known folds
+unfolding constLoad findOrPushConst toVal inRange read plain kindOf operatorPage known folds
 load-back (Int z) g count kinds words r o x m e =
     kept-loads (findOrPush kinds words count 1 (ofZ w64 z)) 1 (ofZ w64 z) count kinds words (Int z) (rw (
       back-ok z (omega arith),

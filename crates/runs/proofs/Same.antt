@@ -8,7 +8,7 @@ use mathlib.Core.List.{List, []}
 use lib.ListN.{length, getD}
 use Rattle.laws.proofs.Branch.{or-false}
 use Rattle.laws.specs.All.{many}
-use Rattle.lent.specs.Chunk.{count, opAt}
+use Rattle.lent.specs.Chunk.{chunkCount, opAt}
 use Rattle.landings.specs.Landings.{landsAny, handlesAny, barred}
 use Rattle.fold.specs.Plan.{Chunk}
 use Rattle.fold.specs.Pass.{Bars, byScan, folded, foldAll}
@@ -16,7 +16,7 @@ use Rattle.positions.specs.Remap.{live, mapped}
 use Rattle.compact.specs.Tables.{compacted}
 use Rattle.runs.specs.Machine.{End, Run}
 use Rattle.runs.specs.Rule.{known, Ruled}
-use Rattle.runs.specs.Kept.{Ends, Same, Strict, Fresh}
+use Rattle.runs.specs.Kept.{RunEnds, Same, Strict, Fresh}
 use Rattle.runs.proofs.Step.{living, living-on, codeOf, Fine}
 use Rattle.runs.proofs.Pass.{alike, Passed, pass}
 use Rattle.runs.proofs.Pack.{pack, unpack}
@@ -37,7 +37,7 @@ scan-strict tries w i p e = or-false (landsAny w p i) (handlesAny tries p i) e .
 -- ---- nothing dead: the chunk itself
 
 module _ (code dead kinds words : List ℕ) (n : ℕ) (b : (k : ℕ) → k < n → getD dead k 0 ≡ 0) (e : End) where
-  blank : Ends code kinds words n e ↔ Run (living code dead kinds words) n 0 [] e
+  blank : RunEnds code kinds words n e ↔ Run (living code dead kinds words) n 0 [] e
   blank = (
     λ run. alike (λ k h. living-on code dead kinds words k (b k h)) run,
     λ run. alike (λ k h. sym (living-on code dead kinds words k (b k h))) run,
@@ -46,7 +46,7 @@ module _ (code dead kinds words : List ℕ) (n : ℕ) (b : (k : ℕ) → k < n �
 -- ---- compaction
 
 module _ (s : Chunk) (fine : Fine (length (s .dead)) s) (e : End) where
-  packs : Run (codeOf s) (length (s .dead)) 0 [] e ↔ Ends (compacted (s .dead) (s .code)) (s .kinds) (s .words) (live (s .dead) (length (s .dead))) e
+  packs : Run (codeOf s) (length (s .dead)) 0 [] e ↔ RunEnds (compacted (s .dead) (s .code)) (s .kinds) (s .words) (live (s .dead) (length (s .dead))) e
   unfolding many
   packs =
       let w = packed (s .code) (s .dead) (s .kinds) (s .words) (s .constants) (fine .each) in
@@ -54,7 +54,7 @@ module _ (s : Chunk) (fine : Fine (length (s .dead)) s) (e : End) where
       (λ run. rw z at (pack w run), λ run. unpack w run 0 z)
 
 packs-of : (s : Chunk) (n : ℕ) → length (s .dead) ≡ n → Fine n s → (e : End)
-    → Run (codeOf s) n 0 [] e ↔ Ends (compacted (s .dead) (s .code)) (s .kinds) (s .words) (live (s .dead) (length (s .dead))) e
+    → Run (codeOf s) n 0 [] e ↔ RunEnds (compacted (s .dead) (s .code)) (s .kinds) (s .words) (live (s .dead) (length (s .dead))) e
 packs-of s n l fine e = rw (← l) (packs s (subst (λ (m : ℕ). Fine m s) (sym l) fine) e)
 
 -- ---- the theorem
@@ -66,7 +66,7 @@ module _ (bars : Bars) (strict : Strict bars) (s : Chunk) (fresh : Fresh s) wher
   fine : Fine n s
   fine = record { long = omega (arith, fresh .whole); marks = omega arith; each = fresh .each }
 
-  whole : n ≡ count (s .code)
+  whole : n ≡ chunkCount (s .code)
   whole = omega (arith, fresh .whole)
 
   all : Passed bars n s n
@@ -83,7 +83,7 @@ module _ (bars : Bars) (strict : Strict bars) (s : Chunk) (fresh : Fresh s) wher
   long = all .kept .dead-long
 
   -- compacted
-  runs : (e : End) → Ends (s .code) (s .kinds) (s .words) n e ↔ Ends (compacted (t .dead) (t .code)) (t .kinds) (t .words) (live (t .dead) (length (t .dead))) e
+  runs : (e : End) → RunEnds (s .code) (s .kinds) (s .words) n e ↔ RunEnds (compacted (t .dead) (t .code)) (t .kinds) (t .words) (live (t .dead) (length (t .dead))) e
   runs e =
       let b = blank (s .code) (s .dead) (s .kinds) (s .words) n (λ k h. fresh .blank k) e in
       let m = all .kept .runs e in

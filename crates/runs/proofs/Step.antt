@@ -11,7 +11,7 @@ use lib.Seq.{getD-set-same, getD-set-other}
 use borrow.Author.Tests.{ltb-false, leb-false, eqb-true, eqb-false, eq-eqb, ne-eqb}
 use Rattle.laws.proofs.Some.{passes-at}
 use Rattle.code.specs.Op as op
-use Rattle.lent.specs.Chunk.{stride, count, opAt, operandAt, jumps, lands}
+use Rattle.lent.specs.Chunk.{stride, chunkCount, opAt, operandAt, marksJump, lands}
 use Rattle.landings.specs.Landings.{landsAny}
 use Rattle.values.specs.declared.Val.{Val}
 use Rattle.values.specs.declared.Val.the-variants.{Int, Float as Real, Bool as Truth}
@@ -22,11 +22,11 @@ use Rattle.values.specs.Folds.{foldBinop, foldNot}
 use Rattle.chunk.specs.Pool.{toVal, constToVal}
 use Rattle.fold.specs.declared.Kind.{Kind}
 use Rattle.fold.specs.declared.Kind.the-variants.{Binop, Not, Minus, Other}
-use Rattle.fold.specs.Plan.{Chunk, chunk, page, kindOf, operandOf, foldUnary}
+use Rattle.fold.specs.Plan.{Chunk, chunk, operatorPage, kindOf, operandOf, foldUnary}
 use Rattle.fold.specs.Pass.{put}
 use Rattle.fold.proofs.Put.{put-long, put-other, operand-other, jump-other, put-here, operand-here, jump-here}
 use Rattle.positions.specs.Remap.{alive}
-use Rattle.runs.specs.Machine.{Value, Known, Stack, truth, Ins, Push, Apply, Jump, JumpIfFalse, Pass, At, answer, apply, act, binopV, negV, pushOf}
+use Rattle.runs.specs.Machine.{Value, Known, Stack, isTrue, Ins, Push, Apply, Jump, JumpIfFalse, Pass, At, answer, apply, act, binopV, negV, pushOf}
 use Rattle.runs.specs.Machine.{plain, read, ins, Plain, End, Run}
 use Rattle.runs.specs.Rule.{known}
 use Rattle.runs.proofs.Alike.{read-both}
@@ -86,15 +86,15 @@ module _ (dead : List ℕ) (q i : ℕ) where
 -- ---- no jump lands within
 
 module _ (code : List ℕ) (p i : ℕ) (none : landsAny code p i ≡ false) where
-  not-landing : (k : ℕ) → k < count code → lands code p i k ≡ false
+  not-landing : (k : ℕ) → k < chunkCount code → lands code p i k ≡ false
   unfolding landsAny
   not-landing k h = go (lands code p i k) refl
     where
       go : (t : Bool) → lands code p i k ≡ t → t ≡ false
-      go true e = sym (passes-at (lands code p i) k (count code) h e) ∙ none
+      go true e = sym (passes-at (lands code p i) k (chunkCount code) h e) ∙ none
       go false e = refl
 
-  outside-of : (k : ℕ) → k < count code → jumps code k ≡ true → Outside p i (operandAt code k)
+  outside-of : (k : ℕ) → k < chunkCount code → marksJump code k ≡ true → Outside p i (operandAt code k)
   unfolding lands
   outside-of k h m = go (ltb p (operandAt code k)) (leb (operandAt code k) i) refl refl (rw m at (not-landing k h))
     where
@@ -137,7 +137,7 @@ module _ (code : List ℕ) (p i : ℕ) (none : landsAny code p i ≡ false) wher
   read-clear Minus c x kinds words h = tt
   read-clear Other c x kinds words h = plain-clear c x kinds words h
 
-  living-clear : (dead kinds words : List ℕ) (n k : ℕ) → k < count code → Plain code n k → Clear p i (living code dead kinds words k)
+  living-clear : (dead kinds words : List ℕ) (n k : ℕ) → k < chunkCount code → Plain code n k → Clear p i (living code dead kinds words k)
   unfolding ins
   living-clear dead kinds words n k h pl = go (alive dead k)
     where
@@ -155,7 +155,7 @@ pub record Operates (code kinds words : List ℕ) (p : ℕ) (a : Val) : Type 0 w
   pub good : Good a
 
 pub operates : (code kinds words : List ℕ) (n p : ℕ) (a : Val) → operandOf code kinds words n p ≡ Is a → Operates code kinds words p a
-unfolding operandOf constToVal ins read plain pushOf kindOf page
+unfolding operandOf constToVal ins read plain pushOf kindOf operatorPage
 operates code kinds words n p a e = go (eqb (opAt code p) op.LoadConst) (ltb (operandAt code p) n) refl e
   where
     go : (s t : Bool) → eqb (opAt code p) op.LoadConst ≡ s
@@ -170,8 +170,8 @@ not-not : (b : Bool) → not (not b) ≡ b
 not-not true = refl
 not-not false = refl
 
-not-is : (a : Val) → foldNot a ≡ Is (Truth (not (truth (Known a))))
-unfolding foldNot truth
+not-is : (a : Val) → foldNot a ≡ Is (Truth (not (isTrue (Known a))))
+unfolding foldNot isTrue
 not-is (Int z) = rw (not-not _) refl
 not-is (Real x) = rw (not-not _) refl
 not-is (Truth b) = refl
@@ -181,7 +181,7 @@ pub one-acts : (minus : Bool) (a v : Val) (s : Stack) (k : ℕ) → foldUnary mi
 unfolding act apply answer negV foldUnary
 one-acts true a v s k e = rw e refl
 one-acts false a v s k e =
-    let w : Truth (not (truth (Known a))) ≡ v = cc (not-is a) in
+    let w : Truth (not (isTrue (Known a))) ≡ v = cc (not-is a) in
     ap (λ (u : Val). At (suc k) (Known u ∷ s)) w
 
 pub two-acts : (o : Op) (a b v : Val) (s : Stack) (k : ℕ) → foldBinop o a b ≡ Is v → act (Apply (Binop o)) (Known b ∷ Known a ∷ s) k ≡ At (suc k) (Known v ∷ s)
@@ -206,10 +206,10 @@ pub record Kept (n : ℕ) (s t : Chunk) : Type 0 where
   pub words-long : length (t .words) ≡ length (s .words)
 
 module _ {n i : ℕ} {code dead kinds words : List ℕ} {constants : ℕ} (fine : Fine n (chunk code dead kinds words constants)) (whole : n
-    ≡ count code) (hi : i < n)
+    ≡ chunkCount code) (hi : i < n)
     (p q : ℕ) (v : Val) (pq : p < q) (qi : q ≤ i) (dp : getD dead p 0 ≡ 0) (gap : (k : ℕ) → p < k → k < i → (k ≡ q → ⊥) → getD dead k 0 ≡ 0 → ⊥)
     (kinds′ words′ : List ℕ) (c x m : ℕ) (load : Loads v constants kinds′ words′ c x m) (grows : Grows constants kinds words kinds′ words′) where
-  fits : p < count code
+  fits : p < chunkCount code
   fits = omega arith
 
   abbrev after : Chunk

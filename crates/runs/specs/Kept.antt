@@ -7,21 +7,21 @@ use lib.ListN.{length, getD}
 use Rattle.lent.specs.Chunk.{stride}
 use Rattle.landings.specs.Landings.{landsAny}
 use Rattle.fold.specs.Plan.{Chunk}
-use Rattle.fold.specs.Pass.{Bars, Lent}
+use Rattle.fold.specs.Pass.{Bars, PassRoom}
 use Rattle.runs.specs.Machine.{End, Run, ins, Plain}
 use Rattle.runs.specs.Rule.{Ruled}
 
 -- a run from an empty stack over n instructions ends so
-abbrev pub Ends : (code kinds words : List ℕ) → ℕ → End → Type 0
-Ends code kinds words n e = Run (ins code kinds words) n 0 [] e
+abbrev pub RunEnds : (code kinds words : List ℕ) → ℕ → End → Type 0
+RunEnds code kinds words n e = Run (ins code kinds words) n 0 [] e
 
 -- both end alike, or neither ends
 pub record Same (code kinds words : List ℕ) (n : ℕ) (code′ kinds′ words′ : List ℕ) (n′ : ℕ) : Type 0 where
-  pub ends : (e : End) → Ends code kinds words n e → Ends code′ kinds′ words′ n′ e
-  pub back : (e : End) → Ends code′ kinds′ words′ n′ e → Ends code kinds words n e
+  pub ends : (e : End) → RunEnds code kinds words n e → RunEnds code′ kinds′ words′ n′ e
+  pub back : (e : End) → RunEnds code′ kinds′ words′ n′ e → RunEnds code kinds words n e
 
 -- and the second is n′ instructions as the wish has them, over so many constants
-pub record Keeps (code kinds words : List ℕ) (n : ℕ) (code′ kinds′ words′ : List ℕ) (constants′ n′ : ℕ) : Type 0 where
+pub record RunsAs (code kinds words : List ℕ) (n : ℕ) (code′ kinds′ words′ : List ℕ) (constants′ n′ : ℕ) : Type 0 where
   pub same : Same code kinds words n code′ kinds′ words′ n′
   pub rule : Ruled code′ constants′ n′
 
@@ -33,5 +33,5 @@ Strict bars = (w : List ℕ) (i p : ℕ) → bars w i p ≡ false → landsAny w
 pub record Fresh (s : Chunk) : Type 0 where
   pub whole : length (s .code) ≡ stride * length (s .dead)
   pub blank : (k : ℕ) → getD (s .dead) k 0 ≡ 0
-  pub lent : Lent s
+  pub lent : PassRoom s
   pub each : (k : ℕ) → k < length (s .dead) → Plain (s .code) (s .constants) k

@@ -7,7 +7,7 @@ use lib.Dec.{eqb}
 use lib.IntN.{pos}
 use lib.ListN.{getD}
 use Rattle.code.specs.Op as op
-use Rattle.lent.specs.Chunk.{opAt, operandAt, jumps, folds}
+use Rattle.lent.specs.Chunk.{opAt, operandAt, marksJump, folds}
 use Rattle.values.specs.Python.{eqZ}
 use Rattle.values.specs.Folds.{foldBinop, foldNeg, isZero}
 use Rattle.values.specs.declared.Val.{Val}
@@ -29,11 +29,11 @@ abbrev pub Stack : Type 0
 Stack = List Value
 
 -- zero of either sign, false and none are false, every other value is true
-unfoldable pub truth : Value → Bool
-truth (Known (Int z)) = not (eqZ z (pos 0))
-truth (Known (Real x)) = not (isZero x)
-truth (Known (Truth b)) = b
-truth None = false
+unfoldable pub isTrue : Value → Bool
+isTrue (Known (Int z)) = not (eqZ z (pos 0))
+isTrue (Known (Real x)) = not (isZero x)
+isTrue (Known (Truth b)) = b
+isTrue None = false
 
 -- An instruction, read. `Unread`: a constant that is no operand, by kind and word. `Apply Other`: an opcode that the machine has not.
 -- `Pass` does nothing: it stands for a dead instruction, of which a chunk has none.
@@ -52,9 +52,9 @@ pub data End : Type 0 where
   ShortTest Strange : End
 
 -- one step: to a position with a stack, or stopped
-pub data Move : Type 0 where
-  At : ℕ → Stack → Move
-  Stop : End → Move
+pub data Onto : Type 0 where
+  At : ℕ → Stack → Onto
+  Stop : End → Onto
 
 -- an operator works by the fold rules; none is no operand
 unfoldable pub binopV : Op → Value → Value → Maybe
@@ -66,29 +66,29 @@ unfoldable pub negV : Value → Maybe
 negV (Known a) = foldNeg a
 negV None = Nothing
 
-unfoldable pub answer : Kind → Stack → Maybe → Stack → ℕ → Move
+unfoldable pub answer : Kind → Stack → Maybe → Stack → ℕ → Onto
 answer kind operands (Is v) s k = At (suc k) (Known v ∷ s)
 answer kind operands Nothing s k = Stop (NoResult kind operands)
 
 -- an operator on a stack, its top first; Not answers the opposite of the truth
-unfoldable pub apply : Kind → Stack → ℕ → Move
-unfolding answer binopV negV truth
+unfoldable pub apply : Kind → Stack → ℕ → Onto
+unfolding answer binopV negV isTrue
 apply (Binop o) [] k = Stop (Short (Binop o) [])
 apply (Binop o) (b ∷ []) k = Stop (Short (Binop o) (b ∷ []))
 apply (Binop o) (b ∷ a ∷ s) k = answer (Binop o) (a ∷ b ∷ []) (binopV o a b) s k
 apply Not [] k = Stop (Short Not [])
-apply Not (v ∷ s) k = At (suc k) (Known (Truth (not (truth v))) ∷ s)
+apply Not (v ∷ s) k = At (suc k) (Known (Truth (not (isTrue v))) ∷ s)
 apply Minus [] k = Stop (Short Minus [])
 apply Minus (v ∷ s) k = answer Minus (v ∷ []) (negV v) s k
 apply Other s k = Stop Strange
 
 -- JumpIfFalse pops and goes on by truth
-unfoldable pub test : ℕ → Stack → ℕ → Move
-unfolding truth
+unfoldable pub test : ℕ → Stack → ℕ → Onto
+unfolding isTrue
 test t [] k = Stop ShortTest
-test t (v ∷ s) k = At (cond (truth v) (suc k) t) s
+test t (v ∷ s) k = At (cond (isTrue v) (suc k) t) s
 
-unfoldable pub act : Ins → Stack → ℕ → Move
+unfoldable pub act : Ins → Stack → ℕ → Onto
 unfolding apply test
 act (Push v) s k = At (suc k) (v ∷ s)
 act (Unread kind w) s k = Stop (NoOperand kind w)
@@ -133,5 +133,5 @@ ins code kinds words k = read (kindOf (opAt code k)) (opAt code k) (operandAt co
 
 -- the jump mark is on just Jump and JumpIfFalse, and a LoadConst names a constant that is there
 pub record Plain (code : List ℕ) (constants k : ℕ) : Type 0 where
-  pub marks : jumps code k ≡ eqb (opAt code k) op.Jump || eqb (opAt code k) op.JumpIfFalse
+  pub marks : marksJump code k ≡ eqb (opAt code k) op.Jump || eqb (opAt code k) op.JumpIfFalse
   pub there : opAt code k ≡ op.LoadConst → operandAt code k < constants

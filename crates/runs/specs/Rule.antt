@@ -5,7 +5,7 @@ use mathlib.Core.Bool.{Bool, true, _||_}
 use mathlib.Core.List.{List}
 use lib.Dec.{eqb}
 use Rattle.code.specs.Op.{LoadConst, LoadTrue, LoadFalse, LoadNone, Jump, JumpIfFalse}
-use Rattle.lent.specs.Chunk.{count, opAt, folds}
+use Rattle.lent.specs.Chunk.{chunkCount, opAt, folds}
 use Rattle.runs.specs.Machine.{Plain}
 
 -- LoadConst, LoadTrue, LoadFalse, LoadNone, the folding operators, Jump and JumpIfFalse
@@ -18,5 +18,5 @@ pub record Ruled (code : List ℕ) (constants n : ℕ) : Type 0 where
   pub plain : (k : ℕ) → k < n → Plain code constants k
 
 -- all of the code
-abbrev pub Rule : List ℕ → ℕ → Type 0
-Rule code constants = Ruled code constants (count code)
+abbrev pub WishRule : List ℕ → ℕ → Type 0
+WishRule code constants = Ruled code constants (chunkCount code)

@@ -26,9 +26,9 @@ use Rattle.kept.specs.Level.{resumeOf, resultAt}
 use Rattle.kept.specs.Lists.{partAt}
 use Rattle.levels.specs.Answers.{levelTold, levelAnswer}
 use Rattle.area.specs.Area.{freeOf, putIn}
-use Rattle.saver.specs.Saver.{Saver, saver, madeHead, Ends, ends, regsOf, usedOf, entered, enterOf}
+use Rattle.saver.specs.Saver.{Saver, saver, madeHead, Ends, ends, regsOf, inUse, entered, enterOf}
 use Rattle.leaves.specs.Leaving.{Back, returned, thrown, leaveOf}
-use Rattle.frames.specs.Frames.{fileOf, Sound, Event, Play, Matched, Open, done, enter, write, leave}
+use Rattle.frames.specs.Frames.{fileOf, Sound, CallEvent, Play, Matched, Open, done, enter, write, leave}
 use Rattle.saver.specs.Answers.{saverTold}
 use Rattle.saver.specs.declared.SaverAnswer.{SaverAnswer}
 use Rattle.saver.specs.declared.SaverAnswer.the-variants.{Used, Registers, Listed, Full, Nothing}
@@ -36,7 +36,7 @@ use Rattle.frames.proofs.Resumes.{answers}
 use Rattle.frames.proofs.Open.{open-sound, none-open, some-open, made-open}
 use Rattle.answers.specs.Answers.{By, KeptTold, MadeTold, EnterTold, LeaveTold}
 use Rattle.answers.proofs.Answered.{never-0, kept-answered}
-use Rattle.saved.specs.Calls.{Called}
+use Rattle.saved.specs.Calls.{ByCalls}
 use Rattle.saved.specs.Calls as called
 use Rattle.saved.proofs.Saved as saved
 
@@ -86,7 +86,7 @@ told-is : (e : Ends) (s : Saver) (r : Answer) → By saverTold (λ v. e ≡ ends
 told-is e s r x = x .is ∙ ap saverTold (sym (ap (λ (y : Ends). y .answer) (x .allowed)))
 
 -- exported calls in order are the calls inside in order
-pub played : {s t : Saver} {es : List Event} → Called s es t → Play s es t
+pub played : {s t : Saver} {es : List CallEvent} → ByCalls s es t → Play s es t
 played called.done = done
 played {t = t} (called.enter {s = s} {m = m} {l = l} {q = q} {es = es} {r = r} x h p) =
     let (u, e) = by-call (enterOf s l q) m r x h in
@@ -142,36 +142,36 @@ module _ (bits : ℕ) (w : List ℕ) (regs : ℕ) (tries : List ℕ) (wide : Boo
   at P = subst P (sym (f .results))
 
   -- It is refused with 8 and the free words, and no word changes, where these are fewer than twice the list plus two.
-  pub no-room : freeOf (usedOf s) < 2 * length (partAt o l k) + 2 → (t : Saver) (a : Answer) → EnterTold s (partAt o l k) (v .third) t a
-      → (a ≡ refusalOf 8 (freeOf (usedOf s)) 0) × (t ≡ s)
+  pub no-room : freeOf (inUse s) < 2 * length (partAt o l k) + 2 → (t : Saver) (a : Answer) → EnterTold s (partAt o l k) (v .third) t a
+      → (a ≡ refusalOf 8 (freeOf (inUse s)) 0) × (t ≡ s)
   no-room h t a x =
       let (n, g, b, out) = kept-answered bits w regs tries wide rows offsets list new o l r kept answered in
-      let e = at (λ q. enterOf s (partAt o l k) q ≡ ends s (Full (freeOf (usedOf s))))
+      let e = at (λ q. enterOf s (partAt o l k) q ≡ ends s (Full (freeOf (inUse s))))
       (saved.no-room bits w regs tries wide rows offsets list new o l n g b out k (f .inside) (f .level) s ok same h) in (
         told-is (enterOf s (partAt o l k) (v .third)) t a x ∙ ap (λ (y : Ends). saverTold (y .answer)) e,
         sym (left-is (enterOf s (partAt o l k) (v .third)) t a x) ∙ ap (λ (y : Ends). y .left) e,
       )
 
   -- Everywhere else it is answered.
-  pub room : 2 * length (partAt o l k) + 2 ≤ freeOf (usedOf s) → (t : Saver) (a : Answer) → EnterTold s (partAt o l k) (v .third) t a
-      → a ≡ answerOf (usedOf s + (2 * length (partAt o l k) + 2)) 0 0 0
+  pub room : 2 * length (partAt o l k) + 2 ≤ freeOf (inUse s) → (t : Saver) (a : Answer) → EnterTold s (partAt o l k) (v .third) t a
+      → a ≡ answerOf (inUse s + (2 * length (partAt o l k) + 2)) 0 0 0
   room h t a x =
       let (n, g, b, out) = kept-answered bits w regs tries wide rows offsets list new o l r kept answered in
-      let e = at (λ q. enterOf s (partAt o l k) q ≡ ends (entered s (partAt o l k) q) (Used (usedOf s + (2 * length (partAt o l k) + 2))))
+      let e = at (λ q. enterOf s (partAt o l k) q ≡ ends (entered s (partAt o l k) q) (Used (inUse s + (2 * length (partAt o l k) + 2))))
       (saved.room bits w regs tries wide rows offsets list new o l n g b out k (f .inside) (f .level) s ok same h) in
       told-is (enterOf s (partAt o l k) (v .third)) t a x ∙ ap (λ (y : Ends). saverTold (y .answer)) e
 
   -- Its kept list is never refused with 14.
   pub list-fine : (t : Saver) (a : Answer) → EnterTold s (partAt o l k) (v .third) t a → a .refusal ≢ 14
-  list-fine t a x h = go (decLt (freeOf (usedOf s)) (2 * length (partAt o l k) + 2))
+  list-fine t a x h = go (decLt (freeOf (inUse s)) (2 * length (partAt o l k) + 2))
     where
-      go : Dec (freeOf (usedOf s) < 2 * length (partAt o l k) + 2) → ⊥
+      go : Dec (freeOf (inUse s) < 2 * length (partAt o l k) + 2) → ⊥
       go (yes z) = let e : a .refusal ≡ 8 = ap (λ (y : Answer). y .refusal) (no-room z t a x .0) in omega arith
       go (no z) = let e : a .refusal ≡ 0 = ap (λ (y : Answer). y .refusal) (room (omega arith) t a x) in omega arith
 
   -- The level is entered, exported calls come and go well bracketed, nested to any depth, and registers are overwritten at will.
   module _ (s₁ : Saver) (a : Answer) (entry : EnterTold s (partAt o l k) (v .third) s₁ a) (went : a .refusal ≡ 0)
-      (es : List Event) (bracketed : Matched es) (t : Saver) (calls : Called s₁ es t) where
+      (es : List CallEvent) (bracketed : Matched es) (t : Saver) (calls : ByCalls s₁ es t) where
     -- what follows for the calls inside
     play : Play (enterOf s (partAt o l k) (v .third) .left) es t
     play = subst (λ (z : Saver). Play z es t) (sym (left-is (enterOf s (partAt o l k) (v .third)) s₁ a entry)) (played calls)
@@ -183,7 +183,7 @@ module _ (bits : ℕ) (w : List ℕ) (regs : ℕ) (tries : List ℕ) (wide : Boo
     to u = subst (λ (q : ℕ). enterOf s (partAt o l k) q .answer ≡ Used u) (f .results)
 
     -- The leaving is answered, by a return or an exception.
-    pub left : (back : Back) (t′ : Saver) (b : Answer) → LeaveTold t back t′ b → b ≡ answerOf (usedOf s) 0 0 0
+    pub left : (back : Back) (t′ : Saver) (b : Answer) → LeaveTold t back t′ b → b ≡ answerOf (inUse s) 0 0 0
     left back t′ b x =
         let (u, e) = by-call (enterOf s (partAt o l k) (v .third)) s₁ a entry went in
         told-is (leaveOf t back) t′ b x ∙ ap saverTold (answers s ok (partAt o l k) (v .third) u e es bracketed t play back)

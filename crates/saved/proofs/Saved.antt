@@ -21,9 +21,9 @@ use Rattle.kept.specs.declared.KeptAnswer.the-variants.{Is}
 use Rattle.kept.proofs.Demand.{demand-3, kept-each-once}
 use Rattle.taken.specs.Lists.{firstStrange}
 use Rattle.area.specs.Area.{freeOf, needOf, putIn}
-use Rattle.saver.specs.Saver.{Saver, ends, regsOf, usedOf, entered, enterOf}
+use Rattle.saver.specs.Saver.{Saver, ends, regsOf, inUse, entered, enterOf}
 use Rattle.leaves.specs.Leaving.{returned, thrown, leaveOf}
-use Rattle.frames.specs.Frames.{fileOf, Sound, Event, Play, Matched}
+use Rattle.frames.specs.Frames.{fileOf, Sound, CallEvent, Play, Matched}
 use Rattle.saver.specs.declared.SaverAnswer.the-variants.{Used, Full}
 use Rattle.frames.proofs.Listed.{fine-list}
 use Rattle.frames.proofs.Resumes.{alike-return, alike-thrown}
@@ -39,18 +39,18 @@ module _ (bits : ℕ) (w : List ℕ) (regs : ℕ) (tries : List ℕ) (wide : Boo
       (kept-each-once bits w regs tries wide rows offsets list new o l total full abandoned out k inCode level)
 
   -- so an entry is refused with 8 where free words are fewer than twice the list plus two ..
-  pub no-room : freeOf (usedOf s) < 2 * length (partAt o l k) + 2 → enterOf s (partAt o l k) (resultAt w k) ≡ ends s (Full (freeOf (usedOf s)))
+  pub no-room : freeOf (inUse s) < 2 * length (partAt o l k) + 2 → enterOf s (partAt o l k) (resultAt w k) ≡ ends s (Full (freeOf (inUse s)))
   unfolding enterOf
-  no-room h = rw (le-ltb 64 (regsOf s) (ok .few), le-ltb (firstStrange (regsOf s) (partAt o l k)) (length (partAt o l k)) list-fine, lt-ltb (freeOf (usedOf s)) (needOf (partAt o l k)) h)
+  no-room h = rw (le-ltb 64 (regsOf s) (ok .few), le-ltb (firstStrange (regsOf s) (partAt o l k)) (length (partAt o l k)) list-fine, lt-ltb (freeOf (inUse s)) (needOf (partAt o l k)) h)
 
   -- .. and goes through everywhere else
-  pub room : 2 * length (partAt o l k) + 2 ≤ freeOf (usedOf s)
-      → enterOf s (partAt o l k) (resultAt w k) ≡ ends (entered s (partAt o l k) (resultAt w k)) (Used (usedOf s + (2 * length (partAt o l k) + 2)))
+  pub room : 2 * length (partAt o l k) + 2 ≤ freeOf (inUse s)
+      → enterOf s (partAt o l k) (resultAt w k) ≡ ends (entered s (partAt o l k) (resultAt w k)) (Used (inUse s + (2 * length (partAt o l k) + 2)))
   unfolding enterOf
-  room h = rw (le-ltb 64 (regsOf s) (ok .few), le-ltb (firstStrange (regsOf s) (partAt o l k)) (length (partAt o l k)) list-fine, le-ltb (freeOf (usedOf s)) (needOf (partAt o l k)) h)
+  room h = rw (le-ltb 64 (regsOf s) (ok .few), le-ltb (firstStrange (regsOf s) (partAt o l k)) (length (partAt o l k)) list-fine, le-ltb (freeOf (inUse s)) (needOf (partAt o l k)) h)
 
   -- the level is entered, anything well bracketed happens, with registers overwritten at will, and the call is left
-  module _ (u : ℕ) (entry : enterOf s (partAt o l k) (resultAt w k) .answer ≡ Used u) (es : List Event) (bracketed : Matched es)
+  module _ (u : ℕ) (entry : enterOf s (partAt o l k) (resultAt w k) .answer ≡ Used u) (es : List CallEvent) (bracketed : Matched es)
       (t : Saver) (play : Play (enterOf s (partAt o l k) (resultAt w k) .left) es t) where
     -- by a return: the run resumed there visits the same positions and reads the same values as one whose registers nobody touched, save for the result
     pub saved-return : (x : ℕ) → Alike (flow regs w) (resumeOf w k) (fileOf (leaveOf t (returned x) .left)) (putIn (regsOf s) (resultAt w k) x (fileOf s))

@@ -6,7 +6,7 @@ use native.Mathlib.Omega.{arith}
 use borrow.Author.Tests.{lt-ltb, le-ltb}
 use lib.ListN.{length, getD, set}
 use Rattle.taken.specs.Lists.{firstStrange}
-use Rattle.area.specs.Area.{freeOf, needOf, Fit, Stored}
+use Rattle.area.specs.Area.{freeOf, needOf, StoreRoom, EntryStored}
 use Rattle.taken.proofs.Lists.{all-in}
 use Rattle.saver.specs.Saver.{saver, ends, Made, enterOf}
 use Rattle.saver.specs.declared.SaverAnswer.the-variants.{Used, Registers, Listed, Full}
@@ -21,7 +21,7 @@ module _ (head : List ℕ) (regs : ℕ) where
 pub ruleset makes = (make-large, make-done)
 
 -- room, and registers that are in the file
-pub enter-fit : (regs used free i : ℕ) (l : List ℕ) → regs ≤ 64 → i ≡ firstStrange regs l → length l ≤ i → free ≡ freeOf used → length l < free / 2 → Fit used l
+pub enter-fit : (regs used free i : ℕ) (l : List ℕ) → regs ≤ 64 → i ≡ firstStrange regs l → length l ≤ i → free ≡ freeOf used → length l < free / 2 → StoreRoom used l
 enter-fit regs used free i l few e fine g x = record { room = omega arith; below = λ k y. below k y }
   where
     below : (k : ℕ) → k < length l → getD l k 0 < 64
@@ -43,7 +43,7 @@ module _ (h a f l : List ℕ) (q : ℕ) where
       unfolding enterOf
       enter-full x = rw (le-ltb 64 (getD h 0 0) few, ← e, le-ltb i (length l) fine, ← g, lt-ltb free (needOf l) (omega arith))
 
-      pub enter-done : length l < free / 2 → (b : List ℕ) (n : ℕ) → Stored (getD h 1 0) f l q a b n
+      pub enter-done : length l < free / 2 → (b : List ℕ) (n : ℕ) → EntryStored (getD h 1 0) f l q a b n
           → enterOf (saver h a f) l q ≡ ends (saver (set h 1 n) b f) (Used n)
       unfolding enterOf
       enter-done x b n s = rw (le-ltb 64 (getD h 0 0) few, ← e, le-ltb i (length l) fine, ← g, le-ltb free (needOf l) (omega arith), s .words, s .past)

@@ -23,8 +23,8 @@ saver h a f = record { head = h; area = a; file = f }
 abbrev pub regsOf : Saver → ℕ
 regsOf s = getD (s .head) 0 0
 
-abbrev pub usedOf : Saver → ℕ
-usedOf s = getD (s .head) 1 0
+abbrev pub inUse : Saver → ℕ
+inUse s = getD (s .head) 1 0
 
 -- what a call leaves, and what it answers
 pub record Ends : Type 0 where
@@ -44,12 +44,12 @@ pub record Made (regs : ℕ) (head new : List ℕ) (r : SaverAnswer) : Type 0 wh
 
 -- the saver once the list is put aside
 abbrev pub entered : Saver → List ℕ → ℕ → Saver
-entered s l q = saver (set (s .head) 1 (usedOf s + needOf l)) (sets (s .area) (usedOf s) (entryOf (s .file) l q)) (s .file)
+entered s l q = saver (set (s .head) 1 (inUse s + needOf l)) (sets (s .area) (inUse s) (entryOf (s .file) l q)) (s .file)
 
 -- entered: 3, then 14 with the first such place, then 8 with the free words, which are fewer than twice the list plus two
 unfoldable pub enterOf : Saver → List ℕ → ℕ → Ends
 enterOf s l q =
     cond (ltb 64 (regsOf s)) (ends s (Registers (regsOf s)))
     (cond (ltb (firstStrange (regsOf s) l) (length l)) (ends s (Listed (firstStrange (regsOf s) l)))
-    (cond (ltb (freeOf (usedOf s)) (needOf l)) (ends s (Full (freeOf (usedOf s))))
-    (ends (entered s l q) (Used (usedOf s + needOf l)))))
+    (cond (ltb (freeOf (inUse s)) (needOf l)) (ends s (Full (freeOf (inUse s))))
+    (ends (entered s l q) (Used (inUse s + needOf l)))))

@@ -20,21 +20,21 @@ use Rattle.steps.specs.declared.Step.{Step}
 use Rattle.paths.specs.Search.{Reach, here, later, ways, pushed, Searched, owed}
 use Rattle.paths.proofs.Depth.{push-only, pushed-long}
 use Rattle.paths.proofs.Loop as path
-use Rattle.seek.specs.Asked.{usesAt, givesAt, within, nextAt, onTo, overTo, jumpsIn, Asked, Room}
+use Rattle.seek.specs.Asked.{usesAt, givesAt, seekWithin, seekNext, onTo, overTo, jumpsIn, Asked, AskedRoom}
 use Rattle.seek.proofs.Within.{ways-within, owed-few}
 
 -- the search so far: only instructions wait, and what is still to do is at most as much as instructions and jumps
 pub record Loop (w : List ℕ) (r start : ℕ) (seen₀ todo₀ seen todo : List ℕ) (top : ℕ) : Type 0 where
-  pub walk : path.Loop (count w) (usesAt w r) (givesAt w r) (nextAt w) start seen₀ todo₀ seen todo top
+  pub walk : path.Loop (count w) (usesAt w r) (givesAt w r) (seekNext w) start seen₀ todo₀ seen todo top
   pub inside : (i : ℕ) → i < top → getD todo i 0 < length w / 6
-  pub few : owed (nextAt w) seen (length w / 6) + top ≤ count w + jumpsIn w
+  pub few : owed (seekNext w) seen (length w / 6) + top ≤ count w + jumpsIn w
 
 module _ (w : List ℕ) (r start : ℕ) (seen₀ todo₀ : List ℕ) where
-  pub enters : Room w seen₀ todo₀ → ((j : ℕ) → j < length w / 6 → getD seen₀ j 0 ≡ 0) → start < length w / 6
+  pub enters : AskedRoom w seen₀ todo₀ → ((j : ℕ) → j < length w / 6 → getD seen₀ j 0 ≡ 0) → start < length w / 6
       → Loop w r start seen₀ (set todo₀ 0 start) seen₀ (set todo₀ 0 start) 1
   enters m none h =
       record {
-        walk = path.enters (count w) (usesAt w r) (givesAt w r) (nextAt w) start seen₀ todo₀
+        walk = path.enters (count w) (usesAt w r) (givesAt w r) (seekNext w) start seen₀ todo₀
             (record { few = m .valid .few; marks = m .marks; waiting = m .waiting }) none;
         inside = λ i l. first i (omega arith);
         few = owed-few w seen₀ (omega arith);
@@ -57,7 +57,7 @@ module _ (w : List ℕ) (r start : ℕ) (seen₀ todo₀ : List ℕ) where
 
   pub ends : (seen todo : List ℕ) (top : ℕ) → Loop w r start seen₀ (set todo₀ 0 start) seen todo top → top ≤ 0
       → Searched (Asked w r start) (length w / 6) seen₀ todo₀ false seen todo
-  ends seen todo top l h = path.ends (count w) (usesAt w r) (givesAt w r) (nextAt w) start seen₀ todo₀ seen todo top (l .walk) h
+  ends seen todo top l h = path.ends (count w) (usesAt w r) (givesAt w r) (seekNext w) start seen₀ todo₀ seen todo top (l .walk) h
 
 -- a test of the step at j is one of j
 module _ (w : List ℕ) (r j : ℕ) (s : Step) (at : StepAt w j s) where
@@ -70,9 +70,9 @@ module _ (w : List ℕ) (r j : ℕ) (s : Step) (at : StepAt w j s) where
   give-is b t e f = sym (ap (among r) (at .given)) ∙ sym e ∙ f
 
   -- the two pushes are of what comes next
-  next-is : ways (onTo s j (count w)) (j + 1) (overTo s (count w)) (s .target) ≡ nextAt w j
-  unfolding nextAt
-  next-is = ways-within (count w) (s .on) (s .to) (j + 1) (s .target) ∙ ap (within (count w)) (at .after)
+  next-is : ways (onTo s j (count w)) (j + 1) (overTo s (count w)) (s .target) ≡ seekNext w j
+  unfolding seekNext
+  next-is = ways-within (count w) (s .on) (s .to) (j + 1) (s .target) ∙ ap (seekWithin (count w)) (at .after)
 
 -- a push of an instruction, or of nothing
 inside-push : (n : ℕ) (todo : List ℕ) (top t : ℕ) (b : Bool) → top < length todo → ((i : ℕ) → i < top → getD todo i 0 < n)
@@ -89,36 +89,36 @@ inside-push n todo top t b l h i o = ⊎-elim
 
 module _ (w : List ℕ) (r start : ℕ) (seen₀ todo₀ seen todo : List ℕ) (top : ℕ) (l : Loop w r start seen₀ todo₀ seen todo top) (some : 0 < top) where
   pub few-wait : top ≤ 65536
-  few-wait = path.few-wait (count w) (usesAt w r) (givesAt w r) (nextAt w) start seen₀ todo₀ seen todo top (l .walk) some
+  few-wait = path.few-wait (count w) (usesAt w r) (givesAt w r) (seekNext w) start seen₀ todo₀ seen todo top (l .walk) some
 
   pub top-in : top - 1 < length todo
-  top-in = path.top-in (count w) (usesAt w r) (givesAt w r) (nextAt w) start seen₀ todo₀ seen todo top (l .walk) some
+  top-in = path.top-in (count w) (usesAt w r) (givesAt w r) (seekNext w) start seen₀ todo₀ seen todo top (l .walk) some
 
   module _ (j : ℕ) (popped : j ≡ getD todo (top - 1) 0) where
     pub place : j < length w / 6
     place = omega (arith, popped, l .inside (top - 1) (omega arith))
 
     pub mark-in : j < length seen
-    mark-in = path.mark-in (count w) (usesAt w r) (givesAt w r) (nextAt w) start seen₀ todo₀ seen todo top (l .walk) some j place
+    mark-in = path.mark-in (count w) (usesAt w r) (givesAt w r) (seekNext w) start seen₀ todo₀ seen todo top (l .walk) some j place
 
     pub skip-seen : (getD seen j 0 ≡ 0 → ⊥) → Loop w r start seen₀ todo₀ seen todo (top - 1)
     skip-seen e = record {
-      walk = path.skip-seen (count w) (usesAt w r) (givesAt w r) (nextAt w) start seen₀ todo₀ seen todo top (l .walk) some j popped place e;
+      walk = path.skip-seen (count w) (usesAt w r) (givesAt w r) (seekNext w) start seen₀ todo₀ seen todo top (l .walk) some j popped place e;
       inside = λ i h. l .inside i (omega arith);
       few = omega (arith, l .few);
     }
 
     module _ (fresh : getD seen j 0 ≡ 0) where
-      pub falls-stop : owed (nextAt w) (set seen j 1) (length w / 6) + (top - 1) < owed (nextAt w) seen (length w / 6) + top
-      falls-stop = path.falls-stop (count w) (usesAt w r) (givesAt w r) (nextAt w) start seen₀ todo₀ seen todo top (l .walk) some j popped place fresh
+      pub falls-stop : owed (seekNext w) (set seen j 1) (length w / 6) + (top - 1) < owed (seekNext w) seen (length w / 6) + top
+      falls-stop = path.falls-stop (count w) (usesAt w r) (givesAt w r) (seekNext w) start seen₀ todo₀ seen todo top (l .walk) some j popped place fresh
 
       pub room-for-2 : (top - 1) + 1 < length todo
-      room-for-2 = path.room-for-2 (count w) (usesAt w r) (givesAt w r) (nextAt w) start seen₀ todo₀ seen todo top (l .walk) some j popped place fresh
+      room-for-2 = path.room-for-2 (count w) (usesAt w r) (givesAt w r) (seekNext w) start seen₀ todo₀ seen todo top (l .walk) some j popped place fresh
 
       module _ (s : Step) (at : StepAt w j s) (b : Bool) (e : b ≡ among r (usedOf s)) (t : b ≡ false) (d : Bool) (f : d ≡ among r (givenOf s)) where
         pub stands : d ≡ true → Loop w r start seen₀ todo₀ (set seen j 1) todo (top - 1)
         stands u = record {
-          walk = path.stands (count w) (usesAt w r) (givesAt w r) (nextAt w) start seen₀ todo₀ seen todo top (l .walk) some j popped place fresh
+          walk = path.stands (count w) (usesAt w r) (givesAt w r) (seekNext w) start seen₀ todo₀ seen todo top (l .walk) some j popped place fresh
               (use-is w r j s at b false e t) (give-is w r j s at d true f u);
           inside = λ i h. l .inside i (omega arith);
           few = omega (arith, l .few, falls-stop);
@@ -128,9 +128,9 @@ module _ (w : List ℕ) (r start : ℕ) (seen₀ todo₀ seen todo : List ℕ) (
             (q : top′ ≡ (top - 1) + boolByte (onTo s j (length w / 6)) + boolByte (overTo s (length w / 6)))
             (q′ : todo′ ≡ pushed (pushed todo (top - 1) (j + 1) (onTo s j (length w / 6))) ((top - 1) + boolByte (onTo s j (length w / 6)))
             (s .target) (overTo s (length w / 6))) where
-          pub falls-go : owed (nextAt w) (set seen j 1) (length w / 6) + top′ < owed (nextAt w) seen (length w / 6) + top
+          pub falls-go : owed (seekNext w) (set seen j 1) (length w / 6) + top′ < owed (seekNext w) seen (length w / 6) + top
           falls-go =
-              path.falls-go (count w) (usesAt w r) (givesAt w r) (nextAt w) start seen₀ todo₀ seen todo top (l .walk) some j popped place fresh
+              path.falls-go (count w) (usesAt w r) (givesAt w r) (seekNext w) start seen₀ todo₀ seen todo top (l .walk) some j popped place fresh
               (use-is w r j s at b false e t) (give-is w r j s at d false f u)
               (onTo s j (count w)) (overTo s (count w)) (j + 1) (s .target) (next-is w r j s at) top′ todo′ q q′
 
@@ -147,7 +147,7 @@ module _ (w : List ℕ) (r start : ℕ) (seen₀ todo₀ seen todo : List ℕ) (
           pub goes : Loop w r start seen₀ todo₀ (set seen j 1) todo′ top′
           goes = record {
             walk =
-                path.goes (count w) (usesAt w r) (givesAt w r) (nextAt w) start seen₀ todo₀ seen todo top (l .walk) some j popped place fresh
+                path.goes (count w) (usesAt w r) (givesAt w r) (seekNext w) start seen₀ todo₀ seen todo top (l .walk) some j popped place fresh
                 (use-is w r j s at b false e t) (give-is w r j s at d false f u)
                 (onTo s j (count w)) (overTo s (count w)) (j + 1) (s .target) (next-is w r j s at) top′ todo′ q q′;
             inside = inside-2;
@@ -157,7 +157,7 @@ module _ (w : List ℕ) (r start : ℕ) (seen₀ todo₀ seen todo : List ℕ) (
 pub same-todo : (w : List ℕ) (r start v : ℕ) (seen₀ todo₀ seen todo : List ℕ) (top : ℕ)
     → Loop w r start seen₀ (set todo₀ 0 v) seen todo top → length todo ≡ length todo₀
 same-todo w r start v seen₀ todo₀ seen todo top l =
-    path.same-todo (count w) (usesAt w r) (givesAt w r) (nextAt w) start v seen₀ todo₀ seen todo top (l .walk)
+    path.same-todo (count w) (usesAt w r) (givesAt w r) (seekNext w) start v seen₀ todo₀ seen todo top (l .walk)
 
 -- a use is found
 pub tells : (w : List ℕ) (r start : ℕ) (seen₀ todo₀ seen todo : List ℕ) (top : ℕ) → Loop w r start seen₀ (set todo₀ 0 start) seen todo top → 0 < top
@@ -165,7 +165,7 @@ pub tells : (w : List ℕ) (r start : ℕ) (seen₀ todo₀ seen todo : List ℕ
     → (b : Bool) → b ≡ among r (usedOf s) → b ≡ true
     → Searched (Asked w r start) (length w / 6) seen₀ todo₀ true (set seen j 1) todo
 tells w r start seen₀ todo₀ seen todo top l some j popped fresh s at b e t =
-    path.tells (count w) (usesAt w r) (givesAt w r) (nextAt w) start seen₀ todo₀ seen todo top (l .walk) some j popped
+    path.tells (count w) (usesAt w r) (givesAt w r) (seekNext w) start seen₀ todo₀ seen todo top (l .walk) some j popped
     (place w r start seen₀ (set todo₀ 0 start) seen todo top l some j popped) fresh (use-is w r j s at b true e t)
 
 pub ruleset turning = (enters, past-end, ends, same-todo, few-wait, top-in, place, mark-in, skip-seen, falls-stop, room-for-2, stands, falls-go, goes, tells)

@@ -17,48 +17,48 @@ use Rattle.steps.specs.Code.{afterAt}
 use Rattle.paths.specs.Search.{ways, Turns, owed}
 use Rattle.paths.proofs.Turns.{owed-most, owed-first}
 use Rattle.paths.proofs.Turns.{few-turns as turns-owed}
-use Rattle.seek.specs.Asked.{within, nextAt, jumpsIn}
+use Rattle.seek.specs.Asked.{seekWithin, seekNext, jumpsIn}
 
 -- ---- which
 
 -- one of those within is one of all
-within-all : (n t : ℕ) (l : List ℕ) → List·Memᴰ t (within n l) → List·Memᴰ t l
-unfolding within
+within-all : (n t : ℕ) (l : List ℕ) → List·Memᴰ t (seekWithin n l) → List·Memᴰ t l
+unfolding seekWithin
 within-all n t [] m = m
 within-all n t (x ∷ l) m = go (ltb x n) m (λ q. within-all n t l q)
   where
-    go : (b : Bool) → List·Memᴰ t (cond b (x ∷ within n l) (within n l)) → (List·Memᴰ t (within n l) → List·Memᴰ t l) → List·Memᴰ t (x ∷ l)
+    go : (b : Bool) → List·Memᴰ t (cond b (x ∷ seekWithin n l) (seekWithin n l)) → (List·Memᴰ t (seekWithin n l) → List·Memᴰ t l) → List·Memᴰ t (x ∷ l)
     go true m rec = ⊎-elim (λ e. List·Memᴰ·head e) (λ q. List·Memᴰ·tail (rec q)) (List·Memᴰ·cases-cons m)
     go false m rec = List·Memᴰ·tail (rec m)
 
 -- and one of all that is below n is one of those within
-all-within : (n t : ℕ) (l : List ℕ) → t < n → List·Memᴰ t l → List·Memᴰ t (within n l)
-unfolding within
+all-within : (n t : ℕ) (l : List ℕ) → t < n → List·Memᴰ t l → List·Memᴰ t (seekWithin n l)
+unfolding seekWithin
 all-within n t [] h m = m
 all-within n t (x ∷ l) h m = ⊎-elim (λ e. first e) (λ q. rest (ltb x n) (all-within n t l h q)) (List·Memᴰ·cases-cons m)
   where
-    first : t ≡ x → List·Memᴰ t (cond (ltb x n) (x ∷ within n l) (within n l))
+    first : t ≡ x → List·Memᴰ t (cond (ltb x n) (x ∷ seekWithin n l) (seekWithin n l))
     first e = rw (← e, lt-ltb t n h) (List·Memᴰ·head refl)
 
-    rest : (b : Bool) → List·Memᴰ t (within n l) → List·Memᴰ t (cond b (x ∷ within n l) (within n l))
+    rest : (b : Bool) → List·Memᴰ t (seekWithin n l) → List·Memᴰ t (cond b (x ∷ seekWithin n l) (seekWithin n l))
     rest true q = List·Memᴰ·tail q
     rest false q = q
 
 -- what comes next comes after, and so does each instruction the other way
-pub next-after : (w : List ℕ) (j t : ℕ) → List·Memᴰ t (nextAt w j) → List·Memᴰ t (afterAt w j)
-unfolding nextAt
+pub next-after : (w : List ℕ) (j t : ℕ) → List·Memᴰ t (seekNext w j) → List·Memᴰ t (afterAt w j)
+unfolding seekNext
 next-after w j t m = within-all (count w) t (afterAt w j) m
 
-pub after-next : (w : List ℕ) (j t : ℕ) → t < count w → List·Memᴰ t (afterAt w j) → List·Memᴰ t (nextAt w j)
-unfolding nextAt
+pub after-next : (w : List ℕ) (j t : ℕ) → t < count w → List·Memᴰ t (afterAt w j) → List·Memᴰ t (seekNext w j)
+unfolding seekNext
 after-next w j t h m = all-within (count w) t (afterAt w j) h m
 
 -- where a position leads, within n
-pub ways-within : (n : ℕ) (on to : Bool) (s t : ℕ) → ways (on && ltb s n) s (to && ltb t n) t ≡ within n (ways on s to t)
-unfolding within
+pub ways-within : (n : ℕ) (on to : Bool) (s t : ℕ) → ways (on && ltb s n) s (to && ltb t n) t ≡ seekWithin n (ways on s to t)
+unfolding seekWithin
 ways-within n on to s t = go on to (ltb s n) refl (ltb t n) refl
   where
-    go : (on to x : Bool) → ltb s n ≡ x → (y : Bool) → ltb t n ≡ y → ways (on && x) s (to && y) t ≡ within n (ways on s to t)
+    go : (on to x : Bool) → ltb s n ≡ x → (y : Bool) → ltb t n ≡ y → ways (on && x) s (to && y) t ≡ seekWithin n (ways on s to t)
     go true true true e true f = rw (e, f)
     go true true true e false f = rw (e, f)
     go true true false e true f = rw (e, f)
@@ -71,18 +71,18 @@ ways-within n on to s t = go on to (ltb s n) refl (ltb t n) refl
 
 -- ---- how many
 
-fewer : (n : ℕ) (l : List ℕ) → length (within n l) ≤ length l
-unfolding within
+fewer : (n : ℕ) (l : List ℕ) → length (seekWithin n l) ≤ length l
+unfolding seekWithin
 fewer n [] = omega arith
 fewer n (x ∷ l) = go (ltb x n) (fewer n l)
   where
-    go : (b : Bool) → length (within n l) ≤ length l → length (cond b (x ∷ within n l) (within n l)) ≤ suc (length l)
+    go : (b : Bool) → length (seekWithin n l) ≤ length l → length (cond b (x ∷ seekWithin n l) (seekWithin n l)) ≤ suc (length l)
     go true h = omega arith
     go false h = omega arith
 
 -- a jump has two ways out at most, any other instruction one
-two-ways : (w : List ℕ) (j : ℕ) → length (nextAt w j) ≤ 1 + boolByte (isJump (insAt w j))
-unfolding nextAt afterAt
+two-ways : (w : List ℕ) (j : ℕ) → length (seekNext w j) ≤ 1 + boolByte (isJump (insAt w j))
+unfolding seekNext afterAt
 two-ways w j = omega (arith, fewer (count w) (afterAt w j), go (eqb (insAt w j .op) ReturnR) (eqb (insAt w j .op) Jump) (isJump (insAt w j)))
   where
     t : ℕ
@@ -99,8 +99,8 @@ unfolding isJump kindsOf ruleOf page
 jump-is i e = rw e
 
 -- from the last one only a jump leads to an instruction
-last-way : (w : List ℕ) (j : ℕ) → suc j ≡ count w → length (nextAt w j) ≤ boolByte (isJump (insAt w j))
-unfolding nextAt afterAt within
+last-way : (w : List ℕ) (j : ℕ) → suc j ≡ count w → length (seekNext w j) ≤ boolByte (isJump (insAt w j))
+unfolding seekNext afterAt seekWithin
 last-way w j e = go (eqb (insAt w j .op) ReturnR) (eqb (insAt w j .op) Jump) refl (isJump (insAt w j)) refl
   where
     t : ℕ
@@ -110,7 +110,7 @@ last-way w j e = go (eqb (insAt w j .op) ReturnR) (eqb (insAt w j .op) Jump) ref
     out = le-ltb (j + 1) (count w) (omega arith)
 
     go : (x y : Bool) → eqb (insAt w j .op) Jump ≡ y → (z : Bool) → isJump (insAt w j) ≡ z
-        → length (within (count w) (cond x [] (cond y (t ∷ []) (cond z ((j + 1) ∷ t ∷ []) ((j + 1) ∷ []))))) ≤ boolByte z
+        → length (seekWithin (count w) (cond x [] (cond y (t ∷ []) (cond z ((j + 1) ∷ t ∷ []) ((j + 1) ∷ []))))) ≤ boolByte z
     go true y p z q = omega arith
     go false true p true q = omega (arith, fewer (count w) (t ∷ []))
     go false true p false q = absurd (true≢false (sym (jump-is (insAt w j) (eqb-true (insAt w j .op) Jump p)) ∙ q))
@@ -121,13 +121,13 @@ last-way w j e = go (eqb (insAt w j .op) ReturnR) (eqb (insAt w j .op) Jump) ref
 
 module _ (w seen : List ℕ) where
   -- before the first turn the loop's measure is at most instructions and jumps
-  pub owed-few : 0 < count w → owed (nextAt w) seen (count w) + 1 ≤ count w + jumpsIn w
-  owed-few h = owed-first (nextAt w) (λ j. isJump (insAt w j)) (two-ways w) seen (count w) h (last-way w)
+  pub owed-few : 0 < count w → owed (seekNext w) seen (count w) + 1 ≤ count w + jumpsIn w
+  owed-few h = owed-first (seekNext w) (λ j. isJump (insAt w j)) (two-ways w) seen (count w) h (last-way w)
 
   -- From the asked position on, if it is an instruction, the search makes at most as many turns as there are instructions and jumps.
-  pub few-turns : (seen′ : List ℕ) (at k top : ℕ) → Turns (count w) (nextAt w) seen (boolByte (ltb at (count w))) k seen′ top → k ≤ count w + jumpsIn w
+  pub few-turns : (seen′ : List ℕ) (at k top : ℕ) → Turns (count w) (seekNext w) seen (boolByte (ltb at (count w))) k seen′ top → k ≤ count w + jumpsIn w
   few-turns seen′ at k top ts = go (ltb at (count w)) refl ts
     where
-      go : (b : Bool) → ltb at (count w) ≡ b → Turns (count w) (nextAt w) seen (boolByte b) k seen′ top → k ≤ count w + jumpsIn w
+      go : (b : Bool) → ltb at (count w) ≡ b → Turns (count w) (seekNext w) seen (boolByte b) k seen′ top → k ≤ count w + jumpsIn w
       go true e ts = omega (arith, turns-owed ts, owed-few (omega (arith, ltb-true at (count w) e)))
-      go false e ts = omega (arith, turns-owed ts, owed-most (nextAt w) (λ j. isJump (insAt w j)) (two-ways w) seen (count w))
+      go false e ts = omega (arith, turns-owed ts, owed-most (seekNext w) (λ j. isJump (insAt w j)) (two-ways w) seen (count w))

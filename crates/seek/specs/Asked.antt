@@ -21,13 +21,13 @@ unfoldable pub givesAt : List ℕ → ℕ → ℕ → Bool
 givesAt w r j = among r (givenAt w j)
 
 -- those of some positions that are below n
-unfoldable pub within : ℕ → List ℕ → List ℕ
-within n [] = []
-within n (x ∷ l) = cond (ltb x n) (x ∷ within n l) (within n l)
+unfoldable pub seekWithin : ℕ → List ℕ → List ℕ
+seekWithin n [] = []
+seekWithin n (x ∷ l) = cond (ltb x n) (x ∷ seekWithin n l) (seekWithin n l)
 
 -- the instructions that come after j: n is none
-unfoldable pub nextAt : List ℕ → ℕ → List ℕ
-nextAt w j = within (count w) (afterAt w j)
+unfoldable pub seekNext : List ℕ → ℕ → List ℕ
+seekNext w j = seekWithin (count w) (afterAt w j)
 
 -- the step at j goes on to an instruction, and over to one
 abbrev pub onTo : Step → ℕ → ℕ → Bool
@@ -38,14 +38,14 @@ overTo s n = s .to && ltb (s .target) n
 
 -- some path from k uses r before it gives it up
 abbrev pub Asked : List ℕ → ℕ → ℕ → Type 0
-Asked w r k = Reach (count w) (usesAt w r) (givesAt w r) (nextAt w) k
+Asked w r k = Reach (count w) (usesAt w r) (givesAt w r) (seekNext w) k
 
 -- the jumps of all the code
 abbrev pub jumpsIn : List ℕ → ℕ
 jumpsIn w = many (λ j. isJump (insAt w j)) (count w)
 
 -- accepted code, and buffers for a search of it
-pub record Room (w seen todo : List ℕ) : Type 0 where
+pub record AskedRoom (w seen todo : List ℕ) : Type 0 where
   pub valid : Valid w
   pub marks : count w + 1 ≤ length seen
   pub waiting : count w + 1 ≤ length todo

@@ -7,7 +7,7 @@ ghost use Rattle.laws.specs.Page.{among};
 ghost use Rattle.roles.specs.Roles.{roleTable};
 ghost use Rattle.steps.specs.Step.{named, usedOf, givenOf};
 ghost use Rattle.paths.specs.Search.{pushed, Searched};
-ghost use Rattle.seek.specs.Asked.{onTo, overTo, Asked, Room};
+ghost use Rattle.seek.specs.Asked.{onTo, overTo, Asked, AskedRoom};
 use steps::Step;
 
 // Whether r stands in a field that a mask names.

@@ -10,7 +10,7 @@ use Rattle.roles.specs.Sets.{only, from}
 use Rattle.flow.specs.Set.{minus, alone}
 use Rattle.flow.specs.Flow.{joined, rowAt}
 use Rattle.flow.specs.Sweep.{row, Put}
-use Rattle.flow.specs.Words.{value, window, rowsOf, Small, Holds, Stored}
+use Rattle.flow.specs.Words.{value, window, rowsOf, Small, Holds, WordsStored}
 use Rattle.flow.proofs.Bits.{bit-ext, minus-bit, bit-zero}
 use Rattle.flow.proofs.Words.{as-set, holds-none, with-in, without-in}
 use Rattle.flow.proofs.Rows.{rowAt-lt}
@@ -115,7 +115,7 @@ module _ (bits words n k : ℕ) (rows : List ℕ) (s : Step) where
           ∙ ap (minus (value bits a)) (sym (joined-append (alone regs) l m) ∙ ap (setOf regs) (sym e)))
 
   pub put-is : 0 < bits → (regs : ℕ) (out new : List ℕ) (changed : Bool) → k < n → regs ≤ words * bits → Small bits rows
-      → Holds bits new (rowAt (stepFlow regs s) (row (rowsOf bits words (suc n) rows)) k) → Stored rows (k * words) words new out changed
+      → Holds bits new (rowAt (stepFlow regs s) (row (rowsOf bits words (suc n) rows)) k) → WordsStored rows (k * words) words new out changed
       → Put (stepFlow regs s) (rowsOf bits words (suc n) rows) k (rowsOf bits words (suc n) out) changed
   put-is wide regs out new changed l le sr h st =
       put-row bits words wide (suc n) rows out new k (rowAt (stepFlow regs s) R k) changed (omega arith) sr h

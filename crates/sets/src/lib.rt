@@ -6,7 +6,7 @@ ghost use lib.ListN.{length, take, drop};
 ghost use lib.Bits.{bitOr};
 ghost use Rattle.roles.specs.Sets.{only, from};
 ghost use Rattle.flow.specs.Set.{minus};
-ghost use Rattle.flow.specs.Words.{value, window, Small, Holds, Stored};
+ghost use Rattle.flow.specs.Words.{value, window, Small, Holds, WordsStored};
 ghost use Rattle.steps.specs.Code.{setOf};
 ghost use Rattle.steps.specs.Step.{named};
 
@@ -139,7 +139,7 @@ pub fn without_run(set: [u64; 16], regs: usize, b: usize, run: u8) -> [u64; 16]
 // The words of a set are stored in the row that starts at `at`: whether that changed one.
 pub fn store_row(rows: &mut [u64], at: usize, words: usize, set: [u64; 16]) -> bool
     requires { ⌜ (words ≤ 16) × (at + words ≤ length (now rows)) ⌝ }
-    ensures { λ r. ⌜ Stored (now (rows .entry)) at words set (now (rows .exit)) r ⌝ }
+    ensures { λ r. ⌜ WordsStored (now (rows .entry)) at words set (now (rows .exit)) r ⌝ }
 {
     let mut changed = false;
     let mut j = 0;

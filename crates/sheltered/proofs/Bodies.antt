@@ -15,7 +15,7 @@ use Rattle.flow.proofs.Answer.{found-one}
 use Rattle.flow.proofs.Rows.{In}
 use Rattle.steps.specs.Level.{isLevel, firstLevel}
 use Rattle.steps.specs.Code.{storeOf, flow}
-use Rattle.rows.specs.Route.{firstOf, rowsIn}
+use Rattle.rows.specs.Route.{routeStart, rowsIn}
 use Rattle.kept.specs.Level.{resumeOf, resultAt, levelOf}
 use Rattle.kept.proofs.Demand.{left, level-list, list-by}
 use Rattle.exported.specs.Calls.{Lists, KeptCall}
@@ -30,8 +30,8 @@ use Rattle.sheltered.proofs.Exported.{raising-out, raising-found, kept-
 -- ---- kept
 
 module _ (b : Lists) (r : Answer) (a : Lists) (x : KeptCall 64 body 6 tries false b r a) (z : r .refusal ≡ 0) where
-  begins : firstOf 64 false 6 body ≡ 2
-  unfolding firstOf firstLevel first isLevel
+  begins : routeStart 64 false 6 body ≡ 2
+  unfolding routeStart firstLevel first isLevel
   begins = refl
 
   rows-are : rowsIn 64 6 body (a .rows) ≡ rows

@@ -18,7 +18,7 @@ use Rattle.flow.proofs.Answer.{found-least}
 use Rattle.flow.proofs.Rows.{In}
 use Rattle.steps.specs.Code.{flow}
 use Rattle.steps.specs.Level.{isLevel}
-use Rattle.rows.specs.Route.{firstOf, rowsIn}
+use Rattle.rows.specs.Route.{routeStart, rowsIn}
 use Rattle.kept.specs.Lists.{over}
 use Rattle.kept.specs.Answers.{ListsLeft, Outcome}
 use Rattle.kept.specs.declared.KeptAnswer.the-variants.{Is}
@@ -82,7 +82,7 @@ module _ (w : List ℕ) (regs : ℕ) (tries : List ℕ) (all : Bool) (b : Lists)
 pub kept-out : (bits : ℕ) (w : List ℕ) (regs : ℕ) (tries : List ℕ) (wide : Bool) (b : Lists) (r : Answer) (a : Lists) → KeptCall bits w regs tries wide b r a
     → r .refusal ≡ 0
     → Outcome bits w regs tries wide (b .rows) (b .offsets) (b .list) (a .rows) (a .offsets) (a .list) (Is (r .first) (r .second) (r .third))
-kept-out bits w regs tries wide b r a x z = told-of (flow regs w) (firstOf bits wide regs w) bits w regs tries b r a x z .out
+kept-out bits w regs tries wide b r a x z = told-of (flow regs w) (routeStart bits wide regs w) bits w regs tries b r a x z .out
 
 -- kept's lists are enough where no try is lent and no mark stands amiss
 pub no-try-shelters : (bits : ℕ) (w : List ℕ) (regs : ℕ) (wide : Bool) (b : Lists) (r : Answer) (a : Lists) → KeptCall bits w regs [] wide b r a

@@ -26,7 +26,7 @@ use Rattle.saver.specs.Saver.{Saver, regsOf, enterOf}
 use Rattle.leaves.specs.Leaving.{Back, returned, leaveOf}
 use Rattle.leaves.specs.Leaving as saver
 use Rattle.frames.specs.Frames as frames
-use Rattle.frames.specs.Frames.{fileOf, Sound, Same, Play, Matched}
+use Rattle.frames.specs.Frames.{fileOf, Sound, SameRoom, Play, Matched}
 use Rattle.saver.specs.declared.SaverAnswer.the-variants.{Used}
 use Rattle.frames.proofs.Resumes.{frame-same, held-return, held-result, held-thrown}
 use Rattle.saved.specs.Calls.{Entered}
@@ -99,7 +99,7 @@ result-at zero x = refl
 result-at (suc q) x = result-at q x
 
 module _ (s : Saver) (ok : Sound s) (l : List ℕ) (q u : ℕ) (entry : enterOf s l q .answer
-    ≡ Used u) (es : List frames.Event) (bracketed : Matched es) (t : Saver)
+    ≡ Used u) (es : List frames.CallEvent) (bracketed : Matched es) (t : Saver)
     (play : Play (enterOf s l q .left) es t) where
   abbrev n : ℕ
   n = regsOf s
@@ -166,7 +166,7 @@ module _ (s : Saver) (ok : Sound s) (l : List ℕ) (q : ℕ) (t : Saver) (x : En
 
   left-same : (b : Back) (t′ : Saver) (r : Answer) → LeaveTold t b t′ r → Sound t′ × (regsOf t′ ≡ regsOf s)
   left-same b t′ r y =
-      let m = subst (λ (z : Saver). Same s z) (left-is (leaveOf t b) t′ r y)
+      let m = subst (λ (z : Saver). SameRoom s z) (left-is (leaveOf t b) t′ r y)
       (frame-same s ok l q (opened .0) (opened .1) (x .events) (x .bracketed) t inner b) in
       (m .sound, m .regs)
 

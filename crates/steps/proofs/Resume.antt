@@ -15,7 +15,7 @@ use Rattle.code.specs.Check.{Valid}
 use Rattle.code.specs.declared.Ins.{Ins}
 use Rattle.code.proofs.Rules.{args-follow}
 use Rattle.steps.specs.Code.{storeOf}
-use Rattle.steps.specs.Resume.{resumeOf, resultAt, none, Goes}
+use Rattle.steps.specs.Resume.{resumeOf, resultAt, noRegister, Goes}
 
 module _ (w : List ℕ) (k : ℕ) where
   resume-by : (o : ℕ) → insAt w k .op ≡ o → resumeOf w k ≡ cond (eqb o JumpIfFalseR) k (cond (isCall o) (storeOf w k) (k + 1))
@@ -23,33 +23,33 @@ module _ (w : List ℕ) (k : ℕ) where
   resume-by o e = ap (λ (x : ℕ). cond (eqb x JumpIfFalseR) k (cond (isCall x) (storeOf w k) (k + 1))) e
 
   result-by : (o : ℕ) → insAt w k .op ≡ o
-      → resultAt w k ≡ cond (eqb o JumpIfFalseR || eqb o Call) none (cond (isCall o) (cond (ltb (storeOf w k) (count w)) (insAt w (storeOf w k) .a) none) (insAt w k .a))
+      → resultAt w k ≡ cond (eqb o JumpIfFalseR || eqb o Call) noRegister (cond (isCall o) (cond (ltb (storeOf w k) (count w)) (insAt w (storeOf w k) .a) noRegister) (insAt w k .a))
   unfolding resultAt
   result-by o e =
-      ap (λ (x : ℕ). cond (eqb x JumpIfFalseR || eqb x Call) none (cond (isCall x) (cond (ltb (storeOf w k) (count w)) (insAt w (storeOf w k) .a) none) (insAt w k .a))) e
+      ap (λ (x : ℕ). cond (eqb x JumpIfFalseR || eqb x Call) noRegister (cond (isCall x) (cond (ltb (storeOf w k) (count w)) (insAt w (storeOf w k) .a) noRegister) (insAt w k .a))) e
 
   module _ (i : Ins) (e : i ≡ insAt w k) where
     op-is : insAt w k .op ≡ i .op
     op-is = ap (λ (j : Ins). j .op) (sym e)
 
-    pub goes-test : i .op ≡ JumpIfFalseR → Goes w k k none
+    pub goes-test : i .op ≡ JumpIfFalseR → Goes w k k noRegister
     goes-test h = record { resumes = sym (resume-by JumpIfFalseR (op-is ∙ h)); results = sym (result-by JumpIfFalseR (op-is ∙ h)) }
 
-    pub goes-call : i .op ≡ Call → Goes w k (k + 1) none
+    pub goes-call : i .op ≡ Call → Goes w k (k + 1) noRegister
     goes-call h = record { resumes = sym (resume-by Call (op-is ∙ h)); results = sym (result-by Call (op-is ∙ h)) }
 
     module _ (t : i .op ≡ JumpIfFalseR → ⊥) (u : i .op ≡ Call → ⊥) (b : Bool) (is : b ≡ isCall (i .op)) where
       resume-else : (c : Bool) → b ≡ c → resumeOf w k ≡ cond c (storeOf w k) (k + 1)
       resume-else c h = resume-by (i .op) op-is ∙ rw (ne-eqb (i .op) JumpIfFalseR t, ← is, h)
 
-      result-else : (c : Bool) → b ≡ c → resultAt w k ≡ cond c (cond (ltb (storeOf w k) (count w)) (insAt w (storeOf w k) .a) none) (insAt w k .a)
+      result-else : (c : Bool) → b ≡ c → resultAt w k ≡ cond c (cond (ltb (storeOf w k) (count w)) (insAt w (storeOf w k) .a) noRegister) (insAt w k .a)
       result-else c h = result-by (i .op) op-is ∙ rw (ne-eqb (i .op) JumpIfFalseR t, ne-eqb (i .op) Call u, ← is, h)
 
       pub goes-on : b ≡ false → Goes w k (k + 1) (i .a)
       goes-on h = record { resumes = sym (resume-else false h); results = ap (λ (j : Ins). j .a) e ∙ sym (result-else false h) }
 
       module _ (s : ℕ) (at : s ≡ storeOf w k) (h : b ≡ true) where
-        pub goes-past : count w ≤ s → Goes w k s none
+        pub goes-past : count w ≤ s → Goes w k s noRegister
         goes-past l = record { resumes = at ∙ sym (resume-else true h); results = sym (result-else true h ∙ rw (← at, le-ltb s (count w) l)) }
 
         pub goes-store : s < count w → (j : Ins) → j ≡ insAt w s → Goes w k s (j .a)

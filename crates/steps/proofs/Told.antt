@@ -21,7 +21,7 @@ use Rattle.roles.specs.declared.Case.{Case}
 use Rattle.roles.specs.declared.Case.the-variants.{Store, Unpack, Enter, Exit, Judge, Step as For, Plain}
 use Rattle.steps.specs.Code.{idle}
 use Rattle.steps.specs.Step.{StepAt, TouchesAt}
-use Rattle.steps.specs.Calm.{bitsOf, isPlain, tells, stops, told, calmOf, calmStep, turnStep}
+use Rattle.steps.specs.Calm.{bitsOf, isPlain, tells, rowUnread, told, calmOf, calmStep, turnStep}
 use Rattle.touch.proofs.Cases.{is-plain}
 use Rattle.steps.proofs.Touched.{at-work}
 use Rattle.steps.proofs.Follows.{is-neither, step-is}
@@ -165,8 +165,8 @@ module _ (w : List ℕ) (k m : ℕ) (i : Ins) (place : i ≡ insAt w k) (e : m �
           let quiet : false ≡ idle w k = is-neither w k (i .op) (ap (λ (j : Ins). j .op) place) (eqb-false _ _ (not-true _ (r .1))) (not-true _ (q .1)) in
           let kinds : kind ≡ kindsOf i = told-kinds few in
           let touched : TouchesAt w k (plainOf kind) = at-work w k false quiet i (plainOf kind) refl place (is-plain i (caseOf (i .op)) refl kind (plainOf kind) (plain-case _ (r .0)) kinds refl) in
-          let is : m ≡ told kind (stops (i .op)) = rw z at e in
-          let says : Says kind m (stops (i .op)) = rw is (bits-say kind (stops (i .op)) few) in
+          let is : m ≡ told kind (rowUnread (i .op)) = rw z at e in
+          let says : Says kind m (rowUnread (i .op)) = rw is (bits-say kind (rowUnread (i .op)) few) in
           same-step w k i _ _ _ _ _ _ _ _ _ _ _ (says .used) (says .given) (says .run) (sym (neither (eqb (i .op) ReturnR) (eqb (i .op) Jump)) ∙ says .on) (says .to)
           (step-is w n k kind (min (i .a) n) i (plainOf kind) en place kinds touched refl)
 

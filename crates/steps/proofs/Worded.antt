@@ -14,7 +14,7 @@ use Rattle.laws.proofs.Keys.{sorted, row, apart, named, unnamed, Rest}
 use Rattle.code.specs.Op.{Raise}
 use Rattle.code.specs.declared.Ins.{Ins}
 use Rattle.roles.specs.Kinds.{none, Rule, Bits, says, page, ruleOf, kindsOf}
-use Rattle.roles.specs.Roles.{roleTable, Entry}
+use Rattle.roles.specs.Roles.{roleTable, EntrySays}
 use Rattle.roles.proofs.ByTable.{read, past, raised, other}
 use Rattle.steps.specs.Word.{packed, wordOf}
 
@@ -79,7 +79,7 @@ module _ (i : Ins) (m w k : ℕ) (clips : m ≡ 8 * min (i .x) 4) (e : w ≡ wor
   unfolding wordOf says-byte x
   said = is ∙ rw (e, clips) (eqb-true _ _ (byte-of (ruleOf (i .op)) (min (i .x) 4) (rule-fits (i .op)) (omega arith)))
 
-  entry : i .op < 256 → Entry (i .op) x k
+  entry : i .op < 256 → EntrySays (i .op) x k
   unfolding x
   entry h = let r = read roleTable refl (i .op) (min (i .x) 4) h (omega arith) in rw (said ∙ sym (r .zero)) r
 

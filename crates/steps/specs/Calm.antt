@@ -32,15 +32,15 @@ abbrev pub tells : ℕ → Bool
 tells o = isPlain (caseOf o) && not (eqb o PushRegs) && not (eqb o StoreTopR || eqb o PopTop) && ltb (bitsOf (ruleOf o)) 64
 
 -- the row after it is not read
-abbrev pub stops : ℕ → Bool
-stops o = eqb o ReturnR || eqb o Jump
+abbrev pub rowUnread : ℕ → Bool
+rowUnread o = eqb o ReturnR || eqb o Jump
 
 -- the bits of `kinds`, none for no role, and 32 more for what stops
 abbrev pub told : ℕ → Bool → ℕ
 told kind stop = cond (has none kind) 0 kind + cond stop 32 0
 
 unfoldable pub calmOf : ℕ → ℕ
-calmOf o = cond (tells o) (told (bitsOf (ruleOf o)) (stops o)) 64
+calmOf o = cond (tells o) (told (bitsOf (ruleOf o)) (rowUnread o)) 64
 
 abbrev pub calmStep : Ins → ℕ → Step
 calmStep i m =

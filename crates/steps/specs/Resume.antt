@@ -13,14 +13,14 @@ unfoldable pub resumeOf : List ℕ → ℕ → ℕ
 resumeOf w k = let o = insAt w k .op in cond (eqb o JumpIfFalseR) k (cond (isCall o) (storeOf w k) (k + 1))
 
 -- no register: no operand is so high
-abbrev pub none : ℕ
-none = 65536
+abbrev pub noRegister : ℕ
+noRegister = 65536
 
 -- the result register: a of a call's store, a of all others; JumpIfFalseR and Call have none, nor has a call whose store would be at n or beyond
 unfoldable pub resultAt : List ℕ → ℕ → ℕ
 resultAt w k =
     let o = insAt w k .op in
-    cond (eqb o JumpIfFalseR || eqb o Call) none (cond (isCall o) (cond (ltb (storeOf w k) (count w)) (insAt w (storeOf w k) .a) none) (insAt w k .a))
+    cond (eqb o JumpIfFalseR || eqb o Call) noRegister (cond (isCall o) (cond (ltb (storeOf w k) (count w)) (insAt w (storeOf w k) .a) noRegister) (insAt w k .a))
 
 -- where the level at k goes on, and its result register
 pub record Goes (w : List ℕ) (k at result : ℕ) : Type 0 where

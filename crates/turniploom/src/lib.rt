@@ -15,7 +15,7 @@ ghost use Rattle.generators.specs.Answers.{GenTold};
 ghost use Rattle.needed.specs.Answers.{NeededTold};
 ghost use Rattle.answers.specs.Answers.{keptTold as keptAnswered, KeptTold, FoldTold};
 ghost use Rattle.optimizer.specs.Fold.{buffers};
-ghost use Rattle.clear.specs.Clear.{buffers as clearable, ClearTold};
+ghost use Rattle.clear.specs.Clear.{poolBuffers as clearable, ClearTold};
 ghost use Rattle.levels.specs.Answers.{levelAnswer};
 ghost use lib.ListN.{length};
 ghost use Rattle.figures.specs.Answers.{reports, addCall, joinCall};

@@ -10,7 +10,7 @@ use lib.Bits.{bitAnd, bitOr, bitXor}
 use mir.Syntax.{w64}
 use mir.Val.{SFits, toZ, ofZ}
 use Rattle.values.specs.Python.{shiftUp, shiftDown}
-use Rattle.values.specs.Folds.{Small, Sound, inRange, isZero, divmod, quotient, remainder, shifted, ints, floats, foldBinop, foldNot, foldNeg}
+use Rattle.values.specs.Folds.{SmallInt, SoundInt, inRange, isZero, divmod, quotient, remainder, shifted, ints, floats, foldBinop, foldNot, foldNeg}
 use Rattle.values.specs.declared.Val.{Val}
 use Rattle.values.specs.declared.Val.the-variants.{Int, Float as Real, Bool as Truth}
 use Rattle.values.specs.declared.Maybe.{Maybe}
@@ -48,11 +48,11 @@ unfolding ints
 no-arm a b e = rw e refl
 
 -- compared through their floats
-pub compared : {r : Maybe} (o : Op) {x y : Float} {a b : ℤ} → Small a → Small b → x ≡ ofInt binary64 (read a) → y ≡ ofInt binary64 (read b) → r ≡ floats o x y
+pub compared : {r : Maybe} (o : Op) {x y : Float} {a b : ℤ} → SmallInt a → SmallInt b → x ≡ ofInt binary64 (read a) → y ≡ ofInt binary64 (read b) → r ≡ floats o x y
     → r ≡ floats o (ofInt binary64 a) (ofInt binary64 b)
 compared o s t p q h = rw (p, q, back (small-fits s), back (small-fits t)) at h
 
-module _ {r : Maybe} (o : Op) {a b : ℤ} (s : Small a) (t : Small b) (h : r ≡ floats o (ofInt binary64 (read a)) (ofInt binary64 (read b))) where
+module _ {r : Maybe} (o : Op) {a b : ℤ} (s : SmallInt a) (t : SmallInt b) (h : r ≡ floats o (ofInt binary64 (read a)) (ofInt binary64 (read b))) where
   through : r ≡ floats o (ofInt binary64 a) (ofInt binary64 b)
   through = rw (back (small-fits s), back (small-fits t)) at h
 
@@ -95,15 +95,15 @@ module _ {r : Maybe} {o : Op} {a b : ℤ} (s : SFits w64 a) (t : SFits w64 b) wh
   xor-arm e h = rw e (rw (xor64 a b s t) at h)
 
 -- in range, once made
-pub add-arm : {r : Maybe} {a b : ℤ} → Small a → Small b → r ≡ inRange (read (read a +ℤ read b)) → r ≡ ints Add a b
+pub add-arm : {r : Maybe} {a b : ℤ} → SmallInt a → SmallInt b → r ≡ inRange (read (read a +ℤ read b)) → r ≡ ints Add a b
 unfolding ints
 add-arm s t h = rw (back (small-fits s), back (small-fits t), back (sum-fits s t)) at h
 
-pub sub-arm : {r : Maybe} {a b : ℤ} → Small a → Small b → r ≡ inRange (read (read a -ℤ read b)) → r ≡ ints Sub a b
+pub sub-arm : {r : Maybe} {a b : ℤ} → SmallInt a → SmallInt b → r ≡ inRange (read (read a -ℤ read b)) → r ≡ ints Sub a b
 unfolding ints
 sub-arm s t h = rw (back (small-fits s), back (small-fits t), back (difference-fits s t)) at h
 
-pub minus-arm : {r : Maybe} {a : ℤ} → Small a → r ≡ inRange (read (pos 0 -ℤ read a)) → r ≡ inRange (negℤ a)
+pub minus-arm : {r : Maybe} {a : ℤ} → SmallInt a → r ≡ inRange (read (pos 0 -ℤ read a)) → r ≡ inRange (negℤ a)
 minus-arm {a = a} s h = rw (back (small-fits s), back (minus-fits s), minus-is a) at h
 
 pub mul-arm : {r : Maybe} {a b : ℤ} → SFits w64 a → SFits w64 b → SFits w64 (a *ℤ b) → r ≡ inRange (read (read a *ℤ read b)) → r ≡ ints Mul a b
@@ -140,7 +140,7 @@ module _ {r : Maybe} {o : Op} {a b : ℤ} (s : SFits w64 a) (t : SFits w64 b) wh
   shr-arm e h = rw e (rw (back s, back t) at h)
 
 -- a quotient, and what it leaves
-module _ {m : Divmod} {a b : ℤ} (s : Small a) (t : Small b) (h : m ≡ divmod (read a) (read b)) where
+module _ {m : Divmod} {a b : ℤ} (s : SmallInt a) (t : SmallInt b) (h : m ≡ divmod (read a) (read b)) where
   found : divmod a b ≡ m
   found = sym (rw (back (small-fits s), back (small-fits t)) at h)
 
@@ -162,22 +162,22 @@ module _ {m : Divmod} {a b : ℤ} (s : Small a) (t : Small b) (h : m ≡ divmod 
 
 -- ---- operands
 
-small : {v : Val} {z : ℤ} → v ≡ Int z → Sound v → Small z
+small : {v : Val} {z : ℤ} → v ≡ Int z → SoundInt v → SmallInt z
 small e h = rw e at h
 
-pub small-arm : {v : Val} {z : ℤ} → v ≡ Int z → Sound v → Small (read z)
+pub small-arm : {v : Val} {z : ℤ} → v ≡ Int z → SoundInt v → SmallInt (read z)
 small-arm e h = rw (back (small-fits (small e h))) (small e h)
 
 module _ {r : Maybe} (o : Op) {a b : Val} where
-  pub int-int : {x y : ℤ} → a ≡ Int x → b ≡ Int y → Sound a → Sound b → r ≡ ints o (read x) (read y) → r ≡ foldBinop o a b
+  pub int-int : {x y : ℤ} → a ≡ Int x → b ≡ Int y → SoundInt a → SoundInt b → r ≡ ints o (read x) (read y) → r ≡ foldBinop o a b
   unfolding foldBinop
   int-int p q s t h = rw (p, q) (rw (back (small-fits (small p s)), back (small-fits (small q t))) at h)
 
-  pub int-float : {x : ℤ} {z y : Float} → a ≡ Int x → b ≡ Real y → Sound a → z ≡ ofInt binary64 (read x) → r ≡ floats o z y → r ≡ foldBinop o a b
+  pub int-float : {x : ℤ} {z y : Float} → a ≡ Int x → b ≡ Real y → SoundInt a → z ≡ ofInt binary64 (read x) → r ≡ floats o z y → r ≡ foldBinop o a b
   unfolding foldBinop
   int-float p q s e h = rw (p, q) (rw (e, back (small-fits (small p s))) at h)
 
-  pub float-int : {y : ℤ} {x z : Float} → a ≡ Real x → b ≡ Int y → Sound b → z ≡ ofInt binary64 (read y) → r ≡ floats o x z → r ≡ foldBinop o a b
+  pub float-int : {y : ℤ} {x z : Float} → a ≡ Real x → b ≡ Int y → SoundInt b → z ≡ ofInt binary64 (read y) → r ≡ floats o x z → r ≡ foldBinop o a b
   unfolding foldBinop
   float-int p q t e h = rw (p, q) (rw (e, back (small-fits (small q t))) at h)
 
@@ -201,7 +201,7 @@ module _ (o : Op) (a b : Val) where
 -- ---- Not and Minus
 
 module _ {v : Val} where
-  pub not-int : {z : ℤ} → v ≡ Int z → Sound v → Is (Truth (eqb (ofZ w64 z) 0)) ≡ foldNot v
+  pub not-int : {z : ℤ} → v ≡ Int z → SoundInt v → Is (Truth (eqb (ofZ w64 z) 0)) ≡ foldNot v
   unfolding foldNot
   not-int e s = rw (e, zero-bits (small-fits (small e s))) refl
 
@@ -213,7 +213,7 @@ module _ {v : Val} where
   unfolding foldNot
   not-float e = rw e refl
 
-  pub neg-int : {z : ℤ} {r : Maybe} → v ≡ Int z → Sound v → r ≡ inRange (negℤ (read z)) → r ≡ foldNeg v
+  pub neg-int : {z : ℤ} {r : Maybe} → v ≡ Int z → SoundInt v → r ≡ inRange (negℤ (read z)) → r ≡ foldNeg v
   unfolding foldNeg
   neg-int e s h = rw e (rw (back (small-fits (small e s))) at h)
 

@@ -7,7 +7,7 @@ use mathlib.Core.Path.{_≡_, sym, ap, _∙_}
 use lib.IntN.{ℤ, pos, negsuc, _+ℤ_, _*ℤ_}
 use lib.Signed.{mag}
 use lib.Bits.{bitXor, differ, and-step, or-step, xor-step, and-le-l, and-le-r}
-use Rattle.values.specs.Python.{downDiv, downMod, digit, Digitwise, both, some, one, andZ, orZ, xorZ}
+use Rattle.values.specs.Python.{downDiv, downMod, digit, Digitwise, both, anyOf, one, andZ, orZ, xorZ}
 use Rattle.values.proofs.Division.{down-law}
 
 -- ---- a law that holds of the last digit and is kept by halving holds of each digit
@@ -39,7 +39,7 @@ and-law = by-halves both andZ last-and half-and
 
 -- ---- or
 
-last-or : (a b : ℤ) → downMod (orZ a b) 2 ≡ some (downMod a 2) (downMod b 2)
+last-or : (a b : ℤ) → downMod (orZ a b) 2 ≡ anyOf (downMod a 2) (downMod b 2)
 unfolding downMod orZ
 last-or (pos a) (pos b) = omega (arith, or-step a b)
 last-or (pos a) (negsuc b) = omega (arith, and-step a b, and-le-r (a / 2) (b / 2))
@@ -53,8 +53,8 @@ half-or (pos a) (negsuc b) = ap (λ (k : ℕ). negsuc k) (omega (arith, and-step
 half-or (negsuc a) (pos b) = ap (λ (k : ℕ). negsuc k) (omega (arith, and-step a b))
 half-or (negsuc a) (negsuc b) = ap (λ (k : ℕ). negsuc k) (omega (arith, and-step a b))
 
-pub or-law : (a b : ℤ) → Digitwise some a b (orZ a b)
-or-law = by-halves some orZ last-or half-or
+pub or-law : (a b : ℤ) → Digitwise anyOf a b (orZ a b)
+or-law = by-halves anyOf orZ last-or half-or
 
 -- ---- xor
 

@@ -14,7 +14,7 @@ use lib.Ieee.Exact.{HasValue}
 use lib.Ieee.Back.{round-whole}
 use borrow.Author.Tests.{lt-ltb, le-ltb, ltb-true, ltb-false, le-leb, lt-leb, eq-eqb, ne-eqb, eqb-true, eqb-false}
 use Rattle.values.specs.Python.{signed, sign, eqZ}
-use Rattle.values.specs.Folds.{Small}
+use Rattle.values.specs.Folds.{SmallInt}
 
 -- ---- a common factor above 0 changes no comparison
 
@@ -96,13 +96,13 @@ and-false : (t : Bool) → (t && false) ≡ false
 and-false true = refl
 and-false false = refl
 
-pub lt-ints : (a b : ℤ) → Small a → Small b → lt (ofInt binary64 a) (ofInt binary64 b) ≡ ltZ a b
+pub lt-ints : (a b : ℤ) → SmallInt a → SmallInt b → lt (ofInt binary64 a) (ofInt binary64 b) ≡ ltZ a b
 lt-ints (pos a) (pos b) s t = lt-whole false false a b _ _ (up-value a (s .small)) (up-value b (t .small))
 lt-ints (pos a) (negsuc b) s t = lt-whole false true a (suc b) _ _ (up-value a (s .small)) (low-value b (t .small))
 lt-ints (negsuc a) (pos b) s t = lt-whole true false (suc a) b _ _ (low-value a (s .small)) (up-value b (t .small)) ∙ lt-ltb 0 (suc a + b) (omega arith)
 lt-ints (negsuc a) (negsuc b) s t = lt-whole true true (suc a) (suc b) _ _ (low-value a (s .small)) (low-value b (t .small)) ∙ leb·suc-suc (suc b) a
 
-pub eq-ints : (a b : ℤ) → Small a → Small b → eq (ofInt binary64 a) (ofInt binary64 b) ≡ eqZ a b
+pub eq-ints : (a b : ℤ) → SmallInt a → SmallInt b → eq (ofInt binary64 a) (ofInt binary64 b) ≡ eqZ a b
 eq-ints (pos a) (pos b) s t = eq-whole false false a b _ _ (up-value a (s .small)) (up-value b (t .small)) ∙ and-true (eqb a b)
 eq-ints (pos a) (negsuc b) s t = eq-whole false true a (suc b) _ _ (up-value a (s .small)) (low-value b (t .small)) ∙ unlike a b
   where
@@ -136,11 +136,11 @@ le-is (pos a) (negsuc b) = refl
 le-is (negsuc a) (pos b) = refl
 le-is (negsuc a) (negsuc b) = ap (λ (x : Bool). ltb b a || x) (turned a b) ∙ lt-or-eq b a
 
-pub le-ints : (a b : ℤ) → Small a → Small b → le (ofInt binary64 a) (ofInt binary64 b) ≡ leZ a b
+pub le-ints : (a b : ℤ) → SmallInt a → SmallInt b → le (ofInt binary64 a) (ofInt binary64 b) ≡ leZ a b
 unfolding le
 le-ints a b s t = ap₂ (λ (x y : Bool). x || y) (lt-ints a b s t) (eq-ints a b s t) ∙ le-is a b
 
-pub ne-ints : (a b : ℤ) → Small a → Small b → ne (ofInt binary64 a) (ofInt binary64 b) ≡ not (eqZ a b)
+pub ne-ints : (a b : ℤ) → SmallInt a → SmallInt b → ne (ofInt binary64 a) (ofInt binary64 b) ≡ not (eqZ a b)
 unfolding ne
 ne-ints a b s t = ap not (eq-ints a b s t)
 
@@ -159,7 +159,7 @@ eqZ-same (negsuc a) = eq-eqb a a refl
 -- ---- an int beside any finite float: a against ±n * 2 ^ d, both times the power of two below the line, so that nothing is rounded
 
 -- a 48-bit int becomes a float exactly
-pub exact-int : (a : ℤ) → Small a → HasValue (ofInt binary64 a) (sign a) (natAbs a) 1
+pub exact-int : (a : ℤ) → SmallInt a → HasValue (ofInt binary64 a) (sign a) (natAbs a) 1
 exact-int (pos n) s = up-value n (s .small)
 exact-int (negsuc n) s = low-value n (s .small)
 
@@ -198,7 +198,7 @@ module _ (s : Bool) (m : ℕ) (t : Bool) (n : ℕ) (d : ℤ) where
       ap₂ (λ (b : Bool) (q : ℕ). below t (n * up d * down e) b q) (v .0) (step p e (v .1))
       ∙ below-scale t (n * up d) s (m * down d) (down e) (down-up e)
 
-module _ (a : ℤ) (s : Small a) (t : Bool) (n : ℕ) (d : ℤ) where
+module _ (a : ℤ) (s : SmallInt a) (t : Bool) (n : ℕ) (d : ℤ) where
   pub lt-mixed : lt (ofInt binary64 a) (fin t n d) ≡ ltZ (a *ℤ pos (down d)) (signed t (n * up d))
   lt-mixed =
       lt-beside (sign a) (natAbs a) t n d (ofInt binary64 a) (exact-int a s)
@@ -238,7 +238,7 @@ eq-beside s m t n d (fin z p e) v =
     ap₂ (λ (b : Bool) (q : ℕ). level b q t (n * up d * down e)) (v .0) (step s m t n d p e (v .1))
     ∙ level-scale s (m * down d) t (n * up d) (down e) (down-up e)
 
-pub eq-mixed : (a : ℤ) → Small a → (t : Bool) (n : ℕ) (d : ℤ) → eq (ofInt binary64 a) (fin t n d) ≡ eqZ (a *ℤ pos (down d)) (signed t (n * up d))
+pub eq-mixed : (a : ℤ) → SmallInt a → (t : Bool) (n : ℕ) (d : ℤ) → eq (ofInt binary64 a) (fin t n d) ≡ eqZ (a *ℤ pos (down d)) (signed t (n * up d))
 eq-mixed a s t n d =
     eq-beside (sign a) (natAbs a) t n d (ofInt binary64 a) (exact-int a s)
     ∙ level-signed (sign a) t (natAbs a * down d) (n * up d)

@@ -16,7 +16,7 @@ use mir.Val.{Fits, SFits, toZ, ofZ}
 use mir.ValLaws.{toZ-pos, toZ-neg, toZ-ofZ}
 use borrow.Author.Tests.{lt-ltb, le-ltb, ltb-true, ltb-false, eq-eqb, ne-eqb}
 use Rattle.values.specs.Python.{andZ, orZ, xorZ, shiftDown, floorDiv, downDiv, eqZ}
-use Rattle.values.specs.Folds.{Small, inRange, divmod, shifted}
+use Rattle.values.specs.Folds.{SmallInt, inRange, divmod, shifted}
 use Rattle.values.specs.declared.Val.the-variants.{Int}
 use Rattle.values.specs.declared.Divmod.the-variants.{Into, ByZero}
 use Rattle.values.specs.declared.Maybe.the-variants.{Is, Nothing}
@@ -59,7 +59,7 @@ pub between : (z : ℤ) → ltZ z (negsuc 140737488355327) ≡ false → ltZ (po
 between (pos n) e f = omega (arith, ltb-false 140737488355327 n f)
 between (negsuc n) e f = omega (arith, ltb-false 140737488355327 n e)
 
-pub small-fits : {z : ℤ} → Small z → SFits w64 z
+pub small-fits : {z : ℤ} → SmallInt z → SFits w64 z
 small-fits h = record { sfits = omega (arith, h .small) }
 
 -- ---- sums and the opposite
@@ -81,7 +81,7 @@ sum-mag (negsuc a) (negsuc b) s t = omega arith
 near-fits : (a b : ℤ) → mag a < 2 ^ 48 → mag b < 2 ^ 48 → SFits w64 (a +ℤ b)
 near-fits a b s t = record { sfits = sum-mag a b s t }
 
-pub sum-fits : {a b : ℤ} → Small a → Small b → SFits w64 (a +ℤ b)
+pub sum-fits : {a b : ℤ} → SmallInt a → SmallInt b → SFits w64 (a +ℤ b)
 sum-fits {a} {b} s t = near-fits a b (omega (arith, s .small)) (omega (arith, t .small))
 
 neg-mag : (a : ℤ) → mag (negℤ a) ≤ suc (mag a)
@@ -89,14 +89,14 @@ neg-mag (pos zero) = omega arith
 neg-mag (pos (suc n)) = omega arith
 neg-mag (negsuc n) = omega arith
 
-pub difference-fits : {a b : ℤ} → Small a → Small b → SFits w64 (a -ℤ b)
+pub difference-fits : {a b : ℤ} → SmallInt a → SmallInt b → SFits w64 (a -ℤ b)
 difference-fits {a} {b} s t = near-fits a (negℤ b) (omega (arith, s .small)) (omega (arith, neg-mag b, t .small))
 
 -- the machine's -a is 0 - a
 pub minus-is : (a : ℤ) → pos 0 -ℤ a ≡ negℤ a
 minus-is a = +ℤ-idl (negℤ a)
 
-pub minus-fits : {a : ℤ} → Small a → SFits w64 (pos 0 -ℤ a)
+pub minus-fits : {a : ℤ} → SmallInt a → SFits w64 (pos 0 -ℤ a)
 minus-fits s = difference-fits {a = pos 0} (record { small = lit< tt }) s
 
 -- ---- sizes and products
@@ -182,13 +182,13 @@ same-divmod a d q r h s = rw (not-zero d h, s .quotient, s .remainder) refl
     not-zero (pos d) h = ne-eqb d 0 (λ e. omega arith)
     not-zero (negsuc d) h = refl
 
-quot-mag : (a d : ℤ) → Small a → mag (quotZ a d) < 2 ^ 48
+quot-mag : (a d : ℤ) → SmallInt a → mag (quotZ a d) < 2 ^ 48
 quot-mag a d s = omega (arith, mag-le (quotZ a d), abs-quot a d, div-le-self (natAbs a) (natAbs d), abs-le a, s .small)
 
-rem-mag : (a d : ℤ) → Small a → mag (remZ a d) < 2 ^ 48
+rem-mag : (a d : ℤ) → SmallInt a → mag (remZ a d) < 2 ^ 48
 rem-mag a d s = omega (arith, mag-le (remZ a d), abs-rem a d, mod-le (natAbs a) (natAbs d), abs-le a, s .small)
 
-module _ (a d : ℤ) (s : Small a) (t : Small d) where
+module _ (a d : ℤ) (s : SmallInt a) (t : SmallInt d) where
   pub quot-fits : SFits w64 (quotZ a d)
   quot-fits = record { sfits = omega (arith, quot-mag a d s) }
 
@@ -286,7 +286,7 @@ shift-fits a m h = record { sfits = omega (arith, mag-shr a m) }
 
 -- ---- floats
 
-pub exact : (a : ℤ) → Small a → T (inFloat binary64 a)
+pub exact : (a : ℤ) → SmallInt a → T (inFloat binary64 a)
 unfolding inFloat
 exact (pos n) h = le→leb n (2 ^ 53) (omega (arith, h .small))
 exact (negsuc n) h = lt→ltb n (2 ^ 53) (omega (arith, h .small))

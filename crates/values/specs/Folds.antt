@@ -16,14 +16,14 @@ use Rattle.values.specs.declared.Op.{Op}
 use Rattle.values.specs.declared.Op.the-variants.{Add, Sub, Mul, Div, Mod, FloorDiv, Eq, NotEq, Lt, Gt, LtEq, GtEq, BitAnd, BitOr, BitXor, Shl, Shr}
 
 -- within −140,737,488,355,328 to 140,737,488,355,327: `mag` is n for n and for -(n + 1)
-pub record Small (z : ℤ) : Type 0 where
+pub record SmallInt (z : ℤ) : Type 0 where
   pub small : mag z < 2 ^ 47
 
 -- an operand's int is
-abbrev pub Sound : Val → Type 0
-Sound (Int z) = Small z
-Sound (Real x) = Unit {0}
-Sound (Truth b) = Unit {0}
+abbrev pub SoundInt : Val → Type 0
+SoundInt (Int z) = SmallInt z
+SoundInt (Real x) = Unit {0}
+SoundInt (Truth b) = Unit {0}
 
 -- an int result stays within that range, or no fold
 unfoldable pub inRange : ℤ → Maybe

@@ -51,8 +51,8 @@ Digitwise f a b z = (i : ℕ) → digit z i ≡ f (digit a i) (digit b i)
 abbrev pub both : ℕ → ℕ → ℕ
 both x y = min x y
 
-abbrev pub some : ℕ → ℕ → ℕ
-some x y = max x y
+abbrev pub anyOf : ℕ → ℕ → ℕ
+anyOf x y = max x y
 
 abbrev pub one : ℕ → ℕ → ℕ
 one x y = (x + y) % 2

@@ -3,7 +3,7 @@ ghost use mathlib.Core.Path.{_≡_};
 ghost use lib.IntN.{natAbs, negℤ};
 ghost use lib.Ieee.{binary64, ofInt};
 ghost use Rattle.values.specs.Python.{shiftUp, shiftDown};
-ghost use Rattle.values.specs.Folds.{Small, Sound, inRange, divmod, shifted, ints, floats, foldNot, foldNeg, foldBinop};
+ghost use Rattle.values.specs.Folds.{SmallInt, SoundInt, inRange, divmod, shifted, ints, floats, foldNot, foldNeg, foldBinop};
 
 pub enum Val {
     Int(i64),
@@ -50,7 +50,7 @@ const INT_MAX: i64 = 140_737_488_355_327;
 const MAX_SHIFT: i64 = 62;
 
 pub fn fold_not(v: Val) -> Maybe
-    requires { ⌜ Sound v ⌝ }
+    requires { ⌜ SoundInt v ⌝ }
     ensures { λ r. ⌜ r ≡ foldNot v ⌝ }
 {
     match v {
@@ -61,7 +61,7 @@ pub fn fold_not(v: Val) -> Maybe
 }
 
 pub fn fold_neg(v: Val) -> Maybe
-    requires { ⌜ Sound v ⌝ }
+    requires { ⌜ SoundInt v ⌝ }
     ensures { λ r. ⌜ r ≡ foldNeg v ⌝ }
 {
     match v {
@@ -72,7 +72,7 @@ pub fn fold_neg(v: Val) -> Maybe
 }
 
 pub fn fold_binop(op: Op, a: Val, b: Val) -> Maybe
-    requires { ⌜ Sound a × Sound b ⌝ }
+    requires { ⌜ SoundInt a × SoundInt b ⌝ }
     ensures { λ r. ⌜ r ≡ foldBinop op a b ⌝ }
 {
     match a {
@@ -92,14 +92,14 @@ pub fn fold_binop(op: Op, a: Val, b: Val) -> Maybe
 
 // An int as a float, exactly.
 fn as_f64(i: i64) -> f64
-    requires { ⌜ Small i ⌝ }
+    requires { ⌜ SmallInt i ⌝ }
     ensures { λ r. ⌜ r ≡ ofInt binary64 i ⌝ }
 {
     i as f64
 }
 
 fn fold_ints(op: Op, a: i64, b: i64) -> Maybe
-    requires { ⌜ Small a × Small b ⌝ }
+    requires { ⌜ SmallInt a × SmallInt b ⌝ }
     ensures { λ r. ⌜ r ≡ ints op a b ⌝ }
 {
     match op {
@@ -125,7 +125,7 @@ fn fold_ints(op: Op, a: i64, b: i64) -> Maybe
 
 // Two ints are compared through their floats.
 fn compare(op: Op, a: i64, b: i64) -> Maybe
-    requires { ⌜ Small a × Small b ⌝ }
+    requires { ⌜ SmallInt a × SmallInt b ⌝ }
     ensures { λ r. ⌜ r ≡ floats op (ofInt binary64 a) (ofInt binary64 b) ⌝ }
 {
     fold_floats(op, as_f64(a), as_f64(b))
@@ -175,21 +175,21 @@ fn in_range(z: i64) -> Maybe
 }
 
 fn checked_neg(a: i64) -> Maybe
-    requires { ⌜ Small a ⌝ }
+    requires { ⌜ SmallInt a ⌝ }
     ensures { λ r. ⌜ r ≡ inRange (negℤ a) ⌝ }
 {
     in_range(-a)
 }
 
 fn checked_add(a: i64, b: i64) -> Maybe
-    requires { ⌜ Small a × Small b ⌝ }
+    requires { ⌜ SmallInt a × SmallInt b ⌝ }
     ensures { λ r. ⌜ r ≡ ints Op.Add a b ⌝ }
 {
     in_range(a + b)
 }
 
 fn checked_sub(a: i64, b: i64) -> Maybe
-    requires { ⌜ Small a × Small b ⌝ }
+    requires { ⌜ SmallInt a × SmallInt b ⌝ }
     ensures { λ r. ⌜ r ≡ ints Op.Sub a b ⌝ }
 {
     in_range(a - b)
@@ -218,7 +218,7 @@ fn unsigned_abs(a: i64) -> u64
 
 // Floor quotient and remainder, none for a zero divisor.
 fn int_divmod(a: i64, b: i64) -> Divmod
-    requires { ⌜ Small a × Small b ⌝ }
+    requires { ⌜ SmallInt a × SmallInt b ⌝ }
     ensures { λ r. ⌜ r ≡ divmod a b ⌝ }
 {
     if b == 0 {
@@ -234,7 +234,7 @@ fn int_divmod(a: i64, b: i64) -> Divmod
 }
 
 fn checked_div(a: i64, b: i64) -> Maybe
-    requires { ⌜ Small a × Small b ⌝ }
+    requires { ⌜ SmallInt a × SmallInt b ⌝ }
     ensures { λ r. ⌜ r ≡ ints Op.FloorDiv a b ⌝ }
 {
     let Divmod::Into(q, _) = int_divmod(a, b) else {
@@ -244,7 +244,7 @@ fn checked_div(a: i64, b: i64) -> Maybe
 }
 
 fn checked_mod(a: i64, b: i64) -> Maybe
-    requires { ⌜ Small a × Small b ⌝ }
+    requires { ⌜ SmallInt a × SmallInt b ⌝ }
     ensures { λ r. ⌜ r ≡ ints Op.Mod a b ⌝ }
 {
     let Divmod::Into(_, r) = int_divmod(a, b) else {

@@ -14,7 +14,7 @@ use Rattle.pushes.specs.declared.Place.{Place}
 use Rattle.pushes.specs.declared.Place.the-variants.{At, Nowhere}
 use Rattle.callee.specs.declared.Step.the-variants.{Pass, Back, Tell}
 use Rattle.callee.specs.declared.Callee.the-variants.{Bound, Unknown}
-use Rattle.callee.specs.Trace.{setsIt, passesBy, stepAt}
+use Rattle.callee.specs.Trace.{setsIt, passesBy, saysAt}
 use Rattle.pushes.specs.Pushes.{pushedBack}
 use Rattle.pushes.proofs.Falling.{pushed-falls}
 use Rattle.callee.proofs.step_at.Statement.{statement}
@@ -26,33 +26,33 @@ module _ (w : List ℕ) (d a : ℕ) (i : Ins) (e : i ≡ insAt w d) (b : Bool) (
     sets = sym (ap (λ (x : Ins). setsIt x a) e) ∙ sym f ∙ t
 
     module _ (o : i .op ≡ StoreTopR) (v : Place) (g : v ≡ pushedBack w d a) where
-      to-push : (p : ℕ) → v ≡ At p → Back p ≡ stepAt w d a
-      unfolding stepAt
+      to-push : (p : ℕ) → v ≡ At p → Back p ≡ saysAt w d a
+      unfolding saysAt
       to-push p h = rw (sets, eq-eqb (insAt w d .op) StoreTopR (rw e at o), sym g ∙ h)
 
-      to-none : v ≡ Nowhere → Tell Unknown ≡ stepAt w d a
-      unfolding stepAt
+      to-none : v ≡ Nowhere → Tell Unknown ≡ saysAt w d a
+      unfolding saysAt
       to-none h = rw (sets, eq-eqb (insAt w d .op) StoreTopR (rw e at o), sym g ∙ h)
 
     module _ (o : i .op ≡ StoreTopR → ⊥) where
-      loaded : i .op ≡ LoadGlobalR → Tell (Bound (i .b)) ≡ stepAt w d a
-      unfolding stepAt
+      loaded : i .op ≡ LoadGlobalR → Tell (Bound (i .b)) ≡ saysAt w d a
+      unfolding saysAt
       loaded h = rw (sets, ne-eqb (insAt w d .op) StoreTopR (rw e at o), eq-eqb (insAt w d .op) LoadGlobalR (rw e at h), e)
 
-      written : (i .op ≡ LoadGlobalR → ⊥) → Tell Unknown ≡ stepAt w d a
-      unfolding stepAt
+      written : (i .op ≡ LoadGlobalR → ⊥) → Tell Unknown ≡ saysAt w d a
+      unfolding saysAt
       written h = rw (sets, ne-eqb (insAt w d .op) StoreTopR (rw e at o), ne-eqb (insAt w d .op) LoadGlobalR (rw e at h))
 
   module _ (t : b ≡ false) (p : Bool) (g : p ≡ passesBy i) where
     quiet : setsIt (insAt w d) a ≡ false
     quiet = sym (ap (λ (x : Ins). setsIt x a) e) ∙ sym f ∙ t
 
-    passes : p ≡ true → Pass ≡ stepAt w d a
-    unfolding stepAt
+    passes : p ≡ true → Pass ≡ saysAt w d a
+    unfolding saysAt
     passes h = rw (quiet, sym (ap passesBy e) ∙ sym g ∙ h)
 
-    lost : p ≡ false → Tell Unknown ≡ stepAt w d a
-    unfolding stepAt
+    lost : p ≡ false → Tell Unknown ≡ saysAt w d a
+    unfolding saysAt
     lost h = rw (quiet, sym (ap passesBy e) ∙ sym g ∙ h)
 
 fits : (w : List ℕ) (d a p : ℕ) (v : Place) → Valid w → d < count w → v ≡ pushedBack w d a → v ≡ At p → p < 65536

@@ -1,11 +1,11 @@
 -- `generators::leaves` meets its contract: its code is the rule. Assumes nothing.
 use mathlib.Core.Path.{refl}
-use Rattle.generators.specs.Generator.{leaves}
+use Rattle.generators.specs.Generator.{returnsFrom}
 use Rattle.generators.proofs.leaves.Statement.{statement}
 use Rattle.generators.proofs.leaves.Tie as tie
 
 returns : tie.Need-returns
-unfolding leaves
+unfolding returnsFrom
 returns c = refl
 
 pub leaves-spec : {M : Type 1} → statement M

@@ -15,7 +15,7 @@ use Rattle.code.specs.Ins.{insAt}
 use Rattle.code.specs.declared.Ins.{Ins}
 use Rattle.walks.specs.Returns.{returnsAt}
 use Rattle.walks.specs.There.{there}
-use Rattle.generators.specs.Generator.{opens, closes, leaves, outsideAt, returnsOutside}
+use Rattle.generators.specs.Generator.{opens, closes, returnsFrom, outsideAt, returnsOutside}
 use Rattle.generators.proofs.returns_outside.Statement.{statement}
 use Rattle.generators.proofs.returns_outside.Tie as tie
 
@@ -31,7 +31,7 @@ module _ (f : Ins → Bool) (w : List ℕ) where
   unfolding many there
   one-counted k i b c e g h = rw (add-one, h, g, e)
 
-module _ (w : List ℕ) (k o c : ℕ) (i : Ins) (l p : Bool) (e : i ≡ insAt w k) (f : l ≡ leaves i) (g : p ≡ returnsAt w k) (h : o ≡ many (there opens w) k) (m : c ≡ many (there closes w) k) where
+module _ (w : List ℕ) (k o c : ℕ) (i : Ins) (l p : Bool) (e : i ≡ insAt w k) (f : l ≡ returnsFrom i) (g : p ≡ returnsAt w k) (h : o ≡ many (there opens w) k) (m : c ≡ many (there closes w) k) where
   at-k : not (not (eqb o c) && (l || p)) ≡ outsideAt w k
   unfolding outsideAt
   at-k = rw (f, g, h, m, e)

@@ -2,14 +2,14 @@
 use borrow.Author.Needs.{needs}
 use Prim.Native.Nat.{_≤_, _-_}
 use mathlib.Core.Path.{_≡_}
-use Rattle.lent.specs.Chunk.{count}
+use Rattle.lent.specs.Chunk.{chunkCount}
 use Rattle.landings.specs.Landings.{Jumped}
 use Rattle.landings.proofs.Filled.{jumped-none, jumped-all, jumped-skip, jumped-more, jump-fits}
 use Rattle.landings.proofs.count_jumps.Statement.{statement}
 use Rattle.landings.proofs.count_jumps.Tie as tie
 
 abbrev Inv-loop : tie.InvT-loop
-Inv-loop code landings₀ n k₀ landings k = (n ≡ count code) × (k ≤ n) × Jumped code landings₀ landings k
+Inv-loop code landings₀ n k₀ landings k = (n ≡ chunkCount code) × (k ≤ n) × Jumped code landings₀ landings k
 
 abbrev μ-loop : tie.MeasureT-loop
 μ-loop code landings₀ n k₀ landings k = n - k

@@ -8,7 +8,7 @@ use lib.Dec.{eqb, leb}
 use borrow.Author.Tests.{eq-eqb, ne-eqb, lt-leb}
 use Rattle.laws.proofs.Branch.{or-false}
 use Rattle.code.specs.Op.{last, LoadConst, Phi}
-use Rattle.lent.specs.Chunk.{folds, rules}
+use Rattle.lent.specs.Chunk.{folds, chunkRules}
 use Rattle.lent.proofs.breaks.Statement.{statement}
 use Rattle.lent.proofs.breaks.Tie as tie
 
@@ -73,17 +73,17 @@ other true (suc (suc (suc zero))) = refl
 other true (suc (suc (suc (suc m)))) = lt-leb (suc (suc (suc (suc m)))) 2 (omega arith) ∙ sym (many-marks true false false false (suc (suc (suc (suc m)))) (omega arith))
 other false m = refl
 
-is-load : (o m : ℕ) → o ≡ LoadConst → not (eqb m 2) ≡ not (rules o m)
-unfolding rules folds
+is-load : (o m : ℕ) → o ≡ LoadConst → not (eqb m 2) ≡ not (chunkRules o m)
+unfolding chunkRules folds
 is-load o m e = rw e (ap not (load m))
 
 module _ (o m : ℕ) (t : Bool) (n : o ≡ LoadConst → ⊥) (e : t ≡ folds o) where
-  is-bare : eqb o Phi || t ≡ true → not (leb o last && eqb m 0) ≡ not (rules o m)
-  unfolding rules
+  is-bare : eqb o Phi || t ≡ true → not (leb o last && eqb m 0) ≡ not (chunkRules o m)
+  unfolding chunkRules
   is-bare h = rw (ne-eqb o LoadConst n, ← e) (ap not (bare (leb o last) (eqb o Phi) t m h))
 
-  is-other : eqb o Phi || t ≡ false → not (leb o last && leb m 2) ≡ not (rules o m)
-  unfolding rules
+  is-other : eqb o Phi || t ≡ false → not (leb o last && leb m 2) ≡ not (chunkRules o m)
+  unfolding chunkRules
   is-other h =
       let p = or-false (eqb o Phi) t h in
       rw (ne-eqb o LoadConst n, p .0, sym e ∙ p .1) (ap not (other (leb o last) m))

@@ -1,14 +1,14 @@
 -- `lent::check` meets its contract. Assumes nothing.
 use borrow.Author.Needs.{needs}
 use mathlib.Core.Path.{_≡_}
-use Rattle.lent.specs.Check.{checkOf}
+use Rattle.lent.specs.Check.{chunkCheckOf}
 use Rattle.laws.proofs.Branch.{branch}
 use Rattle.lent.proofs.Checks.{bad-record, accepted}
 use Rattle.lent.proofs.check.Statement.{statement}
 use Rattle.lent.proofs.check.Tie as tie
 
 returns : tie.Need-returns
-unfolding checkOf
+unfolding chunkCheckOf
 returns c = search (needs, branch)
 
 first-bad-requires : tie.Need-first-bad-requires

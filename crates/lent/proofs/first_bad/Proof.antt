@@ -5,17 +5,17 @@ use mathlib.Core.Bool.{Bool, not}
 use mathlib.Core.List.{List}
 use Prim.Native.Nat.{ℕ, _≤_, _-_}
 use Rattle.laws.specs.Walk.{first}
-use Rattle.lent.specs.Chunk.{opAt, markAt, rules, breaksAt}
-use Rattle.lent.specs.Check.{firstBad}
+use Rattle.lent.specs.Chunk.{opAt, markAt, chunkRules, breaksAt}
+use Rattle.lent.specs.Check.{firstBadOf}
 use Rattle.laws.proofs.Walk.{finds}
 use Rattle.lent.proofs.first_bad.Statement.{statement}
 use Rattle.lent.proofs.first_bad.Tie as tie
 
-at : (w : List ℕ) (k o m : ℕ) (t : Bool) → o ≡ opAt w k → m ≡ markAt w k → t ≡ not (rules o m) → t ≡ breaksAt w k
+at : (w : List ℕ) (k o m : ℕ) (t : Bool) → o ≡ opAt w k → m ≡ markAt w k → t ≡ not (chunkRules o m) → t ≡ breaksAt w k
 at w k o m t p q e = cc
 
 abbrev Inv-loop : tie.InvT-loop
-Inv-loop code n k₀ k = (k ≤ n) × (first (breaksAt code) k (n - k) ≡ firstBad code)
+Inv-loop code n k₀ k = (k ≤ n) × (first (breaksAt code) k (n - k) ≡ firstBadOf code)
 
 abbrev μ-loop : tie.MeasureT-loop
 μ-loop code n k₀ k = n - k

@@ -4,11 +4,11 @@ use mathlib.Core.Path.{_≡_}
 use mathlib.Core.List.{List}
 use Prim.Native.Nat.{ℕ, _%_}
 use lib.Dec.{eqb}
-use Rattle.lent.specs.Chunk.{markAt, jumps}
+use Rattle.lent.specs.Chunk.{markAt, marksJump}
 use Rattle.lent.proofs.is_jump.Statement.{statement}
 use Rattle.lent.proofs.is_jump.Tie as tie
 
-marked : (w : List ℕ) (k m : ℕ) → m ≡ markAt w k → eqb (m % 2) 1 ≡ jumps w k
+marked : (w : List ℕ) (k m : ℕ) → m ≡ markAt w k → eqb (m % 2) 1 ≡ marksJump w k
 marked w k m e = rw e
 
 mark-at-requires : tie.Need-mark-at-requires

@@ -5,15 +5,15 @@ use mathlib.Core.List.{List}
 use Prim.Native.Nat.{ℕ, _+_}
 use Rattle.code.specs.Check.{triedOf, roomOf}
 use Rattle.code.specs.declared.Checked.{Checked}
-use Rattle.lent.specs.Chunk.{count}
-use Rattle.lent.specs.Check.{checkOf, tablesOf, roomsOf, readyOf}
+use Rattle.lent.specs.Chunk.{chunkCount}
+use Rattle.lent.specs.Check.{chunkCheckOf, tablesOf, roomsOf, readyOf}
 use Rattle.lent.specs.declared.Counts.{Counts}
 use Rattle.lent.specs.declared.Lens.{Lens}
 use Rattle.lent.proofs.ready.Statement.{statement}
 use Rattle.lent.proofs.ready.Tie as tie
 
 five : (v t u y r : Checked) (w tries kinds words : List ℕ) (c : Counts) (l : Lens) (landings : ℕ)
-    → v ≡ checkOf w → t ≡ triedOf v tries → u ≡ tablesOf t (count w) kinds words c l → y ≡ roomsOf u w c l → r ≡ roomOf y 7 landings (count w + 1)
+    → v ≡ chunkCheckOf w → t ≡ triedOf v tries → u ≡ tablesOf t (chunkCount w) kinds words c l → y ≡ roomsOf u w c l → r ≡ roomOf y 7 landings (chunkCount w + 1)
     → r ≡ readyOf w tries kinds words c l landings
 unfolding readyOf
 five v t u y r w tries kinds words c l landings e f g h i = rw (i, h, g, f, e)

@@ -14,7 +14,7 @@ use Rattle.code.specs.declared.Checked.the-variants.{Count, No}
 use Rattle.laws.specs.All.{many}
 use Rattle.laws.proofs.Branch.{and-true}
 use Rattle.laws.proofs.Many.{many-few}
-use Rattle.lent.specs.Chunk.{count, opAt, isPhi, folds}
+use Rattle.lent.specs.Chunk.{chunkCount, opAt, isPhi, folds}
 use Rattle.lent.specs.Check.{tallyOf, constantRoom, sourceRoom, ample, roomsOf}
 use Rattle.lent.specs.declared.Tally.{Tally}
 use Rattle.lent.specs.declared.Counts.{Counts}
@@ -24,7 +24,7 @@ use Rattle.lent.proofs.rooms.Tie as tie
 
 few-phis : (w : List ℕ) (t : Tally) → t ≡ tallyOf w → length w < 2 ^ 64 → t .phis < 2 ^ 63
 unfolding tallyOf
-few-phis w t e h = rw e (omega (arith, many-few (isPhi w) (count w)))
+few-phis w t e h = rw e (omega (arith, many-few (isPhi w) (chunkCount w)))
 
 six : (v v₁ v₂ v₃ v₄ v₅ v₆ : Checked) (w : List ℕ) (c : Counts) (l : Lens) (t : Tally) (k s : ℕ)
     → t ≡ tallyOf w
@@ -32,10 +32,10 @@ six : (v v₁ v₂ v₃ v₄ v₅ v₆ : Checked) (w : List ℕ) (c : Counts) (l
     → s ≡ sourceRoom (c .sources) (t .phis)
     → v₁ ≡ roomOf v 1 (l .kinds) k
     → v₂ ≡ roomOf v₁ 2 (l .words) k
-    → v₃ ≡ roomOf v₂ 3 (l .map) (count w)
+    → v₃ ≡ roomOf v₂ 3 (l .map) (chunkCount w)
     → v₄ ≡ roomOf v₃ 4 (l .sources) s
-    → v₅ ≡ roomOf v₄ 5 (l .dead) (count w)
-    → v₆ ≡ roomOf v₅ 6 (l .remap) (count w + 1)
+    → v₅ ≡ roomOf v₄ 5 (l .dead) (chunkCount w)
+    → v₆ ≡ roomOf v₅ 6 (l .remap) (chunkCount w + 1)
     → v₆ ≡ roomsOf v w c l
 unfolding roomsOf
 six v v₁ v₂ v₃ v₄ v₅ v₆ w c l t k s e f g e₁ e₂ e₃ e₄ e₅ e₆ = rw (e₆, e₅, e₄, e₃, e₂, e₁, f, g, e)
@@ -46,8 +46,8 @@ passes (Count n) b have needed h = rw (le-ltb have needed h)
 
 -- where there is room for any chunk, there is room for this one
 module _ (v : Checked) (w : List ℕ) (c : Counts) (l : Lens) where
-  enough : leb (c .constants + count w) (l .kinds) && leb (c .constants + count w) (l .words)
-      && (leb (count w) (l .map) && leb (count w) (l .sources / 2) && leb (c .sources) (l .sources)) && leb (count w) (l .dead) && ltb (count w) (l .remap) ≡ true
+  enough : leb (c .constants + chunkCount w) (l .kinds) && leb (c .constants + chunkCount w) (l .words)
+      && (leb (chunkCount w) (l .map) && leb (chunkCount w) (l .sources / 2) && leb (c .sources) (l .sources)) && leb (chunkCount w) (l .dead) && ltb (chunkCount w) (l .remap) ≡ true
       → v ≡ roomsOf v w c l
   unfolding roomsOf tallyOf
   enough e =
@@ -57,22 +57,22 @@ module _ (v : Checked) (w : List ℕ) (c : Counts) (l : Lens) where
       let s = and-true _ _ (r .1) in
       let t = and-true _ _ (s .0) in
       let u = and-true _ _ (r .0) in
-      let kinds = leb-true (c .constants + count w) (l .kinds) (u .0) in
-      let words = leb-true (c .constants + count w) (l .words) (u .1) in
-      let map = leb-true (count w) (l .map) (t .0) in
-      let sources = leb-true (count w) (l .sources / 2) (t .1) in
+      let kinds = leb-true (c .constants + chunkCount w) (l .kinds) (u .0) in
+      let words = leb-true (c .constants + chunkCount w) (l .words) (u .1) in
+      let map = leb-true (chunkCount w) (l .map) (t .0) in
+      let sources = leb-true (chunkCount w) (l .sources / 2) (t .1) in
       let pairs = leb-true (c .sources) (l .sources) (s .1) in
-      let dead = leb-true (count w) (l .dead) (q .1) in
-      let remap = ltb-true (count w) (l .remap) (p .1) in
-      let f = many-few (λ k. folds (opAt w k)) (count w) in
-      let h = many-few (isPhi w) (count w) in
+      let dead = leb-true (chunkCount w) (l .dead) (q .1) in
+      let remap = ltb-true (chunkCount w) (l .remap) (p .1) in
+      let f = many-few (λ k. folds (opAt w k)) (chunkCount w) in
+      let h = many-few (isPhi w) (chunkCount w) in
       sym
-      (passes _ 6 (l .remap) (count w + 1) (omega (arith, remap)) ∙ passes _ 5 (l .dead) (count w) dead
-      ∙ passes _ 4 (l .sources) (sourceRoom (c .sources) (many (isPhi w) (count w))) (omega (arith, h, sources, pairs)) ∙ passes _ 3 (l .map) (count w) map
-      ∙ passes _ 2 (l .words) (constantRoom (c .constants) (many (λ k. folds (opAt w k)) (count w))) (omega (arith, f, words))
-      ∙ passes v 1 (l .kinds) (constantRoom (c .constants) (many (λ k. folds (opAt w k)) (count w))) (omega (arith, f, kinds)))
+      (passes _ 6 (l .remap) (chunkCount w + 1) (omega (arith, remap)) ∙ passes _ 5 (l .dead) (chunkCount w) dead
+      ∙ passes _ 4 (l .sources) (sourceRoom (c .sources) (many (isPhi w) (chunkCount w))) (omega (arith, h, sources, pairs)) ∙ passes _ 3 (l .map) (chunkCount w) map
+      ∙ passes _ 2 (l .words) (constantRoom (c .constants) (many (λ k. folds (opAt w k)) (chunkCount w))) (omega (arith, f, words))
+      ∙ passes v 1 (l .kinds) (constantRoom (c .constants) (many (λ k. folds (opAt w k)) (chunkCount w))) (omega (arith, f, kinds)))
 
-  at-ease : (t : Bool) → t ≡ ample (count w) c l → t ≡ true → v ≡ roomsOf v w c l
+  at-ease : (t : Bool) → t ≡ ample (chunkCount w) c l → t ≡ true → v ≡ roomsOf v w c l
   unfolding ample
   at-ease t e h = go (ltb 65536 (c .constants)) refl
     where

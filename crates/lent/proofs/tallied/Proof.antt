@@ -10,7 +10,7 @@ use mir.Val.{boolByte}
 use Rattle.code.specs.Op.{Phi}
 use Rattle.laws.specs.All.{many}
 use Rattle.laws.proofs.Many.{none-counted, counted-on}
-use Rattle.lent.specs.Chunk.{count, opAt, isPhi, folds}
+use Rattle.lent.specs.Chunk.{chunkCount, opAt, isPhi, folds}
 use Rattle.lent.specs.Check.{tallyOf}
 use Rattle.lent.specs.declared.Tally.{Tally}
 use Rattle.lent.proofs.tallied.Statement.{statement}
@@ -26,9 +26,9 @@ module _ (w : List ℕ) (k o r : ℕ) (e : o ≡ opAt w k) where
   one-phi : (v : ℕ) → v ≡ many (isPhi w) k → r ≡ boolByte (eqb o Phi) → v + r ≡ many (isPhi w) (k + 1)
   one-phi v h q = counted-on (isPhi w) k v r (eqb o Phi) h q (rw e)
 
-both : (w : List ℕ) (f p k : ℕ) → count w ≤ k → k ≤ count w → f ≡ many (folding-at w) k → p ≡ many (isPhi w) k → record { folding = f; phis = p } ≡ tallyOf w
+both : (w : List ℕ) (f p k : ℕ) → chunkCount w ≤ k → k ≤ chunkCount w → f ≡ many (folding-at w) k → p ≡ many (isPhi w) k → record { folding = f; phis = p } ≡ tallyOf w
 unfolding tallyOf
-both w f p k h l a b = let e : k ≡ count w = omega arith in rw (a, b, e)
+both w f p k h l a b = let e : k ≡ chunkCount w = omega arith in rw (a, b, e)
 
 abbrev Inv-loop : tie.InvT-loop
 Inv-loop code n folding₀ phis₀ k₀ folding phis k =

@@ -9,7 +9,7 @@ use Rattle.laws.proofs.Some.{somewhere}
 use Rattle.code.specs.Ins.{insAt}
 use Rattle.code.specs.declared.Ins.{Ins}
 use Rattle.roles.specs.Sets.{writes}
-use Rattle.params.specs.Masks.{writesAt, written}
+use Rattle.params.specs.Masks.{writesAt, writtenIn}
 use Rattle.params.proofs.any_writes.Statement.{statement}
 use Rattle.params.proofs.any_writes.Tie as tie
 
@@ -33,7 +33,7 @@ writes-in-requires : tie.Need-writes-in-requires Inv-loop μ-loop
 writes-in-requires c κs = search needs
 
 returns : tie.Need-returns Inv-loop μ-loop
-unfolding written
+unfolding writtenIn
 returns c = search (needs, somewhere, at-k)
 
 add-k : tie.Need-add-k Inv-loop μ-loop
@@ -46,7 +46,7 @@ loop-again : tie.Need-loop-again Inv-loop μ-loop
 loop-again c = search (needs, somewhere, at-k)
 
 returns-2 : tie.Need-returns-2 Inv-loop μ-loop
-unfolding written
+unfolding writtenIn
 returns-2 c = search (needs, somewhere)
 
 pub any-writes-spec : {M : Type 1} → statement M

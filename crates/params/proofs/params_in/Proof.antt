@@ -4,12 +4,12 @@ use mathlib.Core.Path.{_≡_}
 use Prim.Native.Nat.{_-_, _≤_}
 use Rattle.laws.specs.Mask.{mask}
 use Rattle.laws.proofs.Mask.{mask-none, mask-more, mask-done}
-use Rattle.params.specs.Masks.{written, paramsWritten}
+use Rattle.params.specs.Masks.{writtenIn, paramsWritten}
 use Rattle.params.proofs.params_in.Statement.{statement}
 use Rattle.params.proofs.params_in.Tie as tie
 
 abbrev Inv-loop : tie.InvT-loop
-Inv-loop code arity roles n m₀ r₀ m r = (r ≤ n) × (m ≡ mask (written code) r)
+Inv-loop code arity roles n m₀ r₀ m r = (r ≤ n) × (m ≡ mask (writtenIn code) r)
 
 abbrev μ-loop : tie.MeasureT-loop
 μ-loop code arity roles n m₀ r₀ m r = n - r

@@ -2,7 +2,7 @@
 use borrow.Author.Needs.{needs}
 use mathlib.Core.Path.{_≡_}
 use Prim.Native.Nat.{_≤_, _-_}
-use Rattle.lent.specs.Chunk.{count}
+use Rattle.lent.specs.Chunk.{chunkCount}
 use Rattle.fold.specs.Plan.{chunk}
 use Rattle.fold.proofs.Grown.{Asked, asked-none, asked-ready, asked-more, asked-all}
 use Rattle.pass.proofs.fold_all.Statement.{statement}
@@ -10,7 +10,7 @@ use Rattle.pass.proofs.fold_all.Tie as tie
 
 abbrev Inv-loop : tie.InvT-loop
 Inv-loop code₀ dead₀ kinds₀ words₀ constants landings strict n held₀ last₀ ip₀ code dead kinds words held last ip =
-    (n ≡ count code₀) × (ip ≤ n) × Asked strict landings (chunk code₀ dead₀ kinds₀ words₀ constants) (chunk code dead kinds words held) last ip
+    (n ≡ chunkCount code₀) × (ip ≤ n) × Asked strict landings (chunk code₀ dead₀ kinds₀ words₀ constants) (chunk code dead kinds words held) last ip
 
 abbrev μ-loop : tie.MeasureT-loop
 μ-loop code₀ dead₀ kinds₀ words₀ constants landings strict n held₀ last₀ ip₀ code dead kinds words held last ip = n - ip

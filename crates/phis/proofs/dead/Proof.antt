@@ -7,14 +7,14 @@ use Prim.Native.Nat.{ℕ, _+_, _/_}
 use lib.ListN.{length}
 use Rattle.laws.specs.Table.{clearedTo}
 use Rattle.laws.proofs.Table.{cleared-length}
-use Rattle.paths.specs.Search.{Says, Searched, Settles}
+use Rattle.paths.specs.Search.{Says, Searched, SearchSettles}
 use Rattle.paths.proofs.Between.{none, settles}
-use Rattle.phis.specs.Phi.{Read, Dead, Room}
+use Rattle.phis.specs.Phi.{Read, Dead, PhiRoom}
 use Rattle.phis.proofs.dead.Statement.{statement}
 use Rattle.phis.proofs.dead.Tie as tie
 
-module _ (w seen seen₁ todo : List ℕ) (room : Room w seen todo) (c : seen₁ ≡ clearedTo (length w / 6 + 1) seen) where
-  ready : Room w seen₁ todo
+module _ (w seen seen₁ todo : List ℕ) (room : PhiRoom w seen todo) (c : seen₁ ≡ clearedTo (length w / 6 + 1) seen) where
+  ready : PhiRoom w seen₁ todo
   ready =
       record {
         whole = room .whole;
@@ -32,7 +32,7 @@ done : (w seen seen₁ seen₂ seen₃ todo todo₁ todo₂ : List ℕ) (k r : �
     → Searched (Read w r (k + 1)) (length w / 6) seen₁ todo b seen₂ todo₁
     → seen₃ ≡ clearedTo (length w / 6 + 1) seen₂
     → todo₂ ≡ clearedTo (length w / 6 + 1) todo₁
-    → Settles (Dead w k r) (length w / 6 + 1) seen todo (not b) seen₃ todo₂
+    → SearchSettles (Dead w k r) (length w / 6 + 1) seen todo (not b) seen₃ todo₂
 done w seen seen₁ seen₂ seen₃ todo todo₁ todo₂ k r b c s d e =
     settles (Read w r (k + 1)) (Dead w k r) (length w / 6) seen seen₁ seen₂ seen₃ todo todo₁ todo₂ b (not b) c s d e (other (Read w r (k + 1)) b)
 

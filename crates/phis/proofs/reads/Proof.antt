@@ -7,13 +7,13 @@ use lib.Dec.{eqb}
 use Rattle.code.specs.Op.{ForIterR, LoadName}
 use Rattle.code.specs.declared.Ins.{Ins}
 use Rattle.roles.specs.Kinds.{kindsOf, has, none}
-use Rattle.phis.specs.Phi.{inFields, reads}
+use Rattle.phis.specs.Phi.{inFields, phiReads}
 use Rattle.phis.proofs.reads.Statement.{statement}
 use Rattle.phis.proofs.reads.Tie as tie
 
 is : (i : Ins) (r k : ℕ) → k ≡ kindsOf i
-    → not (has none k) && not (eqb (i .op) ForIterR) && inFields k i r || has none k && eqb (i .op) LoadName && eqb (i .a) r ≡ reads i r
-unfolding reads
+    → not (has none k) && not (eqb (i .op) ForIterR) && inFields k i r || has none k && eqb (i .op) LoadName && eqb (i .a) r ≡ phiReads i r
+unfolding phiReads
 is i r k e = rw e
 
 kinds-in-requires : tie.Need-kinds-in-requires

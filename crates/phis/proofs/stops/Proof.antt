@@ -7,14 +7,14 @@ use lib.Dec.{eqb}
 use Rattle.code.specs.Op.{ForIterR, StoreName, ReturnR, ReturnValue, Raise}
 use Rattle.code.specs.declared.Ins.{Ins}
 use Rattle.roles.specs.Kinds.{kindsOf, has, dest, none}
-use Rattle.phis.specs.Phi.{writes, stops}
+use Rattle.phis.specs.Phi.{phiWrites, stops}
 use Rattle.phis.proofs.stops.Statement.{statement}
 use Rattle.phis.proofs.stops.Tie as tie
 
 is : (i : Ins) (r k : ℕ) → k ≡ kindsOf i
     → (not (has none k) && (eqb (i .op) ForIterR && eqb (i .b) r || not (eqb (i .op) ForIterR) && has dest k && eqb (i .a) r) || has none k && eqb (i .op) StoreName && eqb (i .a) r)
     || eqb (i .op) ReturnR || eqb (i .op) ReturnValue || eqb (i .op) Raise ≡ stops i r
-unfolding stops writes
+unfolding stops phiWrites
 is i r k e = rw e
 
 kinds-in-requires : tie.Need-kinds-in-requires

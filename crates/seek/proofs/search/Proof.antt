@@ -4,7 +4,7 @@ use Prim.Native.Nat.{_+_, _/_}
 use native.Mathlib.Omega.{arith}
 use lib.ListN.{length}
 use Rattle.paths.specs.Search.{owed}
-use Rattle.seek.specs.Asked.{nextAt}
+use Rattle.seek.specs.Asked.{seekNext}
 use Rattle.seek.proofs.Loop.{Loop, few-wait, place, mark-in, room-for-2, turning}
 use Rattle.seek.proofs.search.Statement.{statement}
 use Rattle.seek.proofs.search.Tie as tie
@@ -13,7 +13,7 @@ abbrev Inv-loop : tie.InvT-loop
 Inv-loop roles code r start seen₀ todo₀ n top₀ seen todo top = Loop code r start seen₀ todo₀ seen todo top
 
 abbrev μ-loop : tie.MeasureT-loop
-μ-loop roles code r start seen₀ todo₀ n top₀ seen todo top = owed (nextAt code) seen (length code / 6) + top
+μ-loop roles code r start seen₀ todo₀ n top₀ seen todo top = owed (seekNext code) seen (length code / 6) + top
 
 returns : tie.Need-returns Inv-loop μ-loop
 returns c = search (needs, turning)

@@ -1,7 +1,7 @@
 -- `sets32::store_row` meets its contract. Assumes nothing.
 use borrow.Author.Needs.{needs}
 use Prim.Native.Nat.{_≤_, _-_}
-use Rattle.flow.specs.Words.{Stored}
+use Rattle.flow.specs.Words.{WordsStored}
 use Rattle.flow.proofs.Fill.{stored-none, stored-more}
 use native.Mathlib.Omega.{arith}
 use mathlib.Core.Path.{subst}
@@ -11,7 +11,7 @@ use Rattle.sets32.proofs.store_row.Statement.{statement}
 use Rattle.sets32.proofs.store_row.Tie as tie
 
 abbrev Inv-loop : tie.InvT-loop
-Inv-loop rows₀ at words set changed₀ j₀ rows changed j = (j ≤ words) × Stored rows₀ at j set rows changed
+Inv-loop rows₀ at words set changed₀ j₀ rows changed j = (j ≤ words) × WordsStored rows₀ at j set rows changed
 
 abbrev μ-loop : tie.MeasureT-loop
 μ-loop rows₀ at words set changed₀ j₀ rows changed j = words - j
@@ -62,7 +62,7 @@ same-length : tie.Need-same-length Inv-loop μ-loop
 same-length c = search needs
 
 returns : tie.Need-returns Inv-loop μ-loop
-returns c = subst (λ (x : ℕ). Stored (now (c .before .before .args .rows)) (c .before .before .args .at) x (c .before .before .args .t4) (c .before .loop .rows) (c .before .loop .changed)) (omega arith) (c .before .loop .inv .1)
+returns c = subst (λ (x : ℕ). WordsStored (now (c .before .before .args .rows)) (c .before .before .args .at) x (c .before .before .args .t4) (c .before .loop .rows) (c .before .loop .changed)) (omega arith) (c .before .loop .inv .1)
 
 pub store-row-spec : {M : Type 1} → statement M
 store-row-spec =

@@ -27,7 +27,8 @@ use Rattle.lent.specs.declared.Counts.{Counts}
 use Rattle.optimizer.specs.Fold.{Buffers, Called}
 use Rattle.clear.specs.Clear as clearing
 use Rattle.clear.specs.Clear.{clearTold, ClearTold}
-use Rattle.answers.specs.Answers.{By, keptTold, foldTold, ListsTold, FoldTold, MadeTold, EnterTold, LeaveTold, ReplayTold, countTold, ExposedTold}
+use Rattle.answers.specs.Answers.{By, keptTold, ListsTold, FoldTold, MadeTold, EnterTold, LeaveTold, ReplayTold, countTold, ExposedTold}
+use Rattle.answers.specs.Inner.{foldTold}
 use Rattle.saver.specs.Saver.{Saver, Ends}
 use Rattle.leaves.specs.Leaving.{Back}
 use Rattle.saver.specs.Answers.{saverTold}

@@ -6,7 +6,7 @@ use mathlib.Core.List.{List}
 use Rattle.code.specs.Answers.{answerOf, refusedOf}
 use Rattle.code.specs.declared.Answer.{Answer}
 use Rattle.lent.specs.declared.Counts.{Counts}
-use Rattle.optimizer.specs.Fold.{FoldAnswer, Buffers}
+use Rattle.optimizer.specs.Fold.{Buffers}
 use Rattle.folding.specs.Answers as folding
 use Rattle.flow.specs.Flow.{Flow}
 use Rattle.kept.specs.Answers.{ListsLeft, Outcome}
@@ -40,10 +40,6 @@ ListsTold f start bits w regs tries rows offsets list rows′ offsets′ list′
 
 abbrev pub KeptTold : ℕ → List ℕ → ℕ → List ℕ → Bool → List ℕ → List ℕ → List ℕ → List ℕ → List ℕ → List ℕ → Answer → Type 0
 KeptTold bits w regs tries wide rows offsets list rows′ offsets′ list′ r = By keptTold (λ v. Outcome bits w regs tries wide rows offsets list rows′ offsets′ list′ v) r
-
--- instructions, constants, phi_map count, phi_sources count
-abbrev pub foldTold : FoldAnswer → Answer
-foldTold v = folding.foldTold v
 
 abbrev pub FoldTold : Bool → Buffers → List ℕ → List ℕ → Counts → Answer → Buffers → List ℕ → List ℕ → Type 0
 FoldTold strict b tries landings c r b′ tries′ landings′ = folding.FoldTold strict b tries landings c r b′ tries′ landings′

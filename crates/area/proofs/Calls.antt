@@ -9,7 +9,8 @@ use borrow.Author.Tests.{lt-ltb, le-ltb, ltb-false}
 use lib.Dec.{ltb}
 use lib.ListN.{length, getD, drop, set, length-drop}
 use lib.Seq.{sets, drop-cons}
-use Rattle.area.specs.Area.{pairsOf, entryOf, StoreRoom, EntryStored, putIn, putBack, topOf}
+use Rattle.area.specs.Area.{pairsOf, entryOf, putIn, putBack, topOf}
+use Rattle.area.specs.Inner.{StoreRoom, EntryStored}
 use Rattle.area.specs.declared.Top.the-variants.{Entry, Bare}
 
 -- ---- an entry is being stored

@@ -1,11 +1,9 @@
 -- The save area (document 02, wish 4): what an entry stores, the newest entry, registers put back. Assumes nothing.
-use Prim.Native.Nat.{ℕ, zero, suc, _+_, _-_, _*_, _/_, _<_, _≤_}
-use mathlib.Core.Path.{_≡_}
+use Prim.Native.Nat.{ℕ, zero, suc, _+_, _-_, _*_, _/_}
 use mathlib.Core.Bool.{cond}
 use mathlib.Core.List.{List, [], _∷_, _++_}
 use lib.Dec.{ltb}
 use lib.ListN.{length, getD, set}
-use lib.Seq.{sets}
 use Rattle.area.specs.declared.Top.{Top}
 use Rattle.area.specs.declared.Top.the-variants.{Entry, Bare}
 
@@ -25,16 +23,6 @@ pairsOf file (r ∷ l) = r ∷ getD file r 0 ∷ pairsOf file l
 -- what an entry stores: those, the list's length, and the result register's number
 unfoldable pub entryOf : List ℕ → List ℕ → ℕ → List ℕ
 entryOf file l q = pairsOf file l ++ (length l ∷ q ∷ [])
-
--- what `store` relies on: room for the entry, and registers that are in the file
-pub record StoreRoom (at : ℕ) (l : List ℕ) : Type 0 where
-  pub room : at + (2 * length l + 2) ≤ 4096
-  pub below : (i : ℕ) → i < length l → getD l i 0 < 64
-
--- an entry is stored from `at` on, and r is the place past it
-pub record EntryStored (at : ℕ) (file l : List ℕ) (q : ℕ) (old new : List ℕ) (r : ℕ) : Type 0 where
-  pub words : new ≡ sets old at (entryOf file l q)
-  pub past : r ≡ at + needOf l
 
 -- a register is written, if it is in the file
 abbrev pub putIn : ℕ → ℕ → ℕ → List ℕ → List ℕ

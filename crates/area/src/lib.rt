@@ -1,7 +1,8 @@
 // The save area of the frame saver: an entry stored, the newest entry, registers put back (document 02, wish 4).
 ghost use mathlib.Core.Path.{_≡_};
 ghost use Prim.Native.Nat.{_+_, _*_, _<_, _≤_};
-ghost use Rattle.area.specs.Area.{freeOf, StoreRoom, EntryStored, putIn, putBack, topOf};
+ghost use Rattle.area.specs.Area.{freeOf, putIn, putBack, topOf};
+ghost use Rattle.area.specs.Inner.{StoreRoom, EntryStored};
 
 // The newest entry of the area: where it begins, how long its list is, and its result register.
 pub enum Top {

@@ -2,7 +2,7 @@
 ghost use mathlib.Core.Path.{_≡_};
 ghost use Prim.Native.Nat.{_<_, _≤_};
 ghost use Rattle.code.specs.Ins.{count};
-ghost use Rattle.code.specs.Check.{Valid};
+ghost use Rattle.code.specs.Inner.{Valid};
 ghost use Rattle.roles.specs.Roles.{roleTable};
 ghost use Rattle.callee.specs.Trace.{setsIt, passesBy, saysAt, traced, globalOf};
 ghost use Rattle.callee.specs.Answers.{globalAnswer};

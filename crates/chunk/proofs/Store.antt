@@ -13,11 +13,13 @@ use mir.Syntax.{w64}
 use mir.Val.{toZ, ofZ}
 use borrow.Author.Tests.{lt-ltb, le-ltb, ltb-true}
 use Rattle.values.proofs.Word.{back-ok}
-use Rattle.values.specs.Folds.{SmallInt, SoundInt, inRange}
+use Rattle.values.specs.Folds.{SmallInt, inRange}
+use Rattle.values.specs.Inner.{SoundInt}
 use Rattle.values.specs.declared.Val.{Val}
 use Rattle.values.specs.declared.Val.the-variants.{Int, Float as Real, Bool as Truth}
 use Rattle.values.specs.declared.Maybe.the-variants.{Is, Nothing}
-use Rattle.chunk.specs.Pool.{PushRoom, Stored, toVal, position, stored, findOrPush, findOrPushConst}
+use Rattle.chunk.specs.Pool.{Stored, toVal, position, stored, findOrPush, findOrPushConst}
+use Rattle.chunk.specs.Inner.{PushRoom}
 use Rattle.chunk.specs.declared.Kept.{Kept}
 use Rattle.chunk.specs.declared.Kept.the-variants.{At, Full}
 

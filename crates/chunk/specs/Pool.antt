@@ -1,9 +1,9 @@
 -- Constants: document 01, 'What is lent' (a kind byte, 0 other, 1 int, 2 float, 3 bool, and a u64 word each) and 'Folding'.
-use Prim.Native.Nat.{ℕ, _+_, _≤_, _<_}
+use Prim.Native.Nat.{ℕ, _+_}
 use mathlib.Core.Bool.{Bool, not, cond, _&&_}
 use mathlib.Core.List.{List}
 use lib.Dec.{ltb, eqb}
-use lib.ListN.{length, getD, set}
+use lib.ListN.{getD, set}
 use lib.Ieee.{binary64, ofBits, toBits}
 use mir.Syntax.{w64}
 use mir.Val.{toZ, ofZ}
@@ -58,11 +58,3 @@ unfolding findOrPush
 findOrPushConst kinds words count (Int z) = findOrPush kinds words count 1 (ofZ w64 z)
 findOrPushConst kinds words count (Real x) = findOrPush kinds words count 2 (toBits binary64 x)
 findOrPushConst kinds words count (Truth b) = stored Full kinds words
-
--- the constants are there, with room for one more where one may come
-pub record PushRoom (kinds words : List ℕ) (count : ℕ) : Type 0 where
-  pub few : count ≤ 65536
-  pub kinds-there : count ≤ length kinds
-  pub words-there : count ≤ length words
-  pub kinds-more : count < 65535 → count < length kinds
-  pub words-more : count < 65535 → count < length words

@@ -8,7 +8,8 @@ ghost use lib.Ieee.{binary64, ofBits, toBits};
 ghost use mir.Syntax.{w64};
 ghost use mir.Val.{toZ, ofZ};
 ghost use Rattle.values.specs.Folds.{inRange};
-ghost use Rattle.chunk.specs.Pool.{PushRoom, toVal, constToVal, equals, position, stored, findOrPush, findOrPushConst};
+ghost use Rattle.chunk.specs.Pool.{toVal, constToVal, equals, position, stored, findOrPush, findOrPushConst};
+ghost use Rattle.chunk.specs.Inner.{PushRoom};
 
 // Where a result is kept: its index and the new count, or no room.
 pub enum Kept {

@@ -19,7 +19,8 @@ use Rattle.values.specs.declared.Val.the-variants.{Int, Float as Real, Bool as 
 use Rattle.chunk.specs.Pool.{Stored, stored, findOrPush, findOrPushConst}
 use Rattle.chunk.specs.declared.Kept.the-variants.{At}
 use Rattle.fold.specs.Plan.{Chunk, chunk, planAt}
-use Rattle.fold.specs.Pass.{loadOf, constLoad, markOf, put, landed, applied, tryFold, OperatorRoom}
+use Rattle.fold.specs.Pass.{loadOf, constLoad, markOf, put, landed, applied, tryFold}
+use Rattle.fold.specs.Inner.{OperatorRoom}
 use Rattle.fold.specs.declared.Plan.{Plan}
 use Rattle.fold.specs.declared.Plan.the-variants.{Stay, Put}
 use Rattle.fold.proofs.Planned.{planned}

@@ -13,8 +13,8 @@ use Rattle.laws.proofs.Many.{many-more, many-few}
 use Rattle.laws.proofs.Each.{each-more}
 use Rattle.laws.proofs.InPlace.{Walked, walk-none, walk-read, walk-pass, walk-put, walk-as, walk-end, word-put}
 use Rattle.named.specs.Unused.{packedAt, packedList, numbered}
-use Rattle.named.specs.Marks.{markedIn}
-use Rattle.clear.specs.Passes.{Moved, Down, freed}
+use Rattle.named.specs.Inner.{markedIn}
+use Rattle.clear.specs.Inner.{Moved, Down, freed}
 
 -- ---- the constants that move down
 

@@ -26,7 +26,8 @@ use Rattle.values.specs.declared.Val.the-variants.{Int, Float as Real, Bool as 
 use Rattle.chunk.specs.Pool.{position, stored, findOrPush, findOrPushConst}
 use Rattle.chunk.specs.declared.Kept.the-variants.{At, Full}
 use Rattle.fold.specs.Plan.{Chunk, chunk, planAt}
-use Rattle.fold.specs.Pass.{constLoad, put, landed, applied, tryFold, Bars, byScan, folded, foldAll, PassRoom}
+use Rattle.fold.specs.Pass.{constLoad, put, landed, applied, tryFold, Bars, byScan, folded, foldAll}
+use Rattle.fold.specs.Inner.{PassRoom}
 use Rattle.fold.specs.declared.Plan.{Plan}
 use Rattle.fold.specs.declared.Plan.the-variants.{Stay, Put}
 use Rattle.fold.proofs.Put.{put-long}

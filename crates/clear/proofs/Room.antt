@@ -9,7 +9,7 @@ use Rattle.laws.proofs.Many.{many-few}
 use Rattle.lent.specs.Chunk.{chunkCount, opAt, folds}
 use Rattle.lent.specs.Check.{constantRoom}
 use Rattle.fold.specs.Plan.{Chunk, chunk}
-use Rattle.fold.specs.Pass.{PassRoom}
+use Rattle.fold.specs.Inner.{PassRoom}
 use Rattle.named.specs.Unused.{constantNamed, before, pooled, recoded}
 use Rattle.lent.proofs.Counting.{many-ext}
 use Rattle.clear.proofs.Kept.{pooled-length}

@@ -21,7 +21,8 @@ use Rattle.lent.specs.Chunk.{stride, chunkCount}
 use Rattle.lent.specs.Tables.{constantKept, within, constantsKept, tableOf}
 use Rattle.lent.specs.Check.{unevenChunk, chunkCheckOf}
 use Rattle.lent.proofs.Kept.{few, kinds-there, words-there}
-use Rattle.clear.specs.Clear.{Is, No, PoolBuffers, clearOutcome, cleared, clearReadyOf, clearCall, ClearTold, ClearRoom}
+use Rattle.clear.specs.Clear.{Is, No, PoolBuffers, clearOutcome, cleared, clearReadyOf, clearCall, ClearTold}
+use Rattle.clear.specs.Inner.{ClearRoom}
 
 pub never : {A : Type 0} (n : ℕ) (r : Refusal) → Count n ≡ Refused r → A
 never n r e = let z : _≡_ {A = ℕ} 0 1 = cc in absurd (omega arith)

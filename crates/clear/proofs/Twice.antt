@@ -25,7 +25,8 @@ use Rattle.lent.specs.Tables.{constantKept, within, constantsKept, tableOf}
 use Rattle.lent.specs.Check.{firstBadOf, chunkCheckOf}
 use Rattle.lent.proofs.Counting.{every-at}
 use Rattle.named.specs.Unused.{constantNamed, before, packedList, pooled, renamedOperand, recoded, numbered}
-use Rattle.clear.specs.Clear.{Is, No, PoolBuffers, ClearOutcome, clearOutcome, cleared, clearReadyOf, clearCall, ClearRoom}
+use Rattle.clear.specs.Clear.{Is, No, PoolBuffers, ClearOutcome, clearOutcome, cleared, clearReadyOf, clearCall}
+use Rattle.clear.specs.Inner.{ClearRoom}
 use Rattle.clear.proofs.Answers.{refused-call, answered-call}
 use Rattle.clear.proofs.Whole.{numbered-ext}
 use Rattle.named.proofs.Recoding.{Recoding, recoding-none, recoding-more, recoding-done}

@@ -19,8 +19,8 @@ use Rattle.lent.specs.Tables.{constantsKept, tableOf}
 use Rattle.lent.specs.Check.{chunkCheckOf}
 use Rattle.lent.proofs.Counting.{many-ext}
 use Rattle.named.specs.Unused.{constantNamed, before, packedAt, packedList, pooled, renumbered, renamedOperand, insOf, recoded, numbered}
-use Rattle.named.specs.Marks.{NamedMarks, markedIn, LowNumbers, numberIn}
-use Rattle.clear.specs.Passes.{Moved, Down, freed}
+use Rattle.named.specs.Inner.{NamedMarks, markedIn, LowNumbers, numberIn}
+use Rattle.clear.specs.Inner.{Moved, Down, freed}
 use Rattle.clear.specs.Clear.{Is, poolBuffers, clearOutcome, cleared, clearReadyOf}
 
 -- ---- two tests, or two numberings, that agree below m

@@ -1,5 +1,5 @@
 -- The clearing call: what it answers, and what every lent buffer holds then. Assumes nothing.
-use Prim.Native.Nat.{ℕ, _*_, _≤_}
+use Prim.Native.Nat.{ℕ}
 use mathlib.Core.Path.{_≡_}
 use mathlib.Core.List.{List}
 use lib.ListN.{length}
@@ -8,7 +8,6 @@ use Rattle.code.specs.Check.{roomOf}
 use Rattle.code.specs.declared.Answer.{Answer}
 use Rattle.code.specs.declared.Checked.{Checked}
 use Rattle.code.specs.declared.Refusal.{Refusal}
-use Rattle.lent.specs.Chunk.{stride, chunkCount}
 use Rattle.lent.specs.Tables.{constantsKept, tableOf}
 use Rattle.lent.specs.Check.{chunkCheckOf}
 use Rattle.named.specs.Unused.{constantNamed, before, pooled, recoded, numbered}
@@ -63,11 +62,3 @@ pub record ClearTold (b : PoolBuffers) (m : ℕ) (r : Answer) (b′ : PoolBuffer
   pub told : ClearAnswer
   pub allowed : clearOutcome told b′ ≡ clearCall b m
   pub is : r ≡ clearTold told
-
--- what the tests leave of the buffers
-pub record ClearRoom (b : PoolBuffers) (m : ℕ) : Type 0 where
-  pub whole : length (b .code) ≡ stride * chunkCount (b .code)
-  pub few : m ≤ 65536
-  pub kinds : m ≤ length (b .kinds)
-  pub words : m ≤ length (b .words)
-  pub scratch : m ≤ length (b .scratch)

@@ -2,9 +2,9 @@
 ghost use mathlib.Core.Path.{_≡_};
 ghost use Prim.Native.Nat.{_≤_};
 ghost use lib.ListN.{length};
-ghost use Rattle.named.specs.Marks.{markedIn};
-ghost use Rattle.clear.specs.Passes.{Down, freed};
-ghost use Rattle.clear.specs.Clear.{Is, poolBuffers, clearOutcome, cleared, clearReadyOf, ClearTold, ClearRoom};
+ghost use Rattle.named.specs.Inner.{markedIn};
+ghost use Rattle.clear.specs.Inner.{Down, freed, ClearRoom};
+ghost use Rattle.clear.specs.Clear.{Is, poolBuffers, clearOutcome, cleared, clearReadyOf, ClearTold};
 use code::Answer;
 use code::Checked;
 

@@ -9,7 +9,8 @@ use lib.Dec.{ltb, eqb}
 use borrow.Author.Tests.{lt-ltb, le-ltb, ltb-false, eqb-true, not-false}
 use Rattle.code.specs.Ins.{count}
 use Rattle.code.specs.Rules.{ruleAt}
-use Rattle.code.specs.Check.{uneven, firstBad, checkOf, Valid}
+use Rattle.code.specs.Check.{uneven, firstBad, checkOf}
+use Rattle.code.specs.Inner.{Valid}
 use Rattle.code.specs.declared.Refusal.the-variants.{Length, Record}
 use Rattle.code.specs.declared.Checked.{Checked}
 use Rattle.code.specs.declared.Checked.the-variants.{Count, No}

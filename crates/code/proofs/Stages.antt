@@ -7,7 +7,8 @@ use native.Mathlib.Omega.{arith}
 use lib.Dec.{ltb}
 use lib.ListN.{length}
 use borrow.Author.Tests.{ltb-true, ltb-false}
-use Rattle.code.specs.Check.{Whole, Valid, checkOf, andThen, pairs, firstBadTry, registersOf, triedOf, insideOf, roomOf}
+use Rattle.code.specs.Check.{checkOf, andThen, pairs, firstBadTry, registersOf, triedOf, insideOf, roomOf}
+use Rattle.code.specs.Inner.{Whole, Valid}
 use Rattle.code.proofs.Checks.{count-of, valid-of}
 use Rattle.code.specs.declared.Refusal.{Refusal}
 use Rattle.code.specs.declared.Checked.{Checked}

@@ -1,21 +1,15 @@
 -- The refusals of lent code, in document 01's order of test. Each test passes a refusal on. Assumes nothing.
-use Prim.Native.Nat.{ℕ, _+_, _%_, _/_, _<_, _≤_}
-use mathlib.Core.Path.{_≡_}
-use mathlib.Core.Bool.{Bool, true, cond, not, _||_}
+use Prim.Native.Nat.{ℕ, _+_, _%_, _/_}
+use mathlib.Core.Bool.{Bool, cond, not, _||_}
 use mathlib.Core.List.{List}
 use lib.Dec.{ltb, eqb}
 use lib.ListN.{length}
 use Rattle.laws.specs.Walk.{first}
 use Rattle.code.specs.Ins.{count}
 use Rattle.code.specs.Rules.{ruleAt, tryKept}
-use Rattle.code.specs.declared.Refusal.{Refusal}
 use Rattle.code.specs.declared.Refusal.the-variants.{Length, Record, Registers, Try, Short, Position}
 use Rattle.code.specs.declared.Checked.{Checked}
 use Rattle.code.specs.declared.Checked.the-variants.{Count, No}
-
--- a multiple of the stride
-abbrev pub Whole : List ℕ → Type 0
-Whole w = length w % 6 ≡ 0
 
 -- 1: code length no multiple of its stride, or too many instructions
 abbrev pub uneven : List ℕ → Bool
@@ -31,12 +25,6 @@ checkOf w =
     cond (uneven w) (No (Length (length w)))
     (cond (ltb (firstBad w) (count w)) (No (Record (firstBad w)))
     (Count (count w)))
-
--- what code keeps that is not refused
-pub record Valid (w : List ℕ) : Type 0 where
-  pub whole : Whole w
-  pub few : length w / 6 ≤ 65535
-  pub kept : (k : ℕ) → k < length w / 6 → ruleAt w k ≡ true
 
 -- a later test, of n instructions
 abbrev pub andThen : Checked → (ℕ → Checked) → Checked

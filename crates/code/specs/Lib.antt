@@ -3,3 +3,4 @@ pub mod Check
 pub mod Ins
 pub mod Op
 pub mod Rules
+pub mod Inner

@@ -49,10 +49,6 @@ unfoldable pub rules : Ins → ℕ → ℕ → Bool
 rules i k next =
     opKnown i && marksFit i && xFits i && pushFits i && unpackFits i && argsFit i k && followed i next && enterFits i && exitFits i
 
--- the opcodes that a rule names
-abbrev pub hasRule : ℕ → Bool
-hasRule o = isCall o || eqb o PushRegs || eqb o UnpackR || eqb o ArgsR || eqb o WithEnter || eqb o WithExit
-
 abbrev pub ruleAt : List ℕ → ℕ → Bool
 ruleAt w k = rules (insAt w k) k (insAt w (k + 1) .op)
 

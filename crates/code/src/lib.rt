@@ -4,8 +4,9 @@ ghost use mathlib.Core.Bool.{not};
 ghost use Prim.Native.Nat.{_+_, _*_, _%_, _/_, _<_, _≤_, min};
 ghost use lib.ListN.{length};
 ghost use Rattle.code.specs.Ins.{insAt, count, isCall, wide};
-ghost use Rattle.code.specs.Rules.{rules, hasRule, ruleAt, tryKept};
-ghost use Rattle.code.specs.Check.{Whole, firstBad, firstBadTry, checkOf, registersOf, triedOf, insideOf, roomOf};
+ghost use Rattle.code.specs.Rules.{rules, ruleAt, tryKept};
+ghost use Rattle.code.specs.Inner.{hasRule, Whole};
+ghost use Rattle.code.specs.Check.{firstBad, firstBadTry, checkOf, registersOf, triedOf, insideOf, roomOf};
 ghost use Rattle.code.specs.Answers.{refusalOf, refusedOf, answerOf};
 
 pub mod op;

@@ -1,13 +1,11 @@
 -- What the code becomes, and the position tables with it: document 01, 'Folding'. Assumes nothing.
 use Prim.Native.Nat.{ℕ, _-_}
-use mathlib.Core.Path.{_≡_}
 use mathlib.Core.Bool.{cond}
 use mathlib.Core.List.{List, [], _∷_, _++_}
 use lib.ListN.{length, replicate}
 use Rattle.laws.specs.Each.{each}
 use Rattle.lent.specs.Chunk.{opAt, markAt, operandAt, originAt, marksJump}
-use Rattle.positions.specs.Remap.{alive, live, remapOf, mapped}
-use Rattle.positions.specs.Moved.{placed}
+use Rattle.positions.specs.Remap.{alive, mapped}
 
 -- a jump operand maps
 unfoldable pub movedOperand : List ℕ → List ℕ → ℕ → ℕ
@@ -28,11 +26,3 @@ left dead w = each (leftAt dead w) (length dead)
 -- words past the new count are 0
 unfoldable pub compacted : List ℕ → List ℕ → List ℕ
 compacted dead w = left dead w ++ replicate (length w - length (left dead w)) 0
-
--- all of it, from n dead marks
-pub record Compacted (dead w stmts calls : List ℕ) (r : ℕ) (w′ remap′ stmts′ calls′ : List ℕ) : Type 0 where
-  pub count : r ≡ live dead (length dead)
-  pub code : w′ ≡ compacted dead w
-  pub remap : remap′ ≡ remapOf dead
-  pub stmt : stmts′ ≡ placed dead stmts
-  pub call : calls′ ≡ placed dead calls

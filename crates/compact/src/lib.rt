@@ -3,8 +3,10 @@ ghost use mathlib.Core.Path.{_≡_};
 ghost use Prim.Native.Nat.{_+_, _*_, _%_, _≤_, _<_};
 ghost use lib.ListN.{length, set};
 ghost use Rattle.lent.specs.Chunk.{stride, chunkCount, opAt, markAt, originAt};
-ghost use Rattle.positions.specs.Remap.{live, Remap};
-ghost use Rattle.compact.specs.Tables.{movedOperand, compacted, Compacted};
+ghost use Rattle.positions.specs.Remap.{live};
+ghost use Rattle.positions.specs.Inner.{Remap};
+ghost use Rattle.compact.specs.Tables.{movedOperand, compacted};
+ghost use Rattle.compact.specs.Inner.{Compacted};
 use lent::STRIDE;
 
 // The operand of instruction i: a jump's follows.

@@ -25,10 +25,12 @@ use Rattle.roles.specs.Kinds.{a, b, c, has}
 use Rattle.roles.specs.Sets.{only}
 use Rattle.steps.specs.Code.{usedAt}
 use Rattle.steps.specs.Level.{isLevel}
-use Rattle.steps.specs.Step.{StepAt, named}
+use Rattle.steps.specs.Step.{named}
+use Rattle.steps.specs.Inner.{StepAt}
 use Rattle.steps.specs.declared.Step.{Step}
 use Rattle.blocks.specs.Blocks.{slotAt}
-use Rattle.day.specs.Count.{CanRise, Lower, CountedOnce, Thrice, Stepped, ZeroReads, readsIn, levelsIn, Tallied, Walkable}
+use Rattle.day.specs.Count.{readsIn, levelsIn}
+use Rattle.day.specs.Inner.{CanRise, Lower, CountedOnce, Thrice, Stepped, ZeroReads, Tallied, Walkable}
 
 and-false : (t : Bool) → t && false ≡ false
 and-false true = refl

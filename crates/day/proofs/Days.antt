@@ -9,7 +9,8 @@ use lib.ListN.{length}
 use Rattle.laws.specs.Table.{filledTo}
 use Rattle.laws.specs.Walk.{first}
 use Rattle.code.specs.Ins.{count}
-use Rattle.code.specs.Check.{Valid, Whole, checkOf, registersOf, triedOf, roomOf}
+use Rattle.code.specs.Check.{checkOf, registersOf, triedOf, roomOf}
+use Rattle.code.specs.Inner.{Valid, Whole}
 use Rattle.code.specs.declared.Checked.{Checked}
 use Rattle.code.specs.declared.Checked.the-variants as stage
 use Rattle.code.specs.declared.Refusal.{Refusal}
@@ -17,7 +18,8 @@ use Rattle.code.proofs.Checks.{counted, checked}
 use Rattle.code.proofs.Stages.{regs-before, tries-before, room-before, room-there}
 use Rattle.blocks.specs.Blocks.{slotAt, fillerAt, stepsOf}
 use Rattle.trace.specs.Trace.{verdictOf, Recorded}
-use Rattle.day.specs.Count.{readsIn, levelsIn, Tallied, Walkable}
+use Rattle.day.specs.Count.{readsIn, levelsIn}
+use Rattle.day.specs.Inner.{Tallied, Walkable}
 use Rattle.day.specs.Day.{replayStages, Day, refused, check, filler, move, told}
 use Rattle.trace.specs.declared.Verdict.{Verdict}
 use Rattle.trace.specs.declared.Verdict.the-variants as found

@@ -1,3 +1,4 @@
 pub mod Count
 pub mod Day
 pub mod Answers
+pub mod Inner

@@ -18,14 +18,15 @@ use Rattle.clear.specs.Clear as clearing
 use Rattle.clear.specs.Clear.{ClearAnswer, clearCall, clearTold}
 use Rattle.optimizer.proofs.Again.{again}
 use Rattle.clear.proofs.Answers.{answered}
-use Rattle.refold.specs.Lending.{Lending, lending, foldLeaving, foldOf, Folds}
-use Rattle.refold.specs.Lendable.{cutAt, countsLeft, Lendable, clearable, clearedBuffers, withConstants, countsCleared, Chained}
+use Rattle.refold.specs.Lending.{Lending, lending, foldLeaving}
+use Rattle.refold.specs.Inner.{foldOf, Folds, Chained}
+use Rattle.refold.specs.Lendable.{cutAt, countsLeft, Lendable, clearable, clearedBuffers, withConstants, countsCleared}
 use Rattle.refold.specs.Left.{PoolLeft, FoldBeyond, NoneDied, asLent, TriesLeft, LandingsLeft}
 use Rattle.refold.proofs.Lends.{lends, pool-stays, stays-beyond, refusal-leaves, idle-call}
 use Rattle.refold.proofs.Lands.{tries-follow, table-true}
 use Rattle.refold.proofs.Chain.{fold-clear-fold, fold-fold}
 use Rattle.refold.proofs.Refolds.{refold-call, accepted-again}
-use Rattle.answers.specs.Answers.{foldTold}
+use Rattle.answers.specs.Inner.{foldTold}
 use Rattle.answers.proofs.Alone.{one-fold}
 use Rattle.exported.specs.Settles as settles
 use Rattle.exported.specs.Settles.{Settles}

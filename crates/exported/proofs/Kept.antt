@@ -14,7 +14,8 @@ use Rattle.flow.specs.Flow.{Flow}
 use Rattle.flow.specs.Sweep.{Found}
 use Rattle.flow.proofs.Answer.{start-closed}
 use Rattle.steps.specs.Code.{flow}
-use Rattle.rows.specs.Route.{routeStart, rowsIn, Rows}
+use Rattle.rows.specs.Route.{routeStart, rowsIn}
+use Rattle.rows.specs.Inner.{Rows}
 use Rattle.rows.proofs.Least.{rows-least, rows-below, row-last, rows-regs, rows-few}
 use Rattle.kept.specs.Lists.{listsTo, offsetsTo, over}
 use Rattle.kept.specs.Answers.{scratchFor, ListsLeft, Outcome, refused, short, told}

@@ -14,7 +14,8 @@ use Rattle.code.specs.declared.Checked.the-variants.{Count, No}
 use Rattle.code.specs.declared.Ins.{Ins}
 use Rattle.roles.specs.Kinds.{a, b, c, has}
 use Rattle.roles.specs.Sets.{only, from}
-use Rattle.touch.specs.Touch.{named, touchOf, Touches}
+use Rattle.touch.specs.Touch.{named, touchOf}
+use Rattle.touch.specs.Inner.{Touches}
 use Rattle.touch.specs.declared.Touch.{Touch}
 use Rattle.touch.proofs.Cases.{touches}
 use Rattle.fields.specs.Answers.{touchTold, touchAnswer}

@@ -13,7 +13,8 @@ use Rattle.code.specs.Ins.{insAt, count}
 use Rattle.code.specs.Answers.{answerOf, refusalOf, refusedOf}
 use Rattle.code.specs.declared.Answer.{Answer}
 use Rattle.groups.specs.Groups.{figuresOf, longestOf, sumOf, firstAt, sumsOf}
-use Rattle.offsets.specs.Offsets.{wrong, firstWrong, Right}
+use Rattle.offsets.specs.Offsets.{wrong, firstWrong}
+use Rattle.offsets.specs.Inner.{Right}
 use Rattle.figures.specs.Figures.{bodyOf, bodyFigures}
 use Rattle.figures.specs.Answers.{figuresIn, reportWords, reportWritten, Reports, reports, reportedOf, addedOf, addCall, joinCall}
 use Rattle.figures.specs.Month.{Body, metFrom, reportOf, HoldsReport}

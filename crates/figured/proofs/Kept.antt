@@ -10,7 +10,8 @@ use borrow.Author.Tests.{le-ltb}
 use lib.Dec.{ltb}
 use lib.ListN.{length, getD, drop, List·getD-append, length-append}
 use Rattle.code.specs.Ins.{insAt, count}
-use Rattle.code.specs.Check.{Valid, checkOf, registersOf, triedOf, roomOf}
+use Rattle.code.specs.Check.{checkOf, registersOf, triedOf, roomOf}
+use Rattle.code.specs.Inner.{Valid}
 use Rattle.code.specs.declared.Answer.{Answer}
 use Rattle.code.specs.declared.Refusal.{Refusal}
 use Rattle.code.specs.declared.Checked.the-variants as stage
@@ -27,7 +28,7 @@ use Rattle.kept.specs.declared.KeptAnswer.{KeptAnswer}
 use Rattle.kept.proofs.Parts.{offset-at}
 use Rattle.kept.proofs.Passes.{offsets-long}
 use Rattle.groups.specs.Groups.{most, joinOf, sumsOf}
-use Rattle.offsets.specs.Offsets.{Right}
+use Rattle.offsets.specs.Inner.{Right}
 use Rattle.offsets.proofs.Offsets.{right-fine}
 use Rattle.figures.specs.Figures.{bodyFigures, bodyOf, placedOf}
 use Rattle.figures.specs.Answers.{figuresIn, Reports, reports, reportedOf, addedOf, addCall}

@@ -22,9 +22,11 @@ use Rattle.code.proofs.Checks.{count-of, valid-of}
 use Rattle.steps.specs.Level.{isLevel}
 use Rattle.groups.specs.declared.Figures.{Figures}
 use Rattle.groups.specs.declared.FiguresAnswer.the-variants.{Is, No, Offsets}
-use Rattle.groups.specs.Groups.{met, sumOf, longestOf, firstAt, figuresOf, Sums, joinOf, moved}
+use Rattle.groups.specs.Groups.{met, sumOf, longestOf, firstAt, figuresOf, joinOf, moved}
+use Rattle.groups.specs.Inner.{Sums}
 use Rattle.groups.proofs.Groups.{join-law, sum-append}
-use Rattle.offsets.specs.Offsets.{firstWrong, Right}
+use Rattle.offsets.specs.Offsets.{firstWrong}
+use Rattle.offsets.specs.Inner.{Right}
 use Rattle.offsets.proofs.Offsets.{right-of}
 use Rattle.figures.specs.Figures.{lenAt, levelsTo, bodyFigures, placedOf, bodyOf}
 

@@ -17,7 +17,8 @@ use Rattle.groups.specs.declared.FiguresAnswer.{FiguresAnswer}
 use Rattle.groups.specs.declared.FiguresAnswer.the-variants.{Is, No, Offsets, Over}
 use Rattle.code.specs.declared.Refusal.the-variants.{Short}
 use Rattle.groups.specs.Groups.{Met, met, firstAt, longestOf, figuresOf, joinOf, most, sumsOf, moved}
-use Rattle.offsets.specs.Offsets.{firstWrong, Right}
+use Rattle.offsets.specs.Offsets.{firstWrong}
+use Rattle.offsets.specs.Inner.{Right}
 use Rattle.figures.specs.Figures.{levelsTo, lenAt, bodyFigures, placedOf, afterCheck, bodyOf}
 use Rattle.figures.specs.Month.{Body, metFrom, reportOf}
 use Rattle.figures.proofs.Bodies.{report-join, report-one}

@@ -4,7 +4,7 @@ ghost use Prim.Native.Nat.{_+_, _<_};
 ghost use lib.ListN.{length};
 ghost use Rattle.code.specs.Ins.{count};
 ghost use Rattle.groups.specs.Groups.{figuresOf};
-ghost use Rattle.offsets.specs.Offsets.{Right};
+ghost use Rattle.offsets.specs.Inner.{Right};
 ghost use Rattle.figures.specs.Figures.{levelsTo, bodyFigures, bodyOf};
 ghost use Rattle.figures.specs.Answers.{figuresIn, reportWritten, reports, reportedOf, addedOf, addCall, joinCall};
 ghost use Rattle.code.specs.Answers.{refusalOf};

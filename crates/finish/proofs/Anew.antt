@@ -9,10 +9,12 @@ use lib.Seq.{length-take-le}
 use Rattle.laws.specs.All.{every, many}
 use Rattle.lent.specs.Chunk.{chunkCount, isPhi}
 use Rattle.positions.specs.Remap.{alive}
-use Rattle.compact.specs.Tables.{Compacted}
-use Rattle.phi_pass.specs.Phi.{marked, pairsLeft, spread, indexed}
+use Rattle.compact.specs.Inner.{Compacted}
+use Rattle.phi_pass.specs.Phi.{marked, pairsLeft, indexed}
+use Rattle.phi_pass.specs.Inner.{spread}
 use Rattle.phi_pass.proofs.Pairs.{spread-length, marked-length}
-use Rattle.finish.specs.Finish.{Tables, tables, sourcesAfter, mapCount, mapOf, sourcesOf, renewed, finished, TableRoom}
+use Rattle.finish.specs.Finish.{Tables, tables, sourcesAfter, mapCount, mapOf, sourcesOf, renewed, finished}
+use Rattle.finish.specs.Inner.{TableRoom}
 use Rattle.finish.specs.declared.Left.{Left}
 
 pub took : (m : ℕ) (l : List ℕ) → m ≤ length l → m ≡ length (take m l)

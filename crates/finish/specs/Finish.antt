@@ -1,12 +1,11 @@
 -- What the tables become after folding: document 01, 'Folding'. Assumes nothing.
-use Prim.Native.Nat.{ℕ, _+_, _-_, _*_, _%_, _≤_}
-use mathlib.Core.Path.{_≡_}
-use mathlib.Core.Bool.{Bool, cond}
+use Prim.Native.Nat.{ℕ, _-_}
+use mathlib.Core.Bool.{cond}
 use mathlib.Core.List.{List, _++_}
 use lib.Dec.{eqb}
 use lib.ListN.{length, take, replicate}
 use Rattle.laws.specs.All.{every, many}
-use Rattle.lent.specs.Chunk.{stride, chunkCount, isPhi}
+use Rattle.lent.specs.Chunk.{chunkCount, isPhi}
 use Rattle.positions.specs.Remap.{alive, live, remapOf}
 use Rattle.compact.specs.Tables.{compacted}
 use Rattle.positions.specs.Moved.{placed}
@@ -67,18 +66,6 @@ renewed t =
             sources = length (sourcesLeft (t .code) (mapOf t) (sourcesOf t) (t .dead));
           };
     }
-
--- the tables are there, with the room that folding needs
-pub record TableRoom (t : Tables) : Type 0 where
-  pub code : length (t .code) ≡ stride * length (t .dead)
-  pub few : length (t .dead) ≤ 65535
-  pub map : length (t .map) ≡ length (t .dead)
-  pub entries : t .left .map ≤ length (t .map)
-  pub words : t .left .sources ≤ length (t .sources)
-  pub pairs : 2 * many (isPhi (t .code)) (length (t .dead)) ≤ length (t .sources)
-  pub stmts : length (t .stmts) % 2 ≡ 0
-  pub calls : length (t .calls) % 2 ≡ 0
-  pub remap : length (t .remap) ≡ length (t .dead) + 1
 
 -- the Phis that die are marked; if nothing died, all else stays as lent
 unfoldable pub finished : Tables → Tables

@@ -5,7 +5,8 @@ ghost use lib.ListN.{length, take};
 ghost use Rattle.laws.specs.All.{many};
 ghost use Rattle.lent.specs.Chunk.{stride, chunkCount, isPhi};
 ghost use Rattle.phi_pass.specs.Phi.{marked};
-ghost use Rattle.finish.specs.Finish.{tables, sourcesLeft, sourcesAfter, mapCount, renewed, finished, TableRoom};
+ghost use Rattle.finish.specs.Finish.{tables, sourcesLeft, sourcesAfter, mapCount, renewed, finished};
+ghost use Rattle.finish.specs.Inner.{TableRoom};
 
 // How many instructions there are, entries of phi_map, and words of phi_sources.
 pub struct Left {

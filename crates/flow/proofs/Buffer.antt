@@ -15,8 +15,9 @@ use lib.Pow.{pow-pos}
 use lib.Seq.{getD-set-same, getD-set-other, getD-take, getD-drop, drop-drop, ext-getD}
 use Rattle.flow.specs.Set.{minus}
 use Rattle.flow.specs.Flow.{Flow, joined, onto, rowAt}
-use Rattle.flow.specs.Sweep.{row, Put}
-use Rattle.flow.specs.Words.{value, Small, window, rowsOf, Holds, WordsStored}
+use Rattle.flow.specs.Sweep.{row}
+use Rattle.flow.specs.Inner.{Put, window, Holds, WordsStored}
+use Rattle.flow.specs.Words.{value, Small, rowsOf}
 use Rattle.flow.proofs.Bits.{and-not}
 use Rattle.flow.proofs.Rows.{zeros-at}
 use Rattle.flow.proofs.Words.{as-set, holds-one, holds-ext, holds-none, holds-lt, words-past}

@@ -13,7 +13,8 @@ use lib.Dec.{ltb, eqb}
 use lib.ListN.{length, getD, take, drop, set, length-set}
 use lib.Seq.{getD-set-same, getD-set-other, set-getD}
 use Rattle.laws.proofs.Branch.{or-false}
-use Rattle.flow.specs.Words.{value, Small, Holds, WordsStored}
+use Rattle.flow.specs.Words.{value, Small}
+use Rattle.flow.specs.Inner.{Holds, WordsStored}
 use Rattle.flow.proofs.Tally.{or-some}
 use Rattle.flow.proofs.Words.{holds-ext, holds-or}
 use Rattle.flow.proofs.Buffer.{window-in, window-past, small-window}

@@ -14,7 +14,8 @@ use lib.ListN.{length, set, length-set}
 use lib.Seq.{getD-set-same, getD-set-other, set-getD}
 use Rattle.laws.proofs.Branch.{or-false}
 use Rattle.flow.specs.Flow.{Flow, reach, rowAt}
-use Rattle.flow.specs.Sweep.{row, empty, sweep, swept, below, backs, strays, Again, Sweeps, done, more, startOf, abandonedOf, Found, Put}
+use Rattle.flow.specs.Sweep.{row, empty, sweep, swept, below, backs, strays, Again, Sweeps, done, more, startOf, abandonedOf, Found}
+use Rattle.flow.specs.Inner.{Put}
 use Rattle.flow.proofs.Tally.{or-some, tally-zero, tally-some, tally-le, strays-zero}
 use Rattle.flow.proofs.Rows.{empty-long, empty-row}
 use Rattle.flow.proofs.Bound.{bounded}

@@ -15,7 +15,8 @@ use lib.ListN.{length, getD, set, replicate}
 use lib.Pow.{pow-lt, pow-pos}
 use lib.Seq.{getD-set-same, getD-set-other}
 use Rattle.flow.specs.Set.{bit, minus, alone}
-use Rattle.flow.specs.Words.{value, Small, Holds}
+use Rattle.flow.specs.Words.{value, Small}
+use Rattle.flow.specs.Inner.{Holds}
 use Rattle.flow.proofs.Bits.{bit-zero, bit-ext, bit-high, bit-down, bit-up, bits-lt, minus-lt, pow-here, pow-other, or-bit, minus-bit}
 use Rattle.flow.proofs.Rows.{zeros-at}
 

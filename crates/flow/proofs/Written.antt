@@ -7,7 +7,7 @@ use native.Mathlib.Numerals.{add-one}
 use native.Mathlib.Omega.{arith}
 use lib.ListN.{length, getD, take, drop, set, length-drop, length-append}
 use lib.Seq.{paste, paste-zero, paste-suc, length-paste, take-paste, drop-paste, take-take, take-add, take-append-seam, drop-append-seam, drop-drop, getD-drop}
-use Rattle.flow.specs.Listed.{Listing}
+use Rattle.flow.specs.Inner.{Listing}
 
 paste-paste : (d : List ℕ) (at : ℕ) (L : List ℕ) (m n : ℕ) → at + length L ≤ length d → m + n ≤ length L → paste (paste d at L m) (at + m) (take n (drop m L)) n ≡ paste d at L (m + n)
 paste-paste d at L m n fits le =

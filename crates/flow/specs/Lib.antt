@@ -6,3 +6,4 @@ pub mod Words
 pub mod Run
 pub mod Kept
 pub mod Demand
+pub mod Inner

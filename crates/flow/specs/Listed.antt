@@ -1,9 +1,6 @@
 -- The registers of a set, ascending, and how a list is written. Assumes nothing.
 use mathlib.Core.List.{List, [], _∷_}
-use mathlib.Core.Path.{_≡_}
-use Prim.Native.Nat.{ℕ, zero, suc, _+_, _/_, _%_}
-use lib.ListN.{length}
-use lib.Seq.{paste}
+use Prim.Native.Nat.{ℕ, zero, suc, _/_, _%_}
 
 -- p before the rest, if the bit is set
 abbrev pub keep : ℕ → ℕ → List ℕ → List ℕ
@@ -14,8 +11,3 @@ keep (suc b) p rest = p ∷ rest
 unfoldable pub listed : ℕ → ℕ → ℕ → List ℕ
 listed zero p x = []
 listed (suc d) p x = keep (x % 2) p (listed d (suc p) (x / 2))
-
--- the list L was written from `at` on, which leaves out, and n is the place past it
-pub record Listing (L old : List ℕ) (at : ℕ) (out : List ℕ) (n : ℕ) : Type 0 where
-  pub past : n ≡ at + length L
-  pub put : out ≡ paste old at L (length L)

@@ -2,9 +2,9 @@
 use mathlib.Core.Path.{_≡_}
 use mathlib.Core.Logic.{_≢_}
 use mathlib.Core.List.{List, [], _∷_}
-use mathlib.Core.Bool.{Bool, false, not, cond, _||_}
+use mathlib.Core.Bool.{Bool, false, cond, _||_}
 use Prim.Native.Nat.{ℕ, zero, suc, _+_, _-_, _<_}
-use lib.Dec.{ltb, eqb}
+use lib.Dec.{ltb}
 use lib.ListN.{getD, set, replicate}
 use Rattle.flow.specs.Flow.{Flow, reach, rowAt}
 
@@ -63,8 +63,3 @@ abandonedOf f first = cond (ltb 0 (strays f first)) 1 0
 pub record Found (f : Flow) (first : ℕ) (rows : List ℕ) (full abandoned : ℕ) : Type 0 where
   pub sweeps : Sweeps f (startOf f first) (empty f) full rows
   pub left : abandoned ≡ abandonedOf f first
-
--- Row k is found and stored, which leaves out; `changed` says whether it was another.
-pub record Put (f : Flow) (rows : List ℕ) (k : ℕ) (out : List ℕ) (changed : Bool) : Type 0 where
-  pub stored : out ≡ set rows k (rowAt f (row rows) k)
-  pub told : changed ≡ not (eqb (row rows k) (rowAt f (row rows) k))

@@ -14,13 +14,15 @@ use Rattle.lent.specs.Check.{constantRoom}
 use Rattle.lent.proofs.Counting.{many-le}
 use Rattle.values.specs.declared.Val.{Val}
 use Rattle.values.specs.declared.Val.the-variants.{Int, Float as Real, Bool as Truth}
-use Rattle.chunk.specs.Pool.{PushRoom, Stored, findOrPushConst}
+use Rattle.chunk.specs.Pool.{Stored, findOrPushConst}
+use Rattle.chunk.specs.Inner.{PushRoom}
 use Rattle.chunk.specs.declared.Kept.{Kept}
 use Rattle.chunk.specs.declared.Kept.the-variants.{At, Full}
 use Rattle.chunk.proofs.Store.{kept-few}
 use Rattle.landings.specs.Latest.{latest, isLanding}
 use Rattle.fold.specs.Plan.{Chunk, after, planAt}
-use Rattle.fold.specs.Pass.{Loading, loadOf, constLoad, landed, applied, tryFold, Bars, byTable, folded, foldAll, Readable, OperatorRoom, PassRoom}
+use Rattle.fold.specs.Pass.{Loading, loadOf, constLoad, landed, applied, tryFold, Bars, byTable, folded, foldAll}
+use Rattle.fold.specs.Inner.{Readable, OperatorRoom, PassRoom}
 use Rattle.fold.specs.declared.Loaded.{Loaded}
 use Rattle.fold.specs.declared.Loaded.the-variants.{As, No}
 use Rattle.fold.specs.declared.Plan.{Plan}

@@ -16,9 +16,9 @@ use Rattle.values.specs.declared.Val.{Val}
 use Rattle.values.specs.declared.Maybe.{Maybe}
 use Rattle.values.specs.declared.Maybe.the-variants.{Is, Nothing}
 use Rattle.values.specs.declared.Op.{Op}
-use Rattle.chunk.specs.Pool.{PushRoom}
+use Rattle.chunk.specs.Inner.{PushRoom}
 use Rattle.fold.specs.Plan.{Chunk, operatorPage, kindOf, prevLive, operandOf, blocked, withFound, withVal, foldUnary, tryFoldBinop, tryFoldUnary, planFor, planAt}
-use Rattle.fold.specs.Pass.{Readable, OperatorRoom}
+use Rattle.fold.specs.Inner.{Readable, OperatorRoom}
 use Rattle.operands.specs.declared.Found.{Found}
 use Rattle.operands.specs.declared.Found.the-variants.{At, Nowhere}
 use Rattle.fold.specs.declared.Kind.{Kind}

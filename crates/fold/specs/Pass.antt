@@ -1,17 +1,14 @@
 -- What a fold does to a chunk, and the pass over it: document 01, 'Folding'.
-use Prim.Native.Nat.{ℕ, zero, suc, _+_, _*_, _≤_, _<_}
-use mathlib.Core.Path.{_≡_}
-use mathlib.Core.Bool.{Bool, true, cond}
+use Prim.Native.Nat.{ℕ, zero, suc, _+_, _*_}
+use mathlib.Core.Bool.{Bool, cond}
 use mathlib.Core.List.{List}
 use lib.Dec.{eqb}
-use lib.ListN.{length, getD, set}
-use Rattle.laws.specs.All.{many}
+use lib.ListN.{getD, set}
 use Rattle.code.specs.Op.{LoadConst, LoadTrue, LoadFalse}
-use Rattle.lent.specs.Chunk.{stride, chunkCount, opAt, folds}
-use Rattle.lent.specs.Check.{constantRoom}
+use Rattle.lent.specs.Chunk.{stride, chunkCount}
 use Rattle.values.specs.declared.Val.{Val}
 use Rattle.values.specs.declared.Val.the-variants.{Int, Float as Real, Bool as Truth}
-use Rattle.chunk.specs.Pool.{PushRoom, Stored, findOrPushConst}
+use Rattle.chunk.specs.Pool.{Stored, findOrPushConst}
 use Rattle.chunk.specs.declared.Kept.{Kept}
 use Rattle.chunk.specs.declared.Kept.the-variants.{At, Full}
 use Rattle.landings.specs.Landings.{barred}
@@ -93,22 +90,3 @@ folded bars (suc k) s = tryFold (bars (folded bars k s .code) k) k (folded bars 
 unfoldable pub foldAll : Bars → Chunk → Chunk
 unfolding folded
 foldAll bars s = folded bars (chunkCount (s .code)) s
-
--- the buffers that a plan at i reads
-pub record Readable (s : Chunk) (i : ℕ) : Type 0 where
-  pub here : i < chunkCount (s .code)
-  pub marked : i < length (s .dead)
-  pub kinds-there : s .constants ≤ length (s .kinds)
-  pub words-there : s .constants ≤ length (s .words)
-
--- and room for a constant more where an operator stands
-pub record OperatorRoom (s : Chunk) (i : ℕ) : Type 0 where
-  pub readable : Readable s i
-  pub room : folds (opAt (s .code) i) ≡ true → PushRoom (s .kinds) (s .words) (s .constants)
-
--- the buffers that folding needs
-pub record PassRoom (s : Chunk) : Type 0 where
-  pub few : s .constants ≤ 65536
-  pub marks : chunkCount (s .code) ≤ length (s .dead)
-  pub kinds-room : constantRoom (s .constants) (many (λ k. folds (opAt (s .code) k)) (chunkCount (s .code))) ≤ length (s .kinds)
-  pub words-room : constantRoom (s .constants) (many (λ k. folds (opAt (s .code) k)) (chunkCount (s .code))) ≤ length (s .words)

@@ -5,9 +5,9 @@ use values::Maybe;
 use values::Op;
 use values::Val;
 ghost use mathlib.Core.Path.{_≡_};
-ghost use Rattle.values.specs.Folds.{SoundInt};
+ghost use Rattle.values.specs.Inner.{SoundInt};
 ghost use Rattle.fold.specs.Plan.{chunk, kindOf, after, foldUnary, tryFoldBinop, tryFoldUnary, planAt};
-ghost use Rattle.fold.specs.Pass.{Readable};
+ghost use Rattle.fold.specs.Inner.{Readable};
 
 // What an opcode folds as.
 pub enum Kind {

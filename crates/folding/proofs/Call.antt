@@ -16,12 +16,14 @@ use Rattle.lent.specs.Chunk.{chunkCount}
 use Rattle.lent.specs.Check.{sourceRoom, tallyOf, readyOf}
 use Rattle.lent.specs.declared.Counts.{Counts}
 use Rattle.lent.specs.declared.Lens.{Lens}
-use Rattle.optimizer.specs.Fold.{buffers, lensOf, foldOutcome, settled, foldLent, called, FoldRoom}
+use Rattle.optimizer.specs.Fold.{buffers, lensOf, foldOutcome, settled, foldLent, called}
+use Rattle.optimizer.specs.Inner.{FoldRoom}
 use Rattle.optimizer.specs.declared.Folded.{Folded}
 use Rattle.optimizer.specs.Fold.{Is, No}
 use Rattle.optimizer.proofs.Tested.{held-of, table-there}
 use Rattle.optimizer.proofs.Whole.{joins, refused-by, told-by}
-use Rattle.folding.specs.Answers.{testedTold, foldedTold, FoldTold}
+use Rattle.folding.specs.Answers.{foldedTold, FoldTold}
+use Rattle.folding.specs.Inner.{testedTold}
 
 -- a refusal's number is not 0
 pub never-0 : (q : Refusal) → refusedOf q .refusal ≢ 0

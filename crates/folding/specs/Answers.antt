@@ -3,18 +3,13 @@ use Prim.Native.Nat.{ℕ}
 use mathlib.Core.Path.{_≡_}
 use mathlib.Core.Bool.{Bool}
 use mathlib.Core.List.{List}
-use Rattle.code.specs.Answers.{asked, answerOf, refusedOf}
+use Rattle.code.specs.Answers.{answerOf, refusedOf}
 use Rattle.code.specs.declared.Answer.{Answer}
-use Rattle.code.specs.declared.Checked.{Checked}
 use Rattle.lent.specs.declared.Counts.{Counts}
 use Rattle.optimizer.specs.Fold.{Buffers, foldOutcome, called, foldCall}
 use Rattle.optimizer.specs.declared.Folded.{Folded}
 use Rattle.optimizer.specs.Fold.{FoldAnswer}
 use Rattle.optimizer.specs.Fold.{Is, No}
-
--- what the tests found: a refusal, or nothing yet
-abbrev pub testedTold : Checked → Answer
-testedTold v = asked v refusedOf (answerOf 0 0 0 0)
 
 -- instructions, constants, phi_map count, phi_sources count
 abbrev pub foldedTold : Folded → Answer

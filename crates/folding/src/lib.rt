@@ -2,7 +2,8 @@
 ghost use mathlib.Core.Path.{_≡_};
 ghost use Rattle.lent.specs.Check.{sourceRoom, tallyOf, readyOf};
 ghost use Rattle.optimizer.specs.Fold.{buffers};
-ghost use Rattle.folding.specs.Answers.{testedTold, foldedTold, FoldTold};
+ghost use Rattle.folding.specs.Answers.{foldedTold, FoldTold};
+ghost use Rattle.folding.specs.Inner.{testedTold};
 use code::Answer;
 use code::Checked;
 use lent::Counts;

@@ -16,7 +16,8 @@ use Rattle.taken.specs.Lists.{firstStrange}
 use Rattle.area.specs.Area.{pairsOf, entryOf, putBack, topOf}
 use Rattle.saver.specs.Saver.{entered, enterOf}
 use Rattle.leaves.specs.Leaving.{resultWritten, leftBy, leaveOf}
-use Rattle.frames.specs.Frames.{Sound, CallEvent, enters, writes, leaves, restored, Play, done, enter, write, leave, Matched, none, over, frame, SameRoom}
+use Rattle.frames.specs.Frames.{Sound, CallEvent, enters, writes, leaves, Matched, none, over, frame}
+use Rattle.frames.specs.Inner.{restored, Play, done, enter, write, leave, SameRoom}
 use Rattle.saver.specs.declared.SaverAnswer.{SaverAnswer}
 use Rattle.saver.specs.declared.SaverAnswer.the-variants.{Used, Registers, Listed, Full}
 use Rattle.area.specs.declared.Top.{Top}

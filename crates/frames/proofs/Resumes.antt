@@ -19,7 +19,8 @@ use Rattle.flow.proofs.Bits.{bit-zero, pow-other}
 use Rattle.area.specs.Area.{freeOf, putIn}
 use Rattle.saver.specs.Saver.{Saver, Ends, regsOf, inUse, enterOf}
 use Rattle.leaves.specs.Leaving.{Back, returned, thrown, resultWritten, leaveOf}
-use Rattle.frames.specs.Frames.{fileOf, restored, Sound, CallEvent, Play, Matched, SameRoom}
+use Rattle.frames.specs.Frames.{fileOf, Sound, CallEvent, Matched}
+use Rattle.frames.specs.Inner.{restored, Play, SameRoom}
 use Rattle.saver.specs.declared.SaverAnswer.the-variants.{Used}
 use Rattle.frames.proofs.Words.{in-length, in-same, in-other, back-length, back-kept, written-length}
 use Rattle.frames.proofs.Frames.{Accepted, accepted, entered-sound, leaving, left-same, matched}

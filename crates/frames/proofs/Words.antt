@@ -12,7 +12,7 @@ use lib.ListN.{length, getD, take, drop, set, length-set, length-append}
 use lib.Seq.{getD-set-same, getD-set-other, getD-at}
 use Rattle.area.specs.Area.{pairsOf, entryOf, putIn, putBack}
 use Rattle.leaves.specs.Leaving.{Back, returned, thrown, resultWritten}
-use Rattle.frames.specs.Frames.{restored}
+use Rattle.frames.specs.Inner.{restored}
 
 pub pairs-length : (file l : List ℕ) → length (pairsOf file l) ≡ 2 * length l
 unfolding pairsOf

@@ -2,8 +2,7 @@
 use Prim.Native.Nat.{ℕ, suc, _≤_}
 use mathlib.Core.Path.{_≡_}
 use mathlib.Core.List.{List, [], _∷_, _++_}
-use lib.ListN.{length, getD, take}
-use Rattle.area.specs.Area.{putIn}
+use lib.ListN.{length, take}
 use Rattle.saver.specs.Saver.{Saver, saver, regsOf, inUse, enterOf}
 use Rattle.leaves.specs.Leaving.{Back, leaveOf}
 use Rattle.saver.specs.declared.SaverAnswer.the-variants.{Used}
@@ -11,11 +10,6 @@ use Rattle.saver.specs.declared.SaverAnswer.the-variants.{Used}
 -- the register file: as many entries as the saver was made for
 abbrev pub fileOf : Saver → List ℕ
 fileOf s = take (regsOf s) (s .file)
-
--- g, with the listed registers as they are in f
-unfoldable pub restored : ℕ → List ℕ → List ℕ → List ℕ → List ℕ
-restored regs f [] g = g
-restored regs f (r ∷ l) g = restored regs f l (putIn regs r (getD f r 0) g)
 
 -- what every saver is that was made and used: a file of at most 64, and no more words in use than there are
 pub record Sound (s : Saver) : Type 0 where
@@ -31,27 +25,11 @@ pub data CallEvent : Type 0 where
   writes : List ℕ → CallEvent
   leaves : Back → CallEvent
 
--- From one saver to another by events in order. An entry here is one that is not refused; overwriting keeps the file's length; a leaving is
--- whatever the call makes of it.
-pub data Play : Saver → List CallEvent → Saver → Type 0 where
-  done : {s : Saver} → Play s [] s
-  enter : {s t : Saver} {l : List ℕ} {q u : ℕ} {es : List CallEvent} → enterOf s l q .answer ≡ Used u → Play (enterOf s l q .left) es t → Play s (enters l q ∷ es) t
-  write : {s t : Saver} {new : List ℕ} {es : List CallEvent} → length new ≡ length (s .file) → Play (saver (s .head) (s .area) new) es t
-      → Play s (writes new ∷ es) t
-  leave : {s t : Saver} {back : Back} {es : List CallEvent} → Play (leaveOf s back .left) es t → Play s (leaves back ∷ es) t
-
 -- well bracketed: each entry has its leaving, and what happens between them is well bracketed too
 pub data Matched : List CallEvent → Type 0 where
   none : Matched []
   over : {new : List ℕ} {es : List CallEvent} → Matched es → Matched (writes new ∷ es)
   frame : {l : List ℕ} {q : ℕ} {es fs : List CallEvent} (back : Back) → Matched es → Matched fs → Matched (enters l q ∷ (es ++ (leaves back ∷ fs)))
-
--- the same room is in use, by the same words, and the file is as long
-pub record SameRoom (s t : Saver) : Type 0 where
-  pub sound : Sound t
-  pub regs : regsOf t ≡ regsOf s
-  pub used : inUse t ≡ inUse s
-  pub saved : take (inUse s) (t .area) ≡ take (inUse s) (s .area)
 
 -- a saver that was made and used, with so many calls open: entered and not yet left
 pub data Open : Saver → ℕ → Type 0 where

@@ -14,8 +14,10 @@ use Rattle.code.specs.Ins.{insAt}
 use Rattle.code.specs.declared.Ins.{Ins}
 use Rattle.laid.specs.Section.{laid}
 use Rattle.paths.specs.Search.{Says, SearchSettles}
-use Rattle.phis.specs.Phi.{Dead, PhiRoom}
-use Rattle.generators.specs.Generator.{made, returnsOutside, PhisDead, Clear, GenPure}
+use Rattle.phis.specs.Phi.{Dead}
+use Rattle.phis.specs.Inner.{PhiRoom}
+use Rattle.generators.specs.Generator.{made, returnsOutside, PhisDead, GenPure}
+use Rattle.generators.specs.Inner.{Clear}
 
 -- the first m words of a list, cleared
 module _ (w a b x y : List ℕ) (room : PhiRoom w a b) (e : x ≡ clearedTo (length w / 6 + 1) a) (f : y ≡ clearedTo (length w / 6 + 1) b) where

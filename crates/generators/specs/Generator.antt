@@ -1,20 +1,18 @@
 -- `gen_pure` of block.rs: whether a generator's body may be laid as the section that a `for` steps. Assumes nothing.
-use Prim.Native.Nat.{ℕ, _+_, _/_, _<_}
+use Prim.Native.Nat.{ℕ, _<_}
 use mathlib.Core.Path.{_≡_}
 use mathlib.Core.Bool.{Bool, true, false, not, _&&_, _||_}
 use mathlib.Core.List.{List}
 use lib.Dec.{eqb}
-use lib.ListN.{length}
 use Rattle.laws.specs.All.{every, many}
 use Rattle.laws.specs.Some.{some}
-use Rattle.laws.specs.Table.{clearedTo}
 use Rattle.code.specs.Op.{Phi, MakeFunction, MakeCoroutine, SetupExcept, SetupFinally, PopExcept, WithExit, ReturnR, ReturnValue}
 use Rattle.code.specs.Ins.{insAt, count}
 use Rattle.code.specs.declared.Ins.{Ins}
 use Rattle.laid.specs.Section.{laid}
 use Rattle.walks.specs.Returns.{returnsAt}
 use Rattle.walks.specs.There.{there}
-use Rattle.phis.specs.Phi.{Dead, PhiRoom}
+use Rattle.phis.specs.Phi.{Dead}
 
 -- i makes a function
 unfoldable pub makes : Ins → Bool
@@ -54,9 +52,3 @@ pub record GenPure (w : List ℕ) : Type 0 where
   pub dead : PhisDead w (count w)
   pub unmade : made w ≡ false
   pub outside : returnsOutside w ≡ true
-
--- room for a search, and both buffers clear
-pub record Clear (w seen todo : List ℕ) : Type 0 where
-  pub room : PhiRoom w seen todo
-  pub marks : seen ≡ clearedTo (length w / 6 + 1) seen
-  pub waiting : todo ≡ clearedTo (length w / 6 + 1) todo

@@ -1,2 +1,3 @@
 pub mod Answers
 pub mod Generator
+pub mod Inner

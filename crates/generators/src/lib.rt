@@ -2,10 +2,11 @@
 ghost use mathlib.Core.Path.{_≡_};
 ghost use Prim.Native.Nat.{_+_, _/_};
 ghost use lib.ListN.{length};
-ghost use Rattle.code.specs.Check.{Whole};
+ghost use Rattle.code.specs.Inner.{Whole};
 ghost use Rattle.paths.specs.Search.{SearchSettles};
-ghost use Rattle.phis.specs.Phi.{PhiRoom};
-ghost use Rattle.generators.specs.Generator.{makes, made, opens, closes, returnsFrom, returnsOutside, PhisDead, GenPure, Clear};
+ghost use Rattle.phis.specs.Inner.{PhiRoom};
+ghost use Rattle.generators.specs.Generator.{makes, made, opens, closes, returnsFrom, returnsOutside, PhisDead, GenPure};
+ghost use Rattle.generators.specs.Inner.{Clear};
 ghost use Rattle.generators.specs.Answers.{GenTold};
 use code::Answer;
 use code::Checked;

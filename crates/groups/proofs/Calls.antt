@@ -6,7 +6,8 @@ use native.Mathlib.Omega.{arith}
 use borrow.Author.Tests.{lt-ltb, le-ltb}
 use Rattle.groups.specs.declared.Figures.{Figures}
 use Rattle.groups.specs.declared.FiguresAnswer.the-variants.{Is, Over}
-use Rattle.groups.specs.Groups.{Sums, betterOf, joinOf, most, sumsOf}
+use Rattle.groups.specs.Groups.{betterOf, joinOf, most, sumsOf}
+use Rattle.groups.specs.Inner.{Sums}
 
 module _ (f g : Figures) where
   pub join-better : (t : Bool) → t ≡ betterOf f g → t ≡ true

@@ -1,5 +1,5 @@
 -- The figures of a group of bodies, told from the list of all levels, and two groups joined (document 02, wish 12). Assumes nothing.
-use Prim.Native.Nat.{ℕ, _+_, _-_, _<_, max}
+use Prim.Native.Nat.{ℕ, _+_, _-_, max}
 use mathlib.Core.Bool.{Bool, true, false, cond, not, _&&_, _||_}
 use mathlib.Core.List.{List, [], _∷_}
 use lib.Dec.{eqb, ltb}
@@ -64,13 +64,6 @@ joinOf f g =
       body = cond t (f .bodies + g .body) (f .body);
       at = cond t (g .at) (f .at);
     }
-
--- no total passes 64 bits
-pub record Sums (f g : Figures) : Type 0 where
-  pub bodies : f .bodies + g .bodies < 18446744073709551616
-  pub levels : f .levels + g .levels < 18446744073709551616
-  pub kept : f .kept + g .kept < 18446744073709551616
-  pub body : f .bodies + g .body < 18446744073709551616
 
 -- 13 where a total would pass 64 bits: 1 bodies, 2 levels, 3 kept registers; 4 the body's number, moved up
 abbrev pub most : ℕ

@@ -1,6 +1,7 @@
 // The figures of groups of bodies, and two groups as one (document 02, wish 12).
 ghost use mathlib.Core.Path.{_≡_};
-ghost use Rattle.groups.specs.Groups.{Sums, joinOf, betterOf, sumsOf};
+ghost use Rattle.groups.specs.Groups.{joinOf, betterOf, sumsOf};
+ghost use Rattle.groups.specs.Inner.{Sums};
 use code::Refusal;
 
 // What is known of a group of bodies: how many, their levels, the registers that these keep, the longest list, and the body and position where

@@ -19,10 +19,12 @@ use Rattle.flow.specs.Flow.{Flow}
 use Rattle.flow.specs.Sweep.{row, Found}
 use Rattle.flow.specs.Words.{value, rowsOf, Small}
 use Rattle.steps.specs.Code.{flow}
-use Rattle.rows.specs.Route.{wordsFor, routeStart, rowsIn, Rows}
+use Rattle.rows.specs.Route.{wordsFor, routeStart, rowsIn}
+use Rattle.rows.specs.Inner.{Rows}
 use Rattle.rows.proofs.Routes.{words-few, words-enough}
 use Rattle.rows.proofs.Least.{rows-regs}
-use Rattle.kept.specs.Lists.{listsTo, offsetsTo, over, Width, LevelsRoom, Filled}
+use Rattle.kept.specs.Lists.{listsTo, offsetsTo, over}
+use Rattle.kept.specs.Inner.{Width, LevelsRoom, Filled}
 use Rattle.kept.specs.Answers.{scratchFor, stagesOf, RowsLeft, ListsLeft, Outcome, refused, short, told}
 use Rattle.kept.specs.declared.KeptAnswer.{KeptAnswer}
 use Rattle.kept.specs.declared.KeptAnswer.the-variants.{Is, No}

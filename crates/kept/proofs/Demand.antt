@@ -9,7 +9,7 @@ use lib.Dec.{ltb}
 use lib.ListN.{length}
 use Rattle.laws.specs.Walk.{first}
 use Rattle.code.specs.Ins.{insAt, count}
-use Rattle.code.specs.Check.{Valid}
+use Rattle.code.specs.Inner.{Valid}
 use Rattle.flow.specs.Flow.{Flow}
 use Rattle.flow.specs.Sweep.{row}
 use Rattle.flow.specs.Kept.{Level, kept}
@@ -19,7 +19,8 @@ use Rattle.flow.proofs.Demand.{none-spare}
 use Rattle.flow.proofs.Kept.{kept-once}
 use Rattle.steps.specs.Level.{isLevel, firstLevel}
 use Rattle.steps.specs.Code.{flow}
-use Rattle.rows.specs.Route.{routeStart, rowsIn, Rows}
+use Rattle.rows.specs.Route.{routeStart, rowsIn}
+use Rattle.rows.specs.Inner.{Rows}
 use Rattle.rows.proofs.Sweeps.{level-le}
 use Rattle.kept.specs.Level.{resumeOf, resultOf, levelOf, keptAt}
 use Rattle.kept.specs.Lists.{listsTo, offsetsTo, over, partAt}

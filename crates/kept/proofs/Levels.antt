@@ -15,15 +15,16 @@ use Rattle.roles.specs.Sets.{only}
 use Rattle.flow.specs.Set.{minus, alone}
 use Rattle.flow.specs.Flow.{joined}
 use Rattle.flow.specs.Sweep.{row}
-use Rattle.flow.specs.Listed.{listed, Listing}
-use Rattle.flow.specs.Words.{value, rowsOf, Holds}
+use Rattle.flow.specs.Listed.{listed}
+use Rattle.flow.specs.Inner.{Listing, Holds}
+use Rattle.flow.specs.Words.{value, rowsOf}
 use Rattle.flow.specs.Kept.{handlersOf, added, kept}
 use Rattle.flow.proofs.Words.{as-set, holds-none}
 use Rattle.flow.proofs.Buffer.{row-inside, rows-at}
 use Rattle.flow.proofs.Written.{listing-append}
 use Rattle.steps.specs.Code.{setOf}
 use Rattle.kept.specs.Level.{resumeOf, resultOf, levelOf, Goes}
-use Rattle.kept.specs.Lists.{LevelsRoom}
+use Rattle.kept.specs.Inner.{LevelsRoom}
 use Rattle.steps.proofs.Resume.{resume-in}
 use Rattle.lists.proofs.Less.{scaled}
 use Rattle.lists.proofs.Walks.{listed-le}

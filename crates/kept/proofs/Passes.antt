@@ -11,15 +11,16 @@ use mir.Val.{Fits}
 use lib.ListN.{length, set, length-append, length-set}
 use lib.Seq.{paste}
 use Rattle.code.specs.Ins.{insAt, count}
-use Rattle.code.specs.Check.{Valid}
+use Rattle.code.specs.Inner.{Valid}
 use Rattle.code.specs.declared.Ins.{Ins}
 use Rattle.flow.specs.Sweep.{row}
-use Rattle.flow.specs.Listed.{Listing}
+use Rattle.flow.specs.Inner.{Listing}
 use Rattle.flow.specs.Kept.{kept}
 use Rattle.flow.proofs.Written.{written-start, written-end}
 use Rattle.steps.specs.Level.{isLevel}
 use Rattle.kept.specs.Level.{levelOf, keptAt}
-use Rattle.kept.specs.Lists.{listsTo, offsetsTo, over, LevelsRoom, Filled}
+use Rattle.kept.specs.Lists.{listsTo, offsetsTo, over}
+use Rattle.kept.specs.Inner.{LevelsRoom, Filled}
 use Rattle.kept.proofs.Over.{over-long, over-paste, over-set}
 
 -- ---- one position

@@ -10,7 +10,8 @@ use borrow.Author.Needs.{fits-under}
 use mir.Syntax.{w64}
 use mir.Val.{Fits}
 use Rattle.code.specs.Ins.{count}
-use Rattle.code.specs.Check.{Valid, checkOf, registersOf, triedOf, roomOf}
+use Rattle.code.specs.Check.{checkOf, registersOf, triedOf, roomOf}
+use Rattle.code.specs.Inner.{Valid}
 use Rattle.code.specs.declared.Refusal.{Refusal}
 use Rattle.code.specs.declared.Checked.{Checked}
 use Rattle.code.specs.declared.Checked.the-variants.{Count, No}

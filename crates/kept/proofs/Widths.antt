@@ -10,7 +10,7 @@ use lib.Bits.{bitOr}
 use lib.ListN.{length, take, drop}
 use lib.Seq.{take-append-seam}
 use Rattle.code.specs.Ins.{insAt, count}
-use Rattle.code.specs.Check.{Valid}
+use Rattle.code.specs.Inner.{Valid}
 use Rattle.flow.specs.Set.{minus}
 use Rattle.flow.specs.Sweep.{row, startOf}
 use Rattle.flow.specs.Listed.{listed}
@@ -19,7 +19,8 @@ use Rattle.flow.proofs.Answer.{found-agree, start-le}
 use Rattle.flow.proofs.Tries.{handlers-past}
 use Rattle.steps.specs.Level.{isLevel}
 use Rattle.steps.specs.Code.{flow}
-use Rattle.rows.specs.Route.{routeStart, rowsIn, Rows}
+use Rattle.rows.specs.Route.{routeStart, rowsIn}
+use Rattle.rows.specs.Inner.{Rows}
 use Rattle.kept.specs.Level.{resumeOf, levelOf, keptAt}
 use Rattle.kept.specs.Lists.{listsTo, offsetsTo, over}
 use Rattle.kept.specs.Answers.{Outcome}

@@ -32,10 +32,6 @@ pub record RowsLeft (f : Flow) (start bits regs : ℕ) (w old new : List ℕ) (f
   pub long : length new ≡ length old
   pub past : drop (scratchFor bits regs w) new ≡ drop (scratchFor bits regs w) old
 
--- document 01's equations, from where its route begins
-abbrev pub Scratch : ℕ → Bool → ℕ → (w old new : List ℕ) (full abandoned : ℕ) → Type 0
-Scratch bits wide regs w old new full abandoned = RowsLeft (flow regs w) (routeStart bits wide regs w) bits regs w old new full abandoned
-
 module _ (bits : ℕ) (w : List ℕ) (regs : ℕ) (tries : List ℕ) where
   -- the flat list, by the rows in the scratch
   abbrev pub listOf : List ℕ → List ℕ

@@ -8,7 +8,8 @@ use Rattle.flow.specs.Sweep.{row}
 use Rattle.flow.specs.Kept.{Level, handlersOf, kept}
 use Rattle.steps.specs.Level.{isLevel}
 unfoldable pub use Rattle.steps.specs.Resume.{resumeOf, resultAt}
-pub use Rattle.steps.specs.Resume.{noRegister, Goes}
+pub use Rattle.steps.specs.Resume.{noRegister}
+pub use Rattle.steps.specs.Inner.{Goes}
 
 -- the result register as a set of at most one
 abbrev pub resultOf : ℕ → List ℕ → ℕ → ℕ

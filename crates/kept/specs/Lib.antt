@@ -1,3 +1,4 @@
 pub mod Level
 pub mod Lists
 pub mod Answers
+pub mod Inner

@@ -2,7 +2,7 @@
 ghost use mathlib.Core.Path.{_≡_};
 ghost use Prim.Native.Nat.{_-_, _<_};
 ghost use lib.ListN.{length};
-ghost use Rattle.code.specs.Check.{Whole};
+ghost use Rattle.code.specs.Inner.{Whole};
 ghost use Rattle.roles.specs.Roles.{roleTable};
 ghost use Rattle.laid.specs.Section.{stackWork, jumpFits, plainFits, yieldFits, fits, laidAt, laid};
 ghost use Rattle.laid.specs.Answers.{pureAnswer};

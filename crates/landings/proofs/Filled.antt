@@ -17,7 +17,8 @@ use Rattle.laws.proofs.Each.{each-word, each-at}
 use Rattle.laws.proofs.Table.{fill-on}
 use Rattle.lent.specs.Chunk.{chunkCount, operandAt, marksJump}
 use Rattle.lent.proofs.Counting.{zeros-at}
-use Rattle.landings.specs.Landings.{handlerAt, jumpLands, handlerLands, landingsAt, landingsOf, bumped, Counts, FewAt, Zeros, Jumped, Handled}
+use Rattle.landings.specs.Landings.{handlerAt, jumpLands, handlerLands, landingsAt, landingsOf}
+use Rattle.landings.specs.Inner.{bumped, Counts, FewAt, Zeros, Jumped, Handled}
 
 -- ---- all 0
 

@@ -1,10 +1,10 @@
 -- Where a chunk's jumps and handlers land: document 02, wishes 2 and 10. Assumes nothing.
-use Prim.Native.Nat.{ℕ, _+_, _*_, _/_, _<_, _≤_}
+use Prim.Native.Nat.{ℕ, _+_, _*_, _/_}
 use mathlib.Core.Path.{_≡_}
-use mathlib.Core.Bool.{Bool, false, cond, _&&_, _||_}
+use mathlib.Core.Bool.{Bool, false, _&&_, _||_}
 use mathlib.Core.List.{List, [], _∷_}
 use lib.Dec.{eqb, ltb, leb}
-use lib.ListN.{length, getD, set}
+use lib.ListN.{length, getD}
 use Rattle.laws.specs.All.{many}
 use Rattle.laws.specs.Some.{some}
 use Rattle.laws.specs.Each.{each}
@@ -31,32 +31,6 @@ landingsAt w tries t = many (jumpLands w t) (chunkCount w) + many (handlerLands 
 unfoldable pub landingsOf : List ℕ → List ℕ → List ℕ
 unfolding landingsAt
 landingsOf w tries = each (λ t. landingsAt w tries t ∷ []) (chunkCount w + 1)
-
--- one landing more on t; one beyond n is not counted
-unfoldable pub bumped : List ℕ → ℕ → List ℕ
-bumped l t = cond (ltb t (length l)) (set l t (getD l t 0 + 1)) l
-
--- a table of m counts
-pub record Counts (l : List ℕ) (m : ℕ) (f : ℕ → ℕ) : Type 0 where
-  pub long : length l ≡ m
-  pub each : (t : ℕ) → t < m → getD l t 0 ≡ f t
-
--- no count above b
-pub record FewAt (l : List ℕ) (b : ℕ) : Type 0 where
-  pub each : (t : ℕ) → getD l t 0 ≤ b
-
--- m zeros
-pub record Zeros (l : List ℕ) (m : ℕ) : Type 0 where
-  pub long : length l ≡ m
-  pub low : FewAt l 0
-
--- the first k instructions counted, on top of l₀
-pub record Jumped (w l₀ l : List ℕ) (k : ℕ) : Type 0 where
-  pub counts : Counts l (length l₀) (λ t. getD l₀ t 0 + many (jumpLands w t) k)
-
--- the first k tries
-pub record Handled (tries l₀ l : List ℕ) (k : ℕ) : Type 0 where
-  pub counts : Counts l (length l₀) (λ t. getD l₀ t 0 + many (handlerLands tries t) k)
 
 -- any jump of the chunk lands there
 unfoldable pub landsAny : List ℕ → ℕ → ℕ → Bool

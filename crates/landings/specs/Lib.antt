@@ -1,2 +1,3 @@
 pub mod Landings
 pub mod Latest
+pub mod Inner

@@ -4,7 +4,8 @@ ghost use mathlib.Core.Bool.{cond};
 ghost use Prim.Native.Nat.{_+_, _*_, _/_, _^_, _<_, _≤_};
 ghost use lib.ListN.{length, getD};
 ghost use Rattle.lent.specs.Chunk.{chunkCount};
-ghost use Rattle.landings.specs.Landings.{landingsOf, bumped, FewAt, Zeros, Jumped, Handled};
+ghost use Rattle.landings.specs.Landings.{landingsOf};
+ghost use Rattle.landings.specs.Inner.{bumped, FewAt, Zeros, Jumped, Handled};
 ghost use Rattle.landings.specs.Latest.{isLanding};
 use lent::STRIDE;
 

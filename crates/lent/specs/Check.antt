@@ -1,8 +1,8 @@
 -- The refusals of a lent chunk, in document 01's order of test. Assumes nothing.
 use Prim.Native.Nat.{ℕ, _+_, _*_, _%_, _/_, min, max}
-use mathlib.Core.Bool.{Bool, false, cond, not, _&&_, _||_}
+use mathlib.Core.Bool.{Bool, cond, not, _||_}
 use mathlib.Core.List.{List}
-use lib.Dec.{leb, ltb, eqb}
+use lib.Dec.{ltb, eqb}
 use lib.ListN.{length}
 use Rattle.laws.specs.Walk.{first}
 use Rattle.laws.specs.All.{many}
@@ -55,12 +55,6 @@ constantRoom constants folding = max constants (min 65535 (constants + folding))
 -- phi_sources for max(pairs, Phis in the chunk), in words
 abbrev pub sourceRoom : ℕ → ℕ → ℕ
 sourceRoom sources phis = 2 * max (sources / 2) phis
-
--- room for any chunk of n instructions
-unfoldable pub ample : ℕ → Counts → Lens → Bool
-ample n c l =
-    cond (ltb 65536 (c .constants)) false
-    (leb (c .constants + n) (l .kinds) && leb (c .constants + n) (l .words) && (leb n (l .map) && leb n (l .sources / 2) && leb (c .sources) (l .sources)) && leb n (l .dead) && ltb n (l .remap))
 
 -- 5: the first buffer too short, of constant kinds, constant words, phi_map, phi_sources, dead marks, remap
 unfoldable pub roomsOf : Checked → List ℕ → Counts → Lens → Checked

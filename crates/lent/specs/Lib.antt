@@ -1,3 +1,4 @@
 pub mod Chunk
 pub mod Tables
 pub mod Check
+pub mod Inner

@@ -2,7 +2,7 @@
 ghost use mathlib.Core.Path.{_≡_};
 ghost use Prim.Native.Nat.{_<_};
 ghost use Rattle.code.specs.Ins.{count};
-ghost use Rattle.code.specs.Check.{Valid};
+ghost use Rattle.code.specs.Inner.{Valid};
 ghost use Rattle.levels.specs.Answers.{levelTold, levelAnswer};
 use code::Answer;
 use code::Checked;

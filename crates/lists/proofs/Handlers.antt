@@ -13,8 +13,9 @@ use lib.ListN.{length, getD, drop, length-append, length-drop}
 use Rattle.flow.specs.Set.{minus}
 use Rattle.flow.specs.Flow.{joined}
 use Rattle.flow.specs.Sweep.{row}
-use Rattle.flow.specs.Listed.{listed, keep, Listing}
-use Rattle.flow.specs.Words.{value, rowsOf, Small, Holds}
+use Rattle.flow.specs.Listed.{listed, keep}
+use Rattle.flow.specs.Inner.{Listing, Holds}
+use Rattle.flow.specs.Words.{value, rowsOf, Small}
 use Rattle.flow.specs.Kept.{Level, handlersOf, added, kept}
 use Rattle.flow.proofs.Bits.{bit-ext, bit-lt, or-bit, minus-bit, low-bit, half-bit, minus-lt}
 use Rattle.flow.proofs.Listed.{listed-wide}

@@ -11,7 +11,8 @@ use mir.Val.{Fits}
 use lib.Bits.{bitAnd}
 use lib.ListN.{length, getD, take, drop, set, replicate, length-set, length-replicate}
 use Rattle.flow.specs.Set.{minus}
-use Rattle.flow.specs.Words.{value, Small, Holds}
+use Rattle.flow.specs.Words.{value, Small}
+use Rattle.flow.specs.Inner.{Holds}
 use Rattle.flow.proofs.Bits.{and-not, bit-ext, bit-zero, minus-bit}
 use Rattle.flow.proofs.Rows.{zeros-at}
 use Rattle.flow.proofs.Words.{holds-minus}

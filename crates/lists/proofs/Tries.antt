@@ -12,8 +12,9 @@ use lib.ListN.{length, take, drop}
 use Rattle.flow.specs.Set.{minus}
 use Rattle.flow.specs.Flow.{joined}
 use Rattle.flow.specs.Sweep.{row}
-use Rattle.flow.specs.Listed.{listed, Listing}
-use Rattle.flow.specs.Words.{value, rowsOf, Small, Holds}
+use Rattle.flow.specs.Listed.{listed}
+use Rattle.flow.specs.Inner.{Listing, Holds}
+use Rattle.flow.specs.Words.{value, rowsOf, Small}
 use Rattle.flow.specs.Kept.{handlersOf, added}
 use Rattle.flow.proofs.Words.{as-set}
 use Rattle.flow.proofs.Buffer.{row-inside, rows-at}

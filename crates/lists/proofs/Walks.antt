@@ -10,7 +10,8 @@ use mir.Val.{Fits}
 use lib.Bits.{bitAnd}
 use lib.Count.{trailingZeros, ones}
 use lib.ListN.{length, getD, set, length-append}
-use Rattle.flow.specs.Listed.{listed, keep, Listing}
+use Rattle.flow.specs.Listed.{listed, keep}
+use Rattle.flow.specs.Inner.{Listing}
 use Rattle.flow.specs.Words.{value, Small}
 use Rattle.flow.proofs.Listed.{walk, walk-less, walk-small, listed-none, listed-ones, onward, onward-start, onward-next, onward-end}
 use Rattle.flow.proofs.Written.{Written, written-start, written-as, written-long, written-room, written-more, written-next, written-one, written-end}

@@ -9,8 +9,9 @@ ghost use lib.Dec.{ltb};
 ghost use Rattle.flow.specs.Set.{minus};
 ghost use Rattle.flow.specs.Flow.{joined};
 ghost use Rattle.flow.specs.Sweep.{row};
-ghost use Rattle.flow.specs.Listed.{listed, Listing};
-ghost use Rattle.flow.specs.Words.{value, rowsOf, Small, Holds};
+ghost use Rattle.flow.specs.Listed.{listed};
+ghost use Rattle.flow.specs.Inner.{Listing, Holds};
+ghost use Rattle.flow.specs.Words.{value, rowsOf, Small};
 ghost use Rattle.flow.specs.Kept.{handlersOf, added};
 
 // The row that starts at `at`, less a set.

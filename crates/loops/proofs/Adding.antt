@@ -14,7 +14,8 @@ use Rattle.laws.proofs.Byte.{byte-small}
 use Rattle.laws.specs.All.{many}
 use Rattle.laws.specs.Table.{filledTo, clearedTo, Held}
 use Rattle.laws.proofs.Table.{filled-by, cleared-at, cleared-tail, cleared-length}
-use Rattle.loops.specs.Loops.{endOf, around, depth, Added, CanGrow, Space, Zeroed, Counted}
+use Rattle.loops.specs.Loops.{endOf, around, depth}
+use Rattle.loops.specs.Inner.{Added, CanGrow, Space, Zeroed, Counted}
 
 pub record Adding (m a b : ℕ) (out₀ out : List ℕ) (p : ℕ) : Type 0 where
   pub from : a ≤ p

@@ -1,17 +1,12 @@
 -- `loops_around` of block.rs: how many `for` loops a position lies inside, from a GetIter until its loop's step leaves. Assumes nothing.
-use Prim.Native.Nat.{ℕ, _+_, _-_, _/_, _<_, _≤_, min}
-use mathlib.Core.Path.{_≡_}
+use Prim.Native.Nat.{ℕ, _+_, _-_, min}
 use mathlib.Core.Bool.{Bool, cond, _&&_, _||_}
 use mathlib.Core.List.{List}
-use lib.Dec.{eqb, ltb, leb}
-use lib.ListN.{length, getD}
-use mir.Val.{boolByte}
+use lib.Dec.{eqb, ltb}
 use Rattle.laws.specs.All.{many}
-use Rattle.laws.specs.Table.{Held}
 use Rattle.laws.specs.Walk.{first}
 use Rattle.code.specs.Op.{GetIter, ForIterR, ForIter}
 use Rattle.code.specs.Ins.{insAt, count}
-use Rattle.code.specs.Check.{Whole}
 
 -- a `for` steps at k
 unfoldable pub stepAt : List ℕ → ℕ → Bool
@@ -36,30 +31,3 @@ around w p g = ltb g p && ltb p (endOf w g)
 -- the entry of p: how many GetIters have p in their loop
 unfoldable pub depth : List ℕ → ℕ → ℕ
 depth w p = many (around w p) (count w)
-
--- one more at each p from a on, below b, and nothing else changed
-pub record Added (m a b : ℕ) (out out′ : List ℕ) : Type 0 where
-  pub each : (p : ℕ) → p < m → getD out′ p 0 ≡ getD out p 0 + boolByte (leb a p && ltb p b)
-  pub held : Held m out out′
-
--- entries that can grow
-pub record CanGrow (m a b : ℕ) (out : List ℕ) : Type 0 where
-  pub inside : b ≤ m
-  pub fits : m ≤ length out
-  pub small : (p : ℕ) → p < m → getD out p 0 ≤ 65535
-
--- accepted code, with room for its entries
-pub record Space (w out : List ℕ) : Type 0 where
-  pub whole : Whole w
-  pub few : length w / 6 ≤ 65535
-  pub fits : length w / 6 + 1 ≤ length out
-
--- and all of them 0
-pub record Zeroed (w out : List ℕ) : Type 0 where
-  pub space : Space w out
-  pub zero : (p : ℕ) → p < length w / 6 + 1 → getD out p 0 ≡ 0
-
--- each entry holds its count, and nothing else changed
-pub record Counted (w out out′ : List ℕ) : Type 0 where
-  pub each : (p : ℕ) → p < length w / 6 + 1 → getD out′ p 0 ≡ depth w p
-  pub held : Held (length w / 6 + 1) out out′

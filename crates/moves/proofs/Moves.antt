@@ -19,7 +19,7 @@ use Rattle.flow.specs.Kept.{handlersOf}
 use Rattle.flow.proofs.Tries.{handlers-none}
 use Rattle.steps.specs.Code.{storeOf}
 use Rattle.steps.specs.Level.{isLevel}
-use Rattle.steps.specs.Step.{StepAt}
+use Rattle.steps.specs.Inner.{StepAt}
 use Rattle.steps.specs.declared.Step.{Step}
 use Rattle.moves.specs.Moves.{mayGo, badStep, firstStep}
 

@@ -15,7 +15,7 @@ use Rattle.laws.proofs.Some.{nowhere-yet, some-more}
 use Rattle.laws.proofs.Table.{cleared-tail, cleared-length, cleared-at}
 use Rattle.lent.specs.Chunk.{chunkCount, operandAt, names}
 use Rattle.named.specs.Unused.{namesIt, constantNamed}
-use Rattle.named.specs.Marks.{noted, NamedMarks}
+use Rattle.named.specs.Inner.{noted, NamedMarks}
 
 module _ (w : List ℕ) (m k : ℕ) (s : List ℕ) where
   noted-on : names w k ≡ true → ltb (operandAt w k) m ≡ true → noted w m k s ≡ set s (operandAt w k) 1

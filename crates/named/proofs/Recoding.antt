@@ -13,7 +13,7 @@ use Rattle.laws.proofs.Each.{each-more}
 use Rattle.laws.proofs.InPlace.{Walked, walk-none, walk-read, walk-put, walk-at, walk-as, walk-whole}
 use Rattle.lent.specs.Chunk.{stride, chunkCount, opAt, markAt, operandAt, originAt, names}
 use Rattle.named.specs.Unused.{renumbered, renamedOperand, insOf, recoded}
-use Rattle.named.specs.Marks.{LowNumbers, numberIn}
+use Rattle.named.specs.Inner.{LowNumbers, numberIn}
 
 -- in the code: o is the operand as it was read, v the same, t the mark
 module _ (s w : List ℕ) (m k v o : ℕ) (e : v ≡ o) (f : o ≡ operandAt w k) where

@@ -1,2 +1,2 @@
 pub mod Unused
-pub mod Marks
+pub mod Inner

@@ -5,7 +5,7 @@ ghost use lib.ListN.{length};
 ghost use Rattle.laws.specs.Table.{clearedTo};
 ghost use Rattle.lent.specs.Chunk.{stride, chunkCount};
 ghost use Rattle.named.specs.Unused.{renamedOperand, recoded};
-ghost use Rattle.named.specs.Marks.{noted, NamedMarks, LowNumbers, numberIn};
+ghost use Rattle.named.specs.Inner.{noted, NamedMarks, LowNumbers, numberIn};
 use lent::STRIDE;
 
 fn wide(x: u16) -> usize

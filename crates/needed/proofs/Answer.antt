@@ -20,7 +20,7 @@ use Rattle.steps.specs.Code.{usedAt, givenAt, afterAt, setOf, flow}
 use Rattle.needed.specs.Path.{Needs}
 use Rattle.needed.specs.Path as path
 use Rattle.paths.specs.Search.{Reach, here, later, Says}
-use Rattle.seek.specs.Asked.{usesAt, givesAt, Asked}
+use Rattle.seek.specs.Inner.{usesAt, givesAt, Asked}
 use Rattle.seek.proofs.Within.{next-after, after-next}
 use Rattle.needed.proofs.Rows.{row-needs, needs-row}
 

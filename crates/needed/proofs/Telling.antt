@@ -9,7 +9,8 @@ use lib.Dec.{ltb}
 use lib.ListN.{length}
 use Rattle.laws.specs.Table.{clearedTo}
 use Rattle.laws.proofs.Table.{cleared-length}
-use Rattle.code.specs.Check.{checkOf, registersOf, roomOf, Valid}
+use Rattle.code.specs.Check.{checkOf, registersOf, roomOf}
+use Rattle.code.specs.Inner.{Valid}
 use Rattle.code.specs.declared.Refusal.{Refusal}
 use Rattle.code.specs.declared.Refusal.the-variants.{Position}
 use Rattle.code.specs.declared.Checked.{Checked}
@@ -18,9 +19,10 @@ use Rattle.code.proofs.Checks.{counted, checked}
 use Rattle.code.proofs.Stages.{regs-before, room-before, room-there}
 use Rattle.steps.specs.Code.{flow}
 use Rattle.needed.specs.Path.{Needs}
-use Rattle.paths.specs.Search.{Says, Searched, SearchSettles}
+use Rattle.paths.specs.Search.{Says, SearchSettles}
+use Rattle.paths.specs.Inner.{Searched}
 use Rattle.paths.proofs.Between.{settles}
-use Rattle.seek.specs.Asked.{Asked, AskedRoom}
+use Rattle.seek.specs.Inner.{Asked, AskedRoom}
 use Rattle.needed.specs.Answers.{uptoOf}
 use Rattle.needed.proofs.Answer.{asked-needs, needs-asked, never-past}
 

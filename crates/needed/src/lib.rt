@@ -6,7 +6,7 @@ ghost use Rattle.steps.specs.Code.{flow};
 ghost use Rattle.needed.specs.Path.{Needs};
 ghost use Rattle.needed.specs.Answers.{uptoOf, NeededTold};
 ghost use Rattle.paths.specs.Search.{SearchSettles};
-ghost use Rattle.seek.specs.Asked.{AskedRoom};
+ghost use Rattle.seek.specs.Inner.{AskedRoom};
 use code::Answer;
 use code::Checked;
 use code::Refusal;

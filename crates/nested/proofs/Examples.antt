@@ -22,7 +22,8 @@ use Rattle.kept.specs.Level.{resumeOf, resultAt, levelOf}
 use Rattle.nested.specs.Machine.{Event, step, back, thrown, nested, undisturbed, Spares, Sheltered}
 use Rattle.nested.specs.Raising.{raisesAt, raising, levels, mays, argsAt, frame}
 use Rattle.nested.specs.Exposed.{exposed}
-use Rattle.nested.specs.Bodies.{body, tries, untidy}
+use Rattle.nested.specs.Bodies.{body, tries}
+use Rattle.nested.specs.Inner.{untidy}
 
 abbrev pub rows : List ℕ
 rows = 0 ∷ 0 ∷ 17 ∷ 0 ∷ 2 ∷ 18 ∷ 18 ∷ 0 ∷ 4 ∷ 32 ∷ 0 ∷ []

@@ -5,7 +5,7 @@ use mathlib.Core.List.{List, [], _∷_}
 use Prim.Native.Nat.{ℕ, _≤_, _<_}
 use native.Mathlib.Omega.{arith}
 use Rattle.code.specs.Ins.{insAt, count}
-use Rattle.code.specs.Check.{Valid}
+use Rattle.code.specs.Inner.{Valid}
 use Rattle.flow.specs.Sweep.{row, startOf, Found}
 use Rattle.flow.specs.Kept.{Level, kept}
 use Rattle.flow.specs.Demand.{Keeps, Lost, Once}

@@ -14,7 +14,8 @@ use Rattle.flow.specs.Set.{bit}
 use Rattle.flow.specs.Flow.{reach, rowAt}
 use Rattle.flow.specs.Run.{valuesOf, wrote, rewritten, fileAfter, chosen}
 use Rattle.flow.specs.Kept.{Level, kept}
-use Rattle.nested.specs.Machine.{Frame, Event, step, back, thrown, readAt, nextAt, fileAt, nested, undisturbed, Spares, Sheltered, Shelters}
+use Rattle.nested.specs.Machine.{Frame, Event, step, back, thrown, readAt, nextAt, fileAt, nested, undisturbed, Spares, Sheltered}
+use Rattle.nested.specs.Inner.{Shelters}
 use Rattle.flow.proofs.Bits.{bit-zero}
 use Rattle.flow.proofs.Rows.{In, joined-in, rowAt-bit}
 use Rattle.flow.proofs.Members.{listed-only}

@@ -6,7 +6,7 @@ use Prim.Native.Nat.{ℕ, _+_, _≤_, _<_}
 use native.Mathlib.Omega.{arith}
 use lib.Bits.{bitOr}
 use Rattle.code.specs.Ins.{insAt, count}
-use Rattle.code.specs.Check.{Valid}
+use Rattle.code.specs.Inner.{Valid}
 use Rattle.roles.specs.Sets.{only}
 use Rattle.flow.specs.Set.{minus}
 use Rattle.flow.specs.Flow.{joined, onto, rowAt, Solution, Closed}

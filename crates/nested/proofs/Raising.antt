@@ -12,7 +12,7 @@ use lib.ListN.{take}
 use Rattle.laws.proofs.Branch.{or-false}
 use Rattle.code.specs.Op.{JumpIfFalseR, GetAttrR, Call, ArgsR, Jump, ReturnR, CallGlobalR, CallR, CallMethodR, CallSpreadR, StoreTopR, UnpackR, WithEnter, WithExit, WithJudge, ForIterR}
 use Rattle.code.specs.Ins.{insAt, count, isCall, wide, dunder}
-use Rattle.code.specs.Check.{Valid}
+use Rattle.code.specs.Inner.{Valid}
 use Rattle.code.specs.declared.Ins.{Ins}
 use Rattle.code.proofs.Rules.{args-follow, wide-call}
 use Rattle.roles.specs.Kinds.{page, ruleOf, kindsOf, hasRole, isJump, has, dest, abc, bc, firstOf}
@@ -26,11 +26,12 @@ use Rattle.flow.proofs.Bits.{bit-lt, bit-zero, bit-ext, or-bit}
 use Rattle.flow.proofs.Rows.{In, joined-in, onto-bit, rowAt-bit}
 use Rattle.flow.proofs.Tries.{handlers-past}
 use Rattle.steps.specs.Code.{storeOf, idle, setOf, usedAt, givenAt, afterAt}
-use Rattle.steps.specs.Calm.{rowUnread}
+use Rattle.steps.specs.Inner.{rowUnread}
 use Rattle.steps.specs.Level.{isLevel}
 use Rattle.kept.specs.Level.{resumeOf, noRegister, resultAt, levelOf}
 use Rattle.steps.proofs.Resume.{resume-in}
-use Rattle.nested.specs.Machine.{Frame, Shelters}
+use Rattle.nested.specs.Machine.{Frame}
+use Rattle.nested.specs.Inner.{Shelters}
 use Rattle.nested.specs.Raising.{stranded, raisesAt, raising, levels, argsAt, frame}
 
 -- ---- opcodes

@@ -28,7 +28,3 @@ tries = 5 ∷ 9 ∷ []
 abbrev pub raised : List ℕ
 raised = unmarked LoadGlobalR 5 1 0 ++ unmarked CallGlobalR 4 0 0 ++ unmarked StoreTopR 1 0 0 ++ unmarked SetupExcept 6 0 0 ++ unmarked Raise 0 0 0 ++ unmarked ReturnR 0 1 0 ++ unmarked ReturnR
     0 5 0
-
--- a mark that is not tidy: 0 CallGlobalR; 1 StoreTopR a0; 2 ReturnR b0 with the dunder mark, a level that resumes at 3; 3 ReturnR b2
-abbrev pub untidy : List ℕ
-untidy = unmarked CallGlobalR 0 0 0 ++ unmarked StoreTopR 0 0 0 ++ (ReturnR ∷ 2 ∷ 0 ∷ 0 ∷ 0 ∷ 0 ∷ []) ++ unmarked ReturnR 0 2 0

@@ -4,21 +4,14 @@ use mathlib.Core.Path.{_≡_}
 use mathlib.Core.Logic.{_≢_}
 use mathlib.Core.Bool.{cond}
 use mathlib.Core.List.{List, [], _∷_}
-use lib.ListN.{length}
 use Rattle.laws.specs.Page.{among}
 use Rattle.flow.specs.Set.{bit}
-use Rattle.kept.specs.Lists.{over}
 use Rattle.nested.specs.Machine.{Frame, Event, nested, undisturbed, Spares}
 
 -- those of a list that another has not, in order
 unfoldable pub exposed : List ℕ → List ℕ → List ℕ
 exposed plain [] = []
 exposed plain (r ∷ l) = cond (among r plain) (exposed plain l) (r ∷ exposed plain l)
-
--- what is exposed of a list stands at the front of a lent buffer, words past it as lent; and how many there are
-pub record Exposes (plain list old out : List ℕ) (n : ℕ) : Type 0 where
-  pub many : n ≡ length (exposed plain list)
-  pub put : out ≡ over (exposed plain list) old
 
 -- A run that tells: only r is overwritten, only at k, and no register of the other lists.
 pub record ToldApart (c : Frame) (plain : ℕ → List ℕ) (k r : ℕ) : Type 0 where

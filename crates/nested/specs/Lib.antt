@@ -2,3 +2,4 @@ pub mod Machine
 pub mod Raising
 pub mod Exposed
 pub mod Bodies
+pub mod Inner

@@ -1,14 +1,14 @@
 -- The machine of nested frames: at every level a callee may overwrite what is not kept, and return or raise. Assumes nothing.
 use mathlib.Core.Path.{_≡_}
-use mathlib.Core.Bool.{Bool, true, false, cond}
+use mathlib.Core.Bool.{Bool, true, cond}
 use mathlib.Core.List.{List, [], _∷_, List·Memᴰ}
-use Prim.Native.Nat.{ℕ, _≤_, _<_, max}
+use Prim.Native.Nat.{ℕ, _<_}
 use lib.Dec.{ltb}
 use lib.ListN.{getD}
 use Rattle.flow.specs.Set.{bit}
-use Rattle.flow.specs.Flow.{Flow, Solution, Closed}
+use Rattle.flow.specs.Flow.{Flow}
 use Rattle.flow.specs.Run.{valuesOf, wrote, fileAfter, chosen}
-use Rattle.flow.specs.Kept.{Level, kept}
+use Rattle.flow.specs.Kept.{Level}
 
 -- Code with its levels: which positions are levels, where each goes on, and the registers that a call there reads as it begins.
 pub record Frame : Type 0 where
@@ -63,15 +63,3 @@ Spares c lists lost = (k r : ℕ) → k < c .flow .size → c .level k ≡ true 
 abbrev pub Sheltered : Frame → (ℕ → List ℕ) → Type 0
 Sheltered c lists =
     (lost : ℕ → ℕ) → Spares c lists lost → (events : List Event) (k : ℕ) (file : List ℕ) → nested c lost events k file ≡ nested c undisturbed events k file
-
--- Rows that shelter: they solve the equations of the code, and a level's row has what its call reads, what its handlers want, and what its
--- resume point wants, less the result. Below the start there is no level.
-pub record Shelters (c : Frame) (start : ℕ) (R : ℕ → ℕ) : Type 0 where
-  pub inside : start ≤ c .flow .size
-  pub early : (k : ℕ) → k < start → c .level k ≡ false
-  pub closed : Closed (c .flow) start
-  pub solves : Solution (c .flow) start R
-  pub calls : (k r : ℕ) → start ≤ k → k < c .flow .size → c .level k ≡ true → bit (c .args k) r ≤ bit (R k) r
-  pub resumes : (k r : ℕ) → start ≤ k → k < c .flow .size → c .level k ≡ true
-      → (start ≤ c .goes k .resume) × (bit (R (c .goes k .resume)) r ≤ max (bit (c .goes k .result) r) (bit (R k) r))
-  pub catches : (k r h : ℕ) → start ≤ k → k < c .flow .size → c .level k ≡ true → List·Memᴰ h (c .goes k .handlers) → (start ≤ h) × (bit (R h) r ≤ bit (R k) r)

@@ -11,10 +11,11 @@ use lib.ListN.{length, getD}
 use Rattle.laws.specs.Walk.{first}
 use Rattle.laws.proofs.Walk.{none-passed}
 use Rattle.code.specs.Ins.{insAt, count}
-use Rattle.code.specs.Check.{Valid}
+use Rattle.code.specs.Inner.{Valid}
 use Rattle.code.specs.declared.Ins.{Ins}
 use Rattle.steps.specs.Level.{isLevel}
-use Rattle.offsets.specs.Offsets.{wrong, firstWrong, Right}
+use Rattle.offsets.specs.Offsets.{wrong, firstWrong}
+use Rattle.offsets.specs.Inner.{Right}
 
 module _ (w o : List ℕ) (len k here : ℕ) (h : here ≡ getD o k 0) where
   pub wrong-in : (next : ℕ) → next ≡ getD o (k + 1) 0 → (i : Ins) → i ≡ insAt w k → (level : Bool) → level ≡ isLevel i → k < count w

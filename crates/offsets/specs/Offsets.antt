@@ -1,13 +1,11 @@
 -- Whether offsets and a list fit code (document 02, wish 12: refusal 15). Assumes nothing.
-use Prim.Native.Nat.{ℕ, _+_, _<_, _≤_}
-use mathlib.Core.Path.{_≡_}
-use mathlib.Core.Bool.{Bool, false, cond, not, _&&_, _||_}
+use Prim.Native.Nat.{ℕ, _+_}
+use mathlib.Core.Bool.{Bool, cond, not, _&&_, _||_}
 use mathlib.Core.List.{List}
 use lib.Dec.{eqb, ltb}
-use lib.ListN.{length, getD}
+use lib.ListN.{getD}
 use Rattle.laws.specs.Walk.{first}
 use Rattle.code.specs.Ins.{insAt, count}
-use Rattle.code.specs.Check.{Valid}
 use Rattle.steps.specs.Level.{isLevel}
 
 -- 15: offsets run from 0 to the list's length and never fall, and a place that is no level has no list
@@ -21,11 +19,3 @@ wrong w o len k =
 -- the first place that breaks this, else n + 1
 unfoldable pub firstWrong : List ℕ → List ℕ → ℕ → ℕ
 firstWrong w o len = first (wrong w o len) 0 (count w + 1)
-
--- offsets that break nothing
-pub record Right (w o : List ℕ) : Type 0 where
-  pub valid : Valid w
-  pub long : count w < length o
-  pub start : getD o 0 0 ≡ 0
-  pub rise : (k : ℕ) → k < count w → getD o k 0 ≤ getD o (k + 1) 0
-  pub idle : (k : ℕ) → k < count w → isLevel (insAt w k) ≡ false → getD o (k + 1) 0 ≡ getD o k 0

@@ -9,7 +9,7 @@ use lib.ListN.{getD}
 use borrow.Author.Tests.{eq-eqb, ne-eqb, lt-ltb, eqb-true}
 use Rattle.code.specs.Op.{LoadConst}
 use Rattle.lent.specs.Chunk.{opAt, operandAt, marksJump, lands}
-use Rattle.values.specs.Folds.{SoundInt}
+use Rattle.values.specs.Inner.{SoundInt}
 use Rattle.values.specs.declared.Val.{Val}
 use Rattle.values.specs.declared.Maybe.{Maybe}
 use Rattle.values.specs.declared.Maybe.the-variants.{Is, Nothing}

@@ -27,7 +27,8 @@ use Rattle.lent.specs.Check.{unevenChunk, firstBadOf, chunkCheckOf, tablesOf, t
 use Rattle.lent.specs.declared.Counts.{Counts}
 use Rattle.lent.specs.declared.Lens.{Lens}
 use Rattle.lent.proofs.Kept.{few}
-use Rattle.optimizer.specs.Fold.{Buffers, lensOf, FoldRoom}
+use Rattle.optimizer.specs.Fold.{Buffers, lensOf}
+use Rattle.optimizer.specs.Inner.{FoldRoom}
 use Rattle.optimizer.proofs.Ruled.{ruled-of}
 
 never : {A : Type 0} (n : ℕ) (r : Refusal) → Count n ≡ No r → A

@@ -27,7 +27,8 @@ use Rattle.positions.proofs.Mapped.{map-out, pair-kept, moved-long, moved-at}
 use Rattle.phi_pass.specs.Phi.{marked}
 use Rattle.phi_pass.proofs.Pairs.{marked-length}
 use Rattle.finish.specs.Finish.{Tables, tables, mapOf, sourcesOf, renewed, finished}
-use Rattle.optimizer.specs.Fold.{Buffers, needed, foldPass, constantFold, joinedBuffers, foldLent, Called, rejoined, foldCall, Exact}
+use Rattle.optimizer.specs.Fold.{Buffers, needed, foldPass, constantFold, joinedBuffers, foldLent, Called, rejoined, foldCall}
+use Rattle.optimizer.specs.Inner.{Exact}
 use Rattle.optimizer.specs.declared.Folded.{Folded}
 use Rattle.optimizer.specs.Fold.{Is}
 use Rattle.optimizer.proofs.Again.{fold-keeps}

@@ -24,16 +24,20 @@ use Rattle.lent.specs.declared.Counts.{Counts}
 use Rattle.lent.specs.declared.Tally.{Tally}
 use Rattle.fold.specs.Plan.{Chunk, chunk}
 use Rattle.landings.specs.Landings.{landingsOf, Unmarked}
-use Rattle.fold.specs.Pass.{Bars, byScan, byTable, foldAll, PassRoom}
+use Rattle.fold.specs.Pass.{Bars, byScan, byTable, foldAll}
+use Rattle.fold.specs.Inner.{PassRoom}
 use Rattle.fold.proofs.Landed.{same-folds}
-use Rattle.positions.specs.Remap.{alive, live, Remap, mapped}
+use Rattle.positions.specs.Remap.{alive, live, mapped}
+use Rattle.positions.specs.Inner.{Remap}
 use Rattle.positions.specs.Moved.{movedAll}
 use Rattle.positions.proofs.Moves.{remap-of}
 use Rattle.positions.proofs.Mapped.{none-moved}
 use Rattle.phi_pass.specs.Phi.{marked}
 use Rattle.fold.proofs.Passed.{Passed, all-passed}
-use Rattle.finish.specs.Finish.{Tables, tables, mapOf, sourcesOf, renewed, finished, TableRoom}
-use Rattle.optimizer.specs.Fold.{Buffers, buffers, lensOf, needed, sourcesNeeded, FoldOutcome, foldOutcome, constantFold, foldPass, joinedBuffers, Settled, settled, foldLent, Called, called, rejoined, foldCall, FoldRoom, Exact, Mapped}
+use Rattle.finish.specs.Finish.{Tables, tables, mapOf, sourcesOf, renewed, finished}
+use Rattle.finish.specs.Inner.{TableRoom}
+use Rattle.optimizer.specs.Fold.{Buffers, buffers, lensOf, needed, sourcesNeeded, FoldOutcome, foldOutcome, constantFold, foldPass, joinedBuffers, Settled, settled, foldLent, Called, called, rejoined, foldCall}
+use Rattle.optimizer.specs.Inner.{FoldRoom, Exact, Mapped}
 use Rattle.finish.specs.declared.Left.{Left}
 use Rattle.optimizer.specs.declared.Folded.{Folded}
 use Rattle.optimizer.specs.Fold.{FoldAnswer}

@@ -1,1 +1,2 @@
 pub mod Fold
+pub mod Inner

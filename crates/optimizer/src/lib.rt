@@ -4,9 +4,11 @@ ghost use Prim.Native.Nat.{_+_, _≤_};
 ghost use lib.ListN.{length, replicate};
 ghost use Rattle.lent.specs.Chunk.{chunkCount};
 ghost use Rattle.fold.specs.Plan.{chunk};
-ghost use Rattle.fold.specs.Pass.{PassRoom, byTable};
+ghost use Rattle.fold.specs.Pass.{byTable};
+ghost use Rattle.fold.specs.Inner.{PassRoom};
 ghost use Rattle.positions.specs.Moved.{movedAll};
-ghost use Rattle.optimizer.specs.Fold.{buffers, foldOutcome, settled, foldLent, foldPass, Exact, Mapped};
+ghost use Rattle.optimizer.specs.Fold.{buffers, foldOutcome, settled, foldLent, foldPass};
+ghost use Rattle.optimizer.specs.Inner.{Exact, Mapped};
 use finish::Left;
 use lent::Counts;
 

@@ -3,7 +3,7 @@ ghost use mathlib.Core.Path.{_≡_};
 ghost use Prim.Native.Nat.{min, _*_, _<_, _≤_};
 ghost use lib.ListN.{length};
 ghost use mir.Val.{boolByte};
-ghost use Rattle.code.specs.Check.{Whole};
+ghost use Rattle.code.specs.Inner.{Whole};
 ghost use Rattle.roles.specs.Roles.{roleTable};
 ghost use Rattle.params.specs.Answers.{writtenAnswer, passedAnswer};
 ghost use Rattle.params.specs.Masks.{writtenIn, paramsWritten, arguments, keeps, passedIn, passedAt};

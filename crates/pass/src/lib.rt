@@ -9,9 +9,11 @@ ghost use mathlib.Core.Path.{_≡_};
 ghost use Prim.Native.Nat.{_≤_, _<_};
 ghost use lib.ListN.{length};
 ghost use Rattle.lent.specs.Chunk.{chunkCount};
-ghost use Rattle.chunk.specs.Pool.{PushRoom, findOrPushConst};
+ghost use Rattle.chunk.specs.Pool.{findOrPushConst};
+ghost use Rattle.chunk.specs.Inner.{PushRoom};
 ghost use Rattle.fold.specs.Plan.{chunk, after};
-ghost use Rattle.fold.specs.Pass.{loading, fromPool, constLoad, markOf, put, applied, tryFold, byTable, foldAll, OperatorRoom, PassRoom};
+ghost use Rattle.fold.specs.Pass.{loading, fromPool, constLoad, markOf, put, applied, tryFold, byTable, foldAll};
+ghost use Rattle.fold.specs.Inner.{OperatorRoom, PassRoom};
 
 // The pass over a chunk, which asks each count of landings once. Answers the new count of constants.
 pub fn fold_all(

@@ -7,7 +7,8 @@ use native.Mathlib.Omega.{arith}
 use lib.ListN.{getD, replicate}
 use Rattle.laws.specs.Table.{clearedTo}
 use Rattle.laws.proofs.Table.{cleared-tail, cleared-at}
-use Rattle.paths.specs.Search.{Says, Searched, SearchSettles}
+use Rattle.paths.specs.Search.{Says, SearchSettles}
+use Rattle.paths.specs.Inner.{Searched}
 
 pub none : (n : ℕ) (seen seen₁ : List ℕ) → seen₁ ≡ clearedTo (n + 1) seen → (j : ℕ) → j < n → getD seen₁ j 0 ≡ 0
 none n seen seen₁ c j h = rw c (cleared-at (n + 1) seen j (omega arith))

@@ -9,7 +9,8 @@ use native.Mathlib.Omega.{arith}
 use lib.ListN.{length, getD, set, length-set}
 use lib.Seq.{getD-set-same, getD-set-other}
 use mir.Val.{boolByte}
-use Rattle.paths.specs.Search.{Reach, here, later, pushed}
+use Rattle.paths.specs.Search.{Reach, here, later}
+use Rattle.paths.specs.Inner.{pushed}
 use Rattle.paths.proofs.Marks.{marked, few-marked, stored-at, more-marked}
 
 -- t stands in the waiting stack

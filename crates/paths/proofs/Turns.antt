@@ -10,7 +10,8 @@ use lib.Dec.{eqb}
 use lib.ListN.{length, getD, set}
 use lib.Seq.{getD-set-same, getD-set-other}
 use Rattle.laws.specs.All.{many}
-use Rattle.paths.specs.Search.{Turn, left, taken, Turns, none, more, owed}
+use Rattle.paths.specs.Search.{Turn, left, taken, Turns, none, more}
+use Rattle.paths.specs.Inner.{owed}
 use Rattle.paths.proofs.Marks.{stored-at}
 
 -- a mark more: the ways out of j are owed no longer

@@ -3,7 +3,7 @@ ghost use mathlib.Core.Path.{_≡_};
 ghost use Prim.Native.Nat.{_+_, _<_};
 ghost use lib.ListN.{length};
 ghost use mir.Val.{boolByte};
-ghost use Rattle.paths.specs.Search.{pushed};
+ghost use Rattle.paths.specs.Inner.{pushed};
 
 // A waiting position.
 pub fn wide(x: u32) -> usize

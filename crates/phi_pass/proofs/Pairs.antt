@@ -21,7 +21,8 @@ use Rattle.laws.proofs.InPlace.{Walked, walk-none, walk-read, walk-two, walk-at
 use Rattle.lent.specs.Chunk.{chunkCount, opAt, operandAt, isPhi}
 use Rattle.positions.specs.Remap.{alive}
 use Rattle.code.specs.Op.{Phi}
-use Rattle.phi_pass.specs.Phi.{paired, leftSource, rightSource, noop, phiMarkAt, marked, pairLeft, pairsLeft, spread, phiEntry, indexed}
+use Rattle.phi_pass.specs.Phi.{paired, leftSource, rightSource, noop, phiMarkAt, marked, pairLeft, pairsLeft, phiEntry, indexed}
+use Rattle.phi_pass.specs.Inner.{spread}
 
 -- ---- which Phis have a pair, and which of them die
 

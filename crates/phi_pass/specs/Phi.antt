@@ -1,5 +1,5 @@
 -- The Phis of a chunk w, by the entries of phi_map and the words of phi_sources: document 01, 'Folding'. Assumes nothing.
-use Prim.Native.Nat.{ℕ, _+_, _*_, _/_, _%_}
+use Prim.Native.Nat.{ℕ, _+_, _*_, _/_}
 use mathlib.Core.Bool.{Bool, cond, _&&_}
 use mathlib.Core.List.{List, [], _∷_}
 use lib.Dec.{eqb, ltb}
@@ -41,11 +41,6 @@ pairLeft w map sources dead i = cond (alive dead i && paired w map sources i) (l
 unfoldable pub pairsLeft : List ℕ → List ℕ → List ℕ → List ℕ → List ℕ
 unfolding paired
 pairsLeft w map sources dead = each (pairLeft w map sources dead) (length dead)
-
--- pairs out of words of 32 bits, the first of each pair above the second
-unfoldable pub spread : List ℕ → List ℕ
-spread [] = []
-spread (q ∷ qs) = q / 65536 ∷ q % 65536 ∷ spread qs
 
 -- phi_map indexed anew: each Phi's entry is the number of Phis before it, any other entry 0
 abbrev pub phiEntry : Bool → ℕ → ℕ

@@ -8,7 +8,8 @@ ghost use lib.ListN.{length, getD, take, replicate};
 ghost use Rattle.laws.specs.All.{every, many};
 ghost use Rattle.lent.specs.Chunk.{chunkCount, isPhi};
 ghost use Rattle.positions.specs.Remap.{alive};
-ghost use Rattle.phi_pass.specs.Phi.{paired, leftSource, rightSource, noop, phiMarkAt, marked, pairsLeft, spread, phiEntry, indexed};
+ghost use Rattle.phi_pass.specs.Phi.{paired, leftSource, rightSource, noop, phiMarkAt, marked, pairsLeft, phiEntry, indexed};
+ghost use Rattle.phi_pass.specs.Inner.{spread};
 use code::op::Phi;
 
 fn wide_of(x: u32) -> usize

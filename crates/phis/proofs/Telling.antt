@@ -5,7 +5,8 @@ use mathlib.Core.List.{List}
 use Prim.Native.Nat.{ℕ, _+_, _/_, _<_}
 use lib.ListN.{length}
 use mir.Val.{boolByte}
-use Rattle.code.specs.Check.{checkOf, insideOf, roomOf, Valid}
+use Rattle.code.specs.Check.{checkOf, insideOf, roomOf}
+use Rattle.code.specs.Inner.{Valid}
 use Rattle.code.specs.Answers.{answerOf, refusedOf}
 use Rattle.code.specs.declared.Answer.{Answer}
 use Rattle.code.specs.declared.Refusal.{Refusal}
@@ -14,7 +15,7 @@ use Rattle.code.specs.declared.Checked.the-variants.{Count, No}
 use Rattle.code.proofs.Checks.{valid-of}
 use Rattle.walks.proofs.Rooms.{before-inside, within, before-room, roomy}
 use Rattle.paths.specs.Search.{Says, SearchSettles}
-use Rattle.phis.specs.Phi.{PhiRoom}
+use Rattle.phis.specs.Inner.{PhiRoom}
 use Rattle.phis.specs.Answers.{Tells}
 
 module _ (v s : Checked) (e : v ≡ s) (P : Type 0) (m : ℕ) (seen todo : List ℕ) (r : Answer) where

@@ -1,12 +1,10 @@
 -- `dead_phi` of block.rs: whether the value that a Phi writes is read on some path from the instruction after it. Assumes nothing.
-use Prim.Native.Nat.{ℕ, _+_, _/_, _≤_}
+use Prim.Native.Nat.{ℕ, _+_}
 use mathlib.Core.Bool.{Bool, not, _&&_, _||_}
 use mathlib.Core.List.{List}
 use lib.Dec.{eqb}
-use lib.ListN.{length}
 use Rattle.code.specs.Op.{Jump, ForIterR, LoadName, StoreName, ReturnR, ReturnValue, Raise}
 use Rattle.code.specs.Ins.{insAt, count}
-use Rattle.code.specs.Check.{Whole}
 use Rattle.code.specs.declared.Ins.{Ins}
 use Rattle.roles.specs.Kinds.{kindsOf, has, isJump, dest, none}
 use Rattle.roles.specs.Kinds as field
@@ -54,10 +52,3 @@ Read w r j = Reach (count w) (readsAt w r) (stopsAt w r) (leadsAt w) j
 -- `dead_phi`: none does so from k + 1
 abbrev pub Dead : List ℕ → ℕ → ℕ → Type 0
 Dead w k r = Read w r (k + 1) → ⊥
-
--- accepted code, and buffers for a search of it
-pub record PhiRoom (w seen todo : List ℕ) : Type 0 where
-  pub whole : Whole w
-  pub few : length w / 6 ≤ 65535
-  pub marks : length w / 6 + 1 ≤ length seen
-  pub waiting : length w / 6 + 1 ≤ length todo

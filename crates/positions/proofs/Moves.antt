@@ -13,7 +13,8 @@ use Rattle.laws.specs.Each.{each}
 use Rattle.laws.proofs.Many.{many-more, many-few, counted-on}
 use Rattle.laws.proofs.Each.{each-more, each-word, each-at}
 use Rattle.laws.proofs.InPlace.{Walked, walk-none, walk-read, walk-put, walk-at, walk-as, walk-whole, word-put}
-use Rattle.positions.specs.Remap.{alive, live, Remap, remapOf, mapped}
+use Rattle.positions.specs.Remap.{alive, live, remapOf, mapped}
+use Rattle.positions.specs.Inner.{Remap}
 use Rattle.positions.specs.Moved.{pairAt, placed, movedAll}
 
 -- ---- remap

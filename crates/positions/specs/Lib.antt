@@ -1,2 +1,3 @@
 pub mod Remap
 pub mod Moved
+pub mod Inner

@@ -1,6 +1,5 @@
 -- Where positions go when instructions die: document 01, 'Folding'. Assumes nothing.
-use Prim.Native.Nat.{ℕ, _+_, _≤_}
-use mathlib.Core.Path.{_≡_}
+use Prim.Native.Nat.{ℕ, _+_}
 use mathlib.Core.Bool.{Bool, cond}
 use mathlib.Core.List.{List, [], _∷_}
 use lib.Dec.{eqb, leb}
@@ -19,12 +18,6 @@ live dead i = many (alive dead) i
 -- remap(0) to remap(n)
 unfoldable pub remapOf : List ℕ → List ℕ
 remapOf dead = each (λ i. live dead i ∷ []) (length dead + 1)
-
--- a table that has them
-pub record Remap (dead map : List ℕ) : Type 0 where
-  pub whole : map ≡ remapOf dead
-  pub long : length map ≡ length dead + 1
-  pub at : (i : ℕ) → i ≤ length dead → getD map i 0 ≡ live dead i
 
 -- positions map up to n; above n they stay
 unfoldable pub mapped : List ℕ → ℕ → ℕ

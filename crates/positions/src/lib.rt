@@ -3,7 +3,8 @@ ghost use mathlib.Core.Path.{_≡_};
 ghost use mathlib.Core.List.{_++_};
 ghost use Prim.Native.Nat.{_+_, _-_, _%_, _≤_};
 ghost use lib.ListN.{length, take, replicate};
-ghost use Rattle.positions.specs.Remap.{Remap, mapped};
+ghost use Rattle.positions.specs.Remap.{mapped};
+ghost use Rattle.positions.specs.Inner.{Remap};
 ghost use Rattle.positions.specs.Moved.{placed, movedAll};
 
 // remap(0) to remap(n), front to back: the number of live instructions before each position.

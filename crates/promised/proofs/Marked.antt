@@ -27,7 +27,8 @@ use Rattle.steps.specs.Code.{storeOf, overPending, pastStore, restores, idle, u
 use Rattle.rows.specs.Route.{routeStart}
 use Rattle.kept.specs.Level.{resumeOf, resultAt, keptAt}
 use Rattle.kept.specs.Lists.{listsTo, offsetsTo}
-use Rattle.kept.specs.Answers.{Scratch, stagesOf, refused, told}
+use Rattle.kept.specs.Answers.{stagesOf, refused, told}
+use Rattle.kept.specs.Inner.{Scratch}
 use Rattle.callee.specs.Trace.{saysAt, setsIt, passesBy, tracedBy, traced, globalOf}
 use Rattle.callee.specs.Answers.{globalAnswer}
 use Rattle.values.specs.Python.{floorDiv, floorMod, downDiv, downMod, shiftUp}

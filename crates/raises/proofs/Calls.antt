@@ -12,7 +12,7 @@ use lib.Dec.{ltb}
 use lib.ListN.{length, take, drop}
 use lib.Seq.{take-all}
 use Rattle.code.specs.Ins.{count}
-use Rattle.code.specs.Check.{Valid}
+use Rattle.code.specs.Inner.{Valid}
 use Rattle.code.specs.declared.Checked.{Checked}
 use Rattle.code.specs.declared.Checked.the-variants as stage
 use Rattle.code.specs.declared.Refusal.{Refusal}
@@ -27,14 +27,15 @@ use Rattle.steps.specs.Code.{usedAt}
 use Rattle.rows.specs.Route.{wordsFor, routeStart, rowsIn}
 use Rattle.rows.proofs.Routes.{words-few}
 use Rattle.sets.proofs.Sets.{set-lt}
-use Rattle.kept.specs.Lists.{listsTo, Width, LevelsRoom, Filled}
+use Rattle.kept.specs.Lists.{listsTo}
+use Rattle.kept.specs.Inner.{Width, LevelsRoom, Filled}
 use Rattle.kept.specs.Answers.{stagesOf}
 use Rattle.kept.specs.declared.KeptAnswer.the-variants.{Is, No}
 use Rattle.kept.proofs.Calls as kept
 use Rattle.kept.proofs.Demand.{inside}
 use Rattle.kept.proofs.Tests.{accepted-few, accepted-valid}
 use Rattle.nested.specs.Raising.{raising, mays, beginsAt}
-use Rattle.raises.specs.Answers.{RaisingOutcome}
+use Rattle.raises.specs.Inner.{RaisingOutcome}
 
 width : Width 64 16
 width = record { some = omega arith; more = omega arith; few = omega arith; span = refl }

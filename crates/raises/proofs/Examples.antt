@@ -27,8 +27,9 @@ use Rattle.kept.specs.Lists.{listsTo, offsetsTo}
 use Rattle.kept.specs.Answers.{stagesOf, told}
 use Rattle.kept.specs.declared.KeptAnswer.the-variants.{Is}
 use Rattle.nested.specs.Raising.{raisesAt, raising, mays, beginsAt}
-use Rattle.nested.specs.Bodies.{unmarked, body, tries, raised, untidy}
-use Rattle.raises.specs.Answers.{RaisingOutcome}
+use Rattle.nested.specs.Bodies.{unmarked, body, tries, raised}
+use Rattle.nested.specs.Inner.{untidy}
+use Rattle.raises.specs.Inner.{RaisingOutcome}
 
 -- ---- on the body whose plain lists are not enough: r5 stands in the lists of 2 and of 6; rows are from the first level on, 2
 

@@ -13,7 +13,8 @@ use Rattle.laws.specs.Page.{among}
 use Rattle.kept.specs.Lists.{over}
 use Rattle.code.specs.declared.Checked.the-variants as stage
 use Rattle.code.specs.declared.Refusal.the-variants.{Short}
-use Rattle.nested.specs.Exposed.{exposed, Exposes}
+use Rattle.nested.specs.Exposed.{exposed}
+use Rattle.nested.specs.Inner.{Exposes}
 use Rattle.raises.specs.Answers.{ExposedLeft}
 
 past-end : (l : List ℕ) (i : ℕ) → i ≤ length l → length l ≤ i → drop i l ≡ []

@@ -13,26 +13,26 @@ use lib.ListN.{length, getD, drop, set, length-drop}
 use lib.Seq.{drop-cons, getD-set-other}
 use Rattle.code.specs.Op.{ReturnR, Jump, UnpackR, WithEnter, WithExit}
 use Rattle.code.specs.Ins.{insAt, count}
-use Rattle.code.specs.Check.{Valid}
+use Rattle.code.specs.Inner.{Valid}
 use Rattle.code.proofs.Rules.{op-known}
 use Rattle.code.specs.declared.Ins.{Ins}
 use Rattle.roles.specs.Sets.{only}
 use Rattle.flow.specs.Flow.{joined, rowAt}
-use Rattle.flow.specs.Sweep.{row, below, Put}
+use Rattle.flow.specs.Sweep.{row, below}
+use Rattle.flow.specs.Inner.{Put}
 use Rattle.flow.specs.Kept.{handlersOf}
 use Rattle.flow.proofs.Buffer.{step-word}
 use Rattle.flow.proofs.Rows.{joined-cong}
 use Rattle.flow.proofs.Tries.{handlers-past, handlers-none}
 use Rattle.steps.specs.Level.{isLevel}
 use Rattle.steps.specs.Code.{setOf, afterAt}
-use Rattle.steps.specs.Step.{usedOf, givenOf, afterOf, StepAt, goesBefore}
-use Rattle.steps.specs.Calm.{calmOf, calmStep}
+use Rattle.steps.specs.Inner.{usedOf, givenOf, afterOf, StepAt, goesBefore, calmOf, calmStep}
 use Rattle.steps.specs.declared.Step.{Step}
 use Rattle.steps.proofs.Follows.{below-step}
 use Rattle.steps.proofs.Told.{calm-step}
 use Rattle.sets.proofs.Sets.{or-assoc}
 use Rattle.nested.specs.Raising.{stranded}
-use Rattle.raises.specs.Near.{moreOf, moreStep, moreFlow, WentAt, edgeOf, lowestOf, Covered, Covers}
+use Rattle.raises.specs.Inner.{moreOf, moreStep, moreFlow, WentAt, edgeOf, lowestOf, Covered, Covers}
 
 -- ---- a row in one word
 

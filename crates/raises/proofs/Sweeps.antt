@@ -10,14 +10,15 @@ use lib.Bits.{bitOr, or-zero-r}
 use lib.Dec.{ltb}
 use lib.ListN.{length, replicate}
 use Rattle.code.specs.Ins.{insAt, count}
-use Rattle.code.specs.Check.{Valid}
+use Rattle.code.specs.Inner.{Valid}
 use Rattle.code.specs.declared.Ins.{Ins}
 use Rattle.roles.specs.Sets.{only}
 use Rattle.flow.specs.Set.{minus}
 use Rattle.flow.specs.Flow.{joined, onto, rowAt}
-use Rattle.flow.specs.Sweep.{row, below, Put, Found}
+use Rattle.flow.specs.Sweep.{row, below, Found}
+use Rattle.flow.specs.Inner.{Put, window, Holds, WordsStored}
 use Rattle.flow.specs.Kept.{handlersOf}
-use Rattle.flow.specs.Words.{value, window, rowsOf, Small, Holds, WordsStored}
+use Rattle.flow.specs.Words.{value, rowsOf, Small}
 use Rattle.flow.proofs.Bits.{bit-ext, or-bit}
 use Rattle.flow.proofs.Rows.{In, onto-bit, rowAt-lt}
 use Rattle.flow.proofs.Tally.{below-zero}
@@ -27,15 +28,14 @@ use Rattle.flow.proofs.Buffer.{rows-zero, rows-lt, put-row}
 use Rattle.flow.proofs.Loop.{Part, part-start, part-step, Going, togo, going-start, lost-first, lost-again, lost-less, full-few, full-found, full-again, full-less}
 use Rattle.steps.specs.Level.{isLevel, firstLevel}
 use Rattle.steps.specs.Code.{setOf, usedAt, givenAt, afterAt}
-use Rattle.steps.specs.Step.{usedOf, StepAt, goesBefore, stepFlow}
+use Rattle.steps.specs.Inner.{usedOf, StepAt, goesBefore, stepFlow}
 use Rattle.steps.specs.declared.Step.{Step}
 use Rattle.steps.proofs.Follows.{below-step}
 use Rattle.sets.proofs.Sets.{or-assoc, joined-append, set-lt}
 use Rattle.sets.proofs.Words.{one}
 use Rattle.rows.proofs.Sweeps.{level-le}
 use Rattle.nested.specs.Raising.{stranded, raisesAt, raising, mays}
-use Rattle.raises.specs.Step.{raisingStep}
-use Rattle.raises.specs.Near.{moreOf, moreFlow, WentAt, Covered, Covers}
+use Rattle.raises.specs.Inner.{raisingStep, moreOf, moreFlow, WentAt, Covered, Covers}
 use Rattle.raises.proofs.Near.{covers-next}
 
 -- ---- a row is found

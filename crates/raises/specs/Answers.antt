@@ -1,7 +1,7 @@
 -- The kept-register call for frames whose calls raise, and what it adds: all that they answer and leave. Assumes nothing.
 use Prim.Native.Nat.{ℕ}
 use mathlib.Core.Path.{_≡_}
-use mathlib.Core.Bool.{Bool, cond}
+use mathlib.Core.Bool.{cond}
 use mathlib.Core.List.{List}
 use lib.Dec.{ltb}
 use lib.ListN.{length}
@@ -9,15 +9,7 @@ use Rattle.code.specs.declared.Checked.{Checked}
 use Rattle.code.specs.declared.Checked.the-variants as stage
 use Rattle.code.specs.declared.Refusal.the-variants.{Short}
 use Rattle.kept.specs.Lists.{over}
-use Rattle.kept.specs.Answers.{ListsLeft}
-use Rattle.kept.specs.declared.KeptAnswer.{KeptAnswer}
-use Rattle.nested.specs.Raising.{raising, mays, beginsAt}
 use Rattle.nested.specs.Exposed.{exposed}
-
--- refusals and leavings are those of the kept-register call; the rows are those of the equations with handlers
-abbrev pub RaisingOutcome : List ℕ → ℕ → List ℕ → Bool → (rows offsets list new o l : List ℕ) → KeptAnswer → Type 0
-RaisingOutcome w regs tries all rows offsets list new o l r = ListsLeft (raising (mays all w) regs w tries)
-    (beginsAt regs w) 64 w regs tries rows offsets list new o l r
 
 -- what is exposed of a list stands at the front of `out`, words past it as lent, and is counted; refusal 5 where `out` is shorter than the list
 pub record ExposedLeft (plain list old out : List ℕ) (r : Checked) : Type 0 where

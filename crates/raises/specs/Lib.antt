@@ -1,3 +1,2 @@
-pub mod Step
-pub mod Near
 pub mod Answers
+pub mod Inner

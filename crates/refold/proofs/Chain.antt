@@ -16,8 +16,9 @@ use Rattle.clear.proofs.Answers.{answered-call, answered}
 use Rattle.clear.proofs.Accepts.{accepted-after}
 use Rattle.clear.proofs.Kept.{pooled-length}
 use Rattle.clear.proofs.Tested.{held-of}
-use Rattle.refold.specs.Lending.{Lending, readyFor, Folds}
-use Rattle.refold.specs.Lendable.{cutAt, countsLeft, Lendable, clearable, clearedBuffers, countsCleared, Chained}
+use Rattle.refold.specs.Lending.{Lending, readyFor}
+use Rattle.refold.specs.Inner.{Folds, Chained}
+use Rattle.refold.specs.Lendable.{cutAt, countsLeft, Lendable, clearable, clearedBuffers, countsCleared}
 use Rattle.refold.proofs.Lends.{o, all-left, call-answered, lends}
 
 -- an accepted chunk is folded

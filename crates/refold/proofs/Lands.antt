@@ -24,7 +24,8 @@ use Rattle.finish.specs.Finish.{Tables, tables, mapOf, sourcesOf, renewed, fini
 use Rattle.optimizer.specs.Fold.{Called, constantFold, joinedBuffers}
 use Rattle.optimizer.specs.declared.Folded.{Folded}
 use Rattle.optimizer.proofs.Tries.{table-after, past-none}
-use Rattle.refold.specs.Lending.{Lending, readyFor, Folds}
+use Rattle.refold.specs.Lending.{Lending, readyFor}
+use Rattle.refold.specs.Inner.{Folds}
 use Rattle.refold.specs.Left.{TriesLeft, LandingsLeft}
 use Rattle.refold.proofs.Lends.{o, before, after, all-left, all-settled, marks, end-marks, tries-left, n-is, few, after-code}
 use Rattle.refold.proofs.Lends.{check-count, call-answered, by-call}

@@ -32,13 +32,16 @@ use Rattle.lent.proofs.Counting.{every-at}
 use Rattle.fold.specs.Plan.{Chunk, chunk}
 use Rattle.landings.specs.Landings.{landingsOf}
 use Rattle.landings.proofs.Asked.{table-long}
-use Rattle.fold.specs.Pass.{Bars, byScan, foldAll, PassRoom}
+use Rattle.fold.specs.Pass.{Bars, byScan, foldAll}
+use Rattle.fold.specs.Inner.{PassRoom}
 use Rattle.positions.specs.Remap.{alive}
 use Rattle.positions.specs.Moved.{movedAll}
 use Rattle.positions.proofs.Mapped.{moved-long, none-moved}
-use Rattle.finish.specs.Finish.{Tables, tables, finished, TableRoom}
+use Rattle.finish.specs.Finish.{Tables, tables, finished}
+use Rattle.finish.specs.Inner.{TableRoom}
 use Rattle.optimizer.specs.Fold.{Buffers, lensOf, needed, sourcesNeeded, FoldOutcome, foldOutcome, foldPass, constantFold, joinedBuffers}
-use Rattle.optimizer.specs.Fold.{foldLent, Called, rejoined, foldCall, FoldRoom, Exact}
+use Rattle.optimizer.specs.Fold.{foldLent, Called, rejoined, foldCall}
+use Rattle.optimizer.specs.Inner.{FoldRoom, Exact}
 use Rattle.optimizer.specs.declared.Folded.{Folded}
 use Rattle.optimizer.specs.Fold.{FoldAnswer}
 use Rattle.optimizer.specs.Fold.{Is, No}
@@ -53,8 +56,8 @@ use Rattle.refold.proofs.Pushes.{all-pushed, all-held as pool-few, pool
 use Rattle.refold.proofs.Prefix.{prefix}
 use Rattle.refold.proofs.Spent.{waiting, all-spent}
 use Rattle.refold.proofs.Settled.{Settled, settled}
-use Rattle.refold.specs.Pushed.{Pushed}
-use Rattle.refold.specs.Lending.{Lending, lending, readyFor, foldLeaving, foldOf, Folds}
+use Rattle.refold.specs.Inner.{Pushed, foldOf, Folds}
+use Rattle.refold.specs.Lending.{Lending, lending, readyFor, foldLeaving}
 use Rattle.refold.specs.Left.{PoolLeft, BuffersBeyond, FoldBeyond, NoneDied, asLent}
 use Rattle.refold.specs.Lendable.{cutCode, cutAt, countsLeft, Lendable}
 

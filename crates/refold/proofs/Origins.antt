@@ -27,7 +27,8 @@ use Rattle.phi_pass.proofs.Pairs.{marked-length}
 use Rattle.finish.specs.Finish.{Tables, tables, mapOf, sourcesOf, renewed, finished}
 use Rattle.optimizer.specs.Fold.{constantFold, joinedBuffers}
 use Rattle.optimizer.specs.declared.Folded.{Folded}
-use Rattle.refold.specs.Lending.{Lending, readyFor, Folds}
+use Rattle.refold.specs.Lending.{Lending, readyFor}
+use Rattle.refold.specs.Inner.{Folds}
 use Rattle.refold.specs.Origins.{Survive, OriginsLeft, Carried}
 use Rattle.refold.proofs.Lends.{o, clean, end, before, after, all-left, end-is, marks, end-marks, by-call}
 use Rattle.refold.proofs.Lands.{front}

@@ -29,10 +29,11 @@ use Rattle.values.specs.declared.Val.the-variants.{Int, Float as Real, Bool as 
 use Rattle.chunk.specs.Pool.{Stored, stored, position, findOrPush, findOrPushConst}
 use Rattle.chunk.specs.declared.Kept.the-variants.{At, Full}
 use Rattle.fold.specs.Plan.{Chunk, chunk, planAt}
-use Rattle.fold.specs.Pass.{loadOf, constLoad, put, landed, applied, tryFold, Bars, folded, foldAll, PassRoom}
+use Rattle.fold.specs.Pass.{loadOf, constLoad, put, landed, applied, tryFold, Bars, folded, foldAll}
+use Rattle.fold.specs.Inner.{PassRoom}
 use Rattle.fold.specs.declared.Plan.{Plan}
 use Rattle.fold.specs.declared.Plan.the-variants.{Stay, Put}
-use Rattle.refold.specs.Pushed.{Pushed}
+use Rattle.refold.specs.Inner.{Pushed}
 
 idle : (s : Chunk) (code dead : List ℕ) → length code ≡ length (s .code) → length dead ≡ length (s .dead)
     → Pushed s (chunk code dead (s .kinds) (s .words) (s .constants))

@@ -34,8 +34,9 @@ use Rattle.clear.proofs.Room.{clearedChunk}
 use Rattle.clear.proofs.Alike.{SameLoad, Loads, Alike}
 use Rattle.clear.proofs.Refold.{refold, refold-fewer}
 use Rattle.refold.specs.Lendable.{clearedBuffers, withConstants}
-use Rattle.refold.specs.Lending.{Lending, lending, readyFor, Folds}
-use Rattle.refold.specs.Refolded.{Refolded, RefoldedAll, Refolds}
+use Rattle.refold.specs.Lending.{Lending, lending, readyFor}
+use Rattle.refold.specs.Inner.{Folds, Refolds}
+use Rattle.refold.specs.Refolded.{Refolded, RefoldedAll}
 use Rattle.refold.proofs.Lends.{o, all-left, clean, end, before, after, rules, code-fine, lent-clean, call-answered, by-call}
 use Rattle.refold.proofs.Chain.{folds}
 use Rattle.refold.proofs.Beside.{Beside, finished-beside, table-same}

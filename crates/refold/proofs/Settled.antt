@@ -26,7 +26,8 @@ use Rattle.positions.specs.Moved.{pairAt, placed}
 use Rattle.phi_pass.specs.Phi.{paired, leftSource, rightSource, phiMarkAt as phiMark, marked, pairLeft, pairsLeft, indexed}
 use Rattle.phi_pass.proofs.Pairs.{marked-length, dead-stays}
 use Rattle.lent.proofs.Counting.{many-ext, every-at}
-use Rattle.finish.specs.Finish.{Tables, tables, sourcesAfter, mapCount, mapOf, sourcesOf, renewed, finished, TableRoom}
+use Rattle.finish.specs.Finish.{Tables, tables, sourcesAfter, mapCount, mapOf, sourcesOf, renewed, finished}
+use Rattle.finish.specs.Inner.{TableRoom}
 use Rattle.refold.proofs.Spent.{waiting}
 
 -- ---- how many of the live instructions pass a test of their opcode

@@ -24,7 +24,8 @@ use Rattle.chunk.specs.declared.Kept.{Kept}
 use Rattle.chunk.specs.declared.Kept.the-variants.{At, Full}
 use Rattle.chunk.proofs.Store.{kept-few}
 use Rattle.fold.specs.Plan.{Chunk, planAt}
-use Rattle.fold.specs.Pass.{Loading, loadOf, constLoad, put, landed, applied, tryFold, Bars, folded, foldAll, PassRoom}
+use Rattle.fold.specs.Pass.{Loading, loadOf, constLoad, put, landed, applied, tryFold, Bars, folded, foldAll}
+use Rattle.fold.specs.Inner.{PassRoom}
 use Rattle.fold.specs.declared.Loaded.{Loaded}
 use Rattle.fold.specs.declared.Loaded.the-variants.{As, No}
 use Rattle.fold.specs.declared.Plan.{Plan}

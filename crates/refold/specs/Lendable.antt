@@ -1,6 +1,6 @@
 -- What a host lends next after a fold: the code cut at the answered count, the counts as answered, and every other buffer as it was left. Assumes nothing.
 use mathlib.Core.Path.{_≡_}
-use mathlib.Core.Bool.{Bool, true}
+use mathlib.Core.Bool.{true}
 use mathlib.Core.List.{List}
 use Prim.Native.Nat.{ℕ, _*_}
 use lib.ListN.{take}
@@ -12,8 +12,7 @@ use Rattle.lent.specs.declared.Counts.{Counts}
 use Rattle.optimizer.specs.Fold.{Buffers, buffers}
 use Rattle.optimizer.specs.declared.Folded.{Folded}
 use Rattle.clear.specs.Clear as clearing
-use Rattle.clear.specs.Clear.{clearCall}
-use Rattle.refold.specs.Lending.{Lending, lending, readyFor, Folds}
+use Rattle.refold.specs.Lending.{Lending, lending, readyFor}
 
 -- the buffers, with so many instructions of the code
 abbrev pub cutCode : Folded → Buffers → Buffers
@@ -52,12 +51,3 @@ withConstants left c = record { constants = left; map = c .map; sources = c .sou
 
 abbrev pub countsCleared : Folded → Counts → ℕ → Counts
 countsCleared f c left = withConstants left (countsLeft f c)
-
--- fold, clear, fold: the second call and the third are answered, whatever the mode
-pub record Chained (f : Folded) (c : Counts) (a : Lending) (scratch : List ℕ) (strict : Bool) : Type 0 where
-  pub left : ℕ
-  pub cleared : clearing.PoolBuffers
-  pub clears : clearCall (clearable f a scratch) (f .constants) ≡ clearing.clearOutcome (clearing.Is left) cleared
-  pub folded : Folded
-  pub after : Lending
-  pub folds : Folds strict (clearedBuffers a cleared) (countsCleared f c left) folded after

@@ -1,18 +1,13 @@
 -- Folding a cleared chunk does what folding it uncleared does. Assumes nothing.
 use mathlib.Core.Path.{_≡_}
-use mathlib.Core.Bool.{Bool, true, false}
-use mathlib.Core.List.{List}
+use mathlib.Core.Bool.{true, false}
 use Prim.Native.Nat.{ℕ, _≤_}
 use lib.ListN.{length}
 use Rattle.lent.specs.Chunk.{opAt, markAt, operandAt, names}
-use Rattle.lent.specs.declared.Counts.{Counts}
 use Rattle.optimizer.specs.Fold.{Buffers}
 use Rattle.optimizer.specs.declared.Folded.{Folded}
 use Rattle.named.specs.Unused.{loaded}
-use Rattle.clear.specs.Clear as clearing
-use Rattle.clear.specs.Clear.{clearCall}
-use Rattle.refold.specs.Lending.{Lending, Folds}
-use Rattle.refold.specs.Lendable.{clearedBuffers, withConstants}
+use Rattle.refold.specs.Lending.{Lending}
 
 -- two answered folds, f that leaves a and g that leaves y: the same but for where constants stand
 pub record Refolded (f : Folded) (a : Buffers) (g : Folded) (y : Buffers) : Type 0 where
@@ -44,14 +39,3 @@ pub record RefoldedAll (f : Folded) (a : Lending) (g : Folded) (y : Lending) : T
   pub buffers : Refolded f (a .buffers) g (y .buffers)
   pub tries : y .tries ≡ a .tries
   pub landings : y .landings ≡ a .landings
-
--- the chunk b, cleared to so many constants, and folded: answered, and as f that leaves a
-pub record Refolds (strict : Bool) (b : Lending) (c : Counts) (f : Folded) (a : Lending) (scratch : List ℕ) : Type 0 where
-  pub left : ℕ
-  pub cleared : clearing.PoolBuffers
-  pub clears : clearCall (clearing.poolBuffers (b .buffers .code) (b .buffers .kinds) (b .buffers .words) scratch) (c .constants)
-      ≡ clearing.clearOutcome (clearing.Is left) cleared
-  pub folded : Folded
-  pub after : Lending
-  pub folds : Folds strict (clearedBuffers b cleared) (withConstants left c) folded after
-  pub same : RefoldedAll f a folded after

@@ -14,7 +14,8 @@ use Rattle.laws.proofs.Branch.{and-true}
 use Rattle.code.specs.Op.{Raise}
 use Rattle.code.specs.declared.Ins.{Ins}
 use Rattle.roles.specs.Kinds.{Rule, Bits, ByX, FirstAbc, FirstBc, Bare, says, page, ruleOf, kindsOf, abc, bc, none}
-use Rattle.roles.specs.Roles.{roleTable, EntrySays}
+use Rattle.roles.specs.Roles.{roleTable}
+use Rattle.roles.specs.Inner.{EntrySays}
 
 -- ---- one test at every entry
 

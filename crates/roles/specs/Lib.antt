@@ -1,3 +1,4 @@
 pub mod Kinds
 pub mod Roles
 pub mod Sets
+pub mod Inner

@@ -1,16 +1,7 @@
 -- All roles on one page: for each opcode number, from 0 on, the bits of `kinds` at x of 0, 1, 2, 3 and 4 or more, where a is 0. Assumes nothing.
-use mathlib.Core.Path.{_≡_}
-use mathlib.Core.Bool.{cond}
 use mathlib.Core.List.{List, [], _∷_}
 use Prim.Native.Nat.{ℕ}
-use lib.Dec.{eqb}
 use Rattle.code.specs.Op.{Raise}
-use Rattle.roles.specs.Kinds.{says, ruleOf, none}
-
--- the byte k of an opcode and a column is what the rule says where a is 0, and but for Raise where it is 1
-pub record EntrySays (o x k : ℕ) : Type 0 where
-  pub zero : k ≡ says (ruleOf o) x 0
-  pub one : cond (eqb o Raise) none k ≡ says (ruleOf o) x 1
 
 -- 1 a is written; 2, 4, 8 a, b, c are read; 16 a is a jump's target; 32 no role
 unfoldable pub roleTable : List ℕ

@@ -2,7 +2,8 @@
 ghost use mathlib.Core.Path.{_≡_};
 ghost use Prim.Native.Nat.{_<_, min};
 ghost use Rattle.roles.specs.Kinds.{kindsOf, hasRole, isJump, fieldOf};
-ghost use Rattle.roles.specs.Roles.{roleTable, EntrySays};
+ghost use Rattle.roles.specs.Roles.{roleTable};
+ghost use Rattle.roles.specs.Inner.{EntrySays};
 
 mod page;
 

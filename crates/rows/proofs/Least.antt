@@ -11,7 +11,8 @@ use Rattle.flow.specs.Sweep.{row, backs, startOf}
 use Rattle.flow.proofs.Answer.{found-one, found-least, found-below, found-regs, found-few, found-lost}
 use Rattle.steps.specs.Level.{firstLevel}
 use Rattle.steps.specs.Code.{usedAt, flow}
-use Rattle.rows.specs.Route.{routeStart, rowsIn, Rows}
+use Rattle.rows.specs.Route.{routeStart, rowsIn}
+use Rattle.rows.specs.Inner.{Rows}
 use Rattle.sets.proofs.Sets.{set-lt}
 use Rattle.rows.proofs.Sweeps.{level-le}
 

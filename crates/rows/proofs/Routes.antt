@@ -16,7 +16,8 @@ use Rattle.flow.specs.Words.{rowsOf}
 use Rattle.flow.proofs.Buffer.{rows-one}
 use Rattle.steps.specs.Level.{firstLevel}
 use Rattle.steps.specs.Code.{flow}
-use Rattle.rows.specs.Route.{wordsFor, routeStart, Rows}
+use Rattle.rows.specs.Route.{wordsFor, routeStart}
+use Rattle.rows.specs.Inner.{Rows}
 
 -- as many words as hold the registers
 fill : (bits x y : ℕ) → 0 < bits → y ≡ (x + (bits - 1)) / bits → x ≤ y * bits

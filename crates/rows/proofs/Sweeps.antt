@@ -8,20 +8,20 @@ use borrow.Author.Tests.{not-true, not-false}
 use lib.ListN.{length, replicate, length-replicate}
 use Rattle.laws.specs.Walk.{first}
 use Rattle.code.specs.Ins.{insAt, count}
-use Rattle.code.specs.Check.{Valid}
+use Rattle.code.specs.Inner.{Valid}
 use Rattle.code.specs.declared.Ins.{Ins}
 use Rattle.code.proofs.Rules.{op-known}
 use Rattle.flow.specs.Flow.{rowAt}
-use Rattle.flow.specs.Sweep.{row, below, Put, Found}
+use Rattle.flow.specs.Sweep.{row, below, Found}
+use Rattle.flow.specs.Inner.{Put}
 use Rattle.flow.specs.Words.{rowsOf}
 use Rattle.flow.proofs.Tally.{below-zero}
 use Rattle.flow.proofs.Buffer.{rows-zero}
 use Rattle.flow.proofs.Loop.{Part, part-start, part-step, Going, togo, going-start, lost-first, lost-again, lost-less, full-few, full-found, full-again, full-less}
 use Rattle.steps.specs.Level.{isLevel, firstLevel}
 use Rattle.steps.specs.Code.{afterAt, flow}
-use Rattle.steps.specs.Step.{StepAt, goesBefore, stepFlow}
+use Rattle.steps.specs.Inner.{StepAt, goesBefore, stepFlow, calmOf, calmStep}
 use Rattle.steps.specs.declared.Step.{Step}
-use Rattle.steps.specs.Calm.{calmOf, calmStep}
 use Rattle.steps.proofs.Follows.{below-step}
 use Rattle.steps.proofs.Told.{calm-step}
 

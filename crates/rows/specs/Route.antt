@@ -4,10 +4,8 @@ use mathlib.Core.Bool.{Bool, cond, _||_}
 use mathlib.Core.List.{List}
 use lib.Dec.{ltb}
 use Rattle.code.specs.Ins.{count}
-use Rattle.flow.specs.Sweep.{Found}
 use Rattle.flow.specs.Words.{rowsOf}
 use Rattle.steps.specs.Level.{firstLevel}
-use Rattle.steps.specs.Code.{flow}
 
 -- words of a row, with `bits` bits each: registers / bits rounded up, at least 1
 abbrev pub wordsFor : ℕ → ℕ → ℕ
@@ -20,7 +18,3 @@ routeStart bits wide regs w = cond (wide || ltb bits regs) 0 (firstLevel w)
 -- the rows that the words of a buffer hold
 abbrev pub rowsIn : ℕ → ℕ → List ℕ → List ℕ → List ℕ
 rowsIn bits regs w buf = rowsOf bits (wordsFor bits regs) (suc (count w)) buf
-
--- what the words hold are the rows that the definition's sweeps find, and the counts are theirs
-abbrev pub Rows : ℕ → Bool → ℕ → List ℕ → List ℕ → ℕ → ℕ → Type 0
-Rows bits wide regs w buf full abandoned = Found (flow regs w) (routeStart bits wide regs w) (rowsIn bits regs w buf) full abandoned

@@ -25,7 +25,7 @@ use Rattle.clear.proofs.Refold.{accepted-at, rule-const, rule-both}
 use Rattle.clear.proofs.Tested.{table-met}
 use Rattle.runs.specs.Machine.{ins, Plain}
 use Rattle.runs.specs.Rule.{WishRule}
-use Rattle.runs.specs.Kept.{RunsAs}
+use Rattle.runs.specs.Inner.{RunsAs}
 use Rattle.runs.proofs.Pass.{alike}
 use Rattle.runs.proofs.Alike.{SameEntry, read-both}
 

@@ -14,7 +14,7 @@ use Rattle.values.specs.declared.Val.{Val}
 use Rattle.values.specs.declared.Op.{Op}
 use Rattle.values.specs.declared.Maybe.the-variants.{Is}
 use Rattle.values.specs.Folds.{foldBinop}
-use Rattle.chunk.specs.Pool.{PushRoom}
+use Rattle.chunk.specs.Inner.{PushRoom}
 use Rattle.fold.specs.declared.Kind.{Kind}
 use Rattle.fold.specs.declared.Kind.the-variants.{Binop, Not, Minus, Other}
 use Rattle.fold.specs.declared.Plan.{Plan}
@@ -22,12 +22,13 @@ use Rattle.fold.specs.declared.Plan.the-variants.{Stay, Put}
 use Rattle.fold.specs.declared.Loaded.{Loaded}
 use Rattle.fold.specs.declared.Loaded.the-variants.{As, No}
 use Rattle.fold.specs.Plan.{Chunk, chunk, kindOf, foldUnary, planAt}
-use Rattle.fold.specs.Pass.{constLoad, put, landed, applied, tryFold, Bars, folded, OperatorRoom, PassRoom}
+use Rattle.fold.specs.Pass.{constLoad, put, landed, applied, tryFold, Bars, folded}
+use Rattle.fold.specs.Inner.{OperatorRoom, PassRoom}
 use Rattle.fold.proofs.Planned.{planned}
 use Rattle.fold.proofs.Grown.{Held, held-none, held-ready, held-more}
 use Rattle.positions.specs.Remap.{alive}
 use Rattle.runs.specs.Machine.{Known, Stack, Ins, Apply, Pass, End, At, act, Run, ends, stops, goes, read, ins}
-use Rattle.runs.specs.Kept.{Strict}
+use Rattle.runs.specs.Inner.{Strict}
 use Rattle.runs.proofs.Good.{Good, good-of, binop-good}
 use Rattle.runs.proofs.Pool.{Loads, load-back, load-grows}
 use Rattle.runs.proofs.Told.{Near, Told, two, one, told}

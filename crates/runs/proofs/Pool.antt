@@ -22,7 +22,8 @@ use Rattle.values.specs.Folds.{inRange}
 use Rattle.values.specs.declared.Val.{Val}
 use Rattle.values.specs.declared.Val.the-variants.{Int, Float as Real, Bool as Truth}
 use Rattle.values.specs.declared.Maybe.the-variants.{Is}
-use Rattle.chunk.specs.Pool.{toVal, equals, position, PushRoom, Stored, stored, findOrPush, findOrPushConst}
+use Rattle.chunk.specs.Pool.{toVal, equals, position, Stored, stored, findOrPush, findOrPushConst}
+use Rattle.chunk.specs.Inner.{PushRoom}
 use Rattle.chunk.specs.declared.Kept.{Kept}
 use Rattle.chunk.specs.declared.Kept.the-variants.{At, Full}
 use Rattle.fold.specs.Plan.{operatorPage, kindOf}

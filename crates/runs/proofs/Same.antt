@@ -16,7 +16,8 @@ use Rattle.positions.specs.Remap.{live, mapped}
 use Rattle.compact.specs.Tables.{compacted}
 use Rattle.runs.specs.Machine.{End, Run}
 use Rattle.runs.specs.Rule.{known, Ruled}
-use Rattle.runs.specs.Kept.{RunEnds, Same, Strict, Fresh}
+use Rattle.runs.specs.Kept.{RunEnds, Same}
+use Rattle.runs.specs.Inner.{Strict, Fresh}
 use Rattle.runs.proofs.Step.{living, living-on, codeOf, Fine}
 use Rattle.runs.proofs.Pass.{alike, Passed, pass}
 use Rattle.runs.proofs.Pack.{pack, unpack}

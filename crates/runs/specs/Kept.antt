@@ -1,15 +1,7 @@
 -- What folding keeps of a chunk's runs: document 02, wish 14. Assumes nothing.
-use Prim.Native.Nat.{ℕ, _*_, _<_}
-use mathlib.Core.Path.{_≡_}
-use mathlib.Core.Bool.{false}
+use Prim.Native.Nat.{ℕ}
 use mathlib.Core.List.{List, []}
-use lib.ListN.{length, getD}
-use Rattle.lent.specs.Chunk.{stride}
-use Rattle.landings.specs.Landings.{landsAny}
-use Rattle.fold.specs.Plan.{Chunk}
-use Rattle.fold.specs.Pass.{Bars, PassRoom}
-use Rattle.runs.specs.Machine.{End, Run, ins, Plain}
-use Rattle.runs.specs.Rule.{Ruled}
+use Rattle.runs.specs.Machine.{End, Run, ins}
 
 -- a run from an empty stack over n instructions ends so
 abbrev pub RunEnds : (code kinds words : List ℕ) → ℕ → End → Type 0
@@ -19,19 +11,3 @@ RunEnds code kinds words n e = Run (ins code kinds words) n 0 [] e
 pub record Same (code kinds words : List ℕ) (n : ℕ) (code′ kinds′ words′ : List ℕ) (n′ : ℕ) : Type 0 where
   pub ends : (e : End) → RunEnds code kinds words n e → RunEnds code′ kinds′ words′ n′ e
   pub back : (e : End) → RunEnds code′ kinds′ words′ n′ e → RunEnds code kinds words n e
-
--- and the second is n′ instructions as the wish has them, over so many constants
-pub record RunsAs (code kinds words : List ℕ) (n : ℕ) (code′ kinds′ words′ : List ℕ) (constants′ n′ : ℕ) : Type 0 where
-  pub same : Same code kinds words n code′ kinds′ words′ n′
-  pub rule : Ruled code′ constants′ n′
-
--- no fold over a jump's landing
-abbrev pub Strict : Bars → Type 0
-Strict bars = (w : List ℕ) (i p : ℕ) → bars w i p ≡ false → landsAny w p i ≡ false
-
--- a chunk as it comes to the pass: whole, nothing dead, room for what folds push, and each instruction plain
-pub record Fresh (s : Chunk) : Type 0 where
-  pub whole : length (s .code) ≡ stride * length (s .dead)
-  pub blank : (k : ℕ) → getD (s .dead) k 0 ≡ 0
-  pub lent : PassRoom s
-  pub each : (k : ℕ) → k < length (s .dead) → Plain (s .code) (s .constants) k

@@ -2,3 +2,4 @@
 pub mod Machine
 pub mod Rule
 pub mod Kept
+pub mod Inner

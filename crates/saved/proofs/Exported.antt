@@ -28,7 +28,8 @@ use Rattle.levels.specs.Answers.{levelTold, levelAnswer}
 use Rattle.area.specs.Area.{freeOf, putIn}
 use Rattle.saver.specs.Saver.{Saver, saver, madeHead, Ends, ends, regsOf, inUse, entered, enterOf}
 use Rattle.leaves.specs.Leaving.{Back, returned, thrown, leaveOf}
-use Rattle.frames.specs.Frames.{fileOf, Sound, CallEvent, Play, Matched, Open, done, enter, write, leave}
+use Rattle.frames.specs.Frames.{fileOf, Sound, CallEvent, Matched, Open}
+use Rattle.frames.specs.Inner.{Play, done, enter, write, leave}
 use Rattle.saver.specs.Answers.{saverTold}
 use Rattle.saver.specs.declared.SaverAnswer.{SaverAnswer}
 use Rattle.saver.specs.declared.SaverAnswer.the-variants.{Used, Registers, Listed, Full, Nothing}

@@ -23,7 +23,8 @@ use Rattle.taken.specs.Lists.{firstStrange}
 use Rattle.area.specs.Area.{freeOf, needOf, putIn}
 use Rattle.saver.specs.Saver.{Saver, ends, regsOf, inUse, entered, enterOf}
 use Rattle.leaves.specs.Leaving.{returned, thrown, leaveOf}
-use Rattle.frames.specs.Frames.{fileOf, Sound, CallEvent, Play, Matched}
+use Rattle.frames.specs.Frames.{fileOf, Sound, CallEvent, Matched}
+use Rattle.frames.specs.Inner.{Play}
 use Rattle.saver.specs.declared.SaverAnswer.the-variants.{Used, Full}
 use Rattle.frames.proofs.Listed.{fine-list}
 use Rattle.frames.proofs.Resumes.{alike-return, alike-thrown}

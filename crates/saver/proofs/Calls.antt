@@ -6,7 +6,8 @@ use native.Mathlib.Omega.{arith}
 use borrow.Author.Tests.{lt-ltb, le-ltb}
 use lib.ListN.{length, getD, set}
 use Rattle.taken.specs.Lists.{firstStrange}
-use Rattle.area.specs.Area.{freeOf, needOf, StoreRoom, EntryStored}
+use Rattle.area.specs.Area.{freeOf, needOf}
+use Rattle.area.specs.Inner.{StoreRoom, EntryStored}
 use Rattle.taken.proofs.Lists.{all-in}
 use Rattle.saver.specs.Saver.{saver, ends, Made, enterOf}
 use Rattle.saver.specs.declared.SaverAnswer.the-variants.{Used, Registers, Listed, Full}

@@ -15,12 +15,14 @@ use Rattle.laws.specs.Page.{among}
 use Rattle.laws.proofs.Byte.{byte-small}
 use Rattle.code.specs.Ins.{count}
 use Rattle.steps.specs.Code.{afterAt}
-use Rattle.steps.specs.Step.{usedOf, givenOf, StepAt}
+use Rattle.steps.specs.Inner.{usedOf, givenOf, StepAt}
 use Rattle.steps.specs.declared.Step.{Step}
-use Rattle.paths.specs.Search.{Reach, here, later, ways, pushed, Searched, owed}
+use Rattle.paths.specs.Search.{Reach, here, later, ways}
+use Rattle.paths.specs.Inner.{pushed, Searched, owed}
 use Rattle.paths.proofs.Depth.{push-only, pushed-long}
 use Rattle.paths.proofs.Loop as path
-use Rattle.seek.specs.Asked.{usesAt, givesAt, seekWithin, seekNext, onTo, overTo, jumpsIn, Asked, AskedRoom}
+use Rattle.seek.specs.Asked.{seekWithin, seekNext, jumpsIn}
+use Rattle.seek.specs.Inner.{usesAt, givesAt, onTo, overTo, Asked, AskedRoom}
 use Rattle.seek.proofs.Within.{ways-within, owed-few}
 
 -- the search so far: only instructions wait, and what is still to do is at most as much as instructions and jumps

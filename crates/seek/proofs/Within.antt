@@ -14,7 +14,8 @@ use Rattle.code.specs.declared.Ins.{Ins}
 use Rattle.code.specs.Op.{Jump, ReturnR}
 use Rattle.roles.specs.Kinds.{page, ruleOf, kindsOf, isJump}
 use Rattle.steps.specs.Code.{afterAt}
-use Rattle.paths.specs.Search.{ways, Turns, owed}
+use Rattle.paths.specs.Search.{ways, Turns}
+use Rattle.paths.specs.Inner.{owed}
 use Rattle.paths.proofs.Turns.{owed-most, owed-first}
 use Rattle.paths.proofs.Turns.{few-turns as turns-owed}
 use Rattle.seek.specs.Asked.{seekWithin, seekNext, jumpsIn}

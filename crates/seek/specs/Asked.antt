@@ -1,24 +1,12 @@
 -- A search for one register of lent code. Assumes nothing.
-use Prim.Native.Nat.{ℕ, _+_, _≤_}
-use mathlib.Core.Bool.{Bool, cond, _&&_}
+use Prim.Native.Nat.{ℕ}
+use mathlib.Core.Bool.{cond}
 use mathlib.Core.List.{List, [], _∷_}
 use lib.Dec.{ltb}
-use lib.ListN.{length}
 use Rattle.laws.specs.All.{many}
-use Rattle.laws.specs.Page.{among}
 use Rattle.code.specs.Ins.{insAt, count}
-use Rattle.code.specs.Check.{Valid}
 use Rattle.roles.specs.Kinds.{isJump}
-use Rattle.steps.specs.Code.{usedAt, givenAt, afterAt}
-use Rattle.steps.specs.declared.Step.{Step}
-use Rattle.paths.specs.Search.{Reach}
-
--- position j uses r, gives r up
-unfoldable pub usesAt : List ℕ → ℕ → ℕ → Bool
-usesAt w r j = among r (usedAt w j)
-
-unfoldable pub givesAt : List ℕ → ℕ → ℕ → Bool
-givesAt w r j = among r (givenAt w j)
+use Rattle.steps.specs.Code.{afterAt}
 
 -- those of some positions that are below n
 unfoldable pub seekWithin : ℕ → List ℕ → List ℕ
@@ -29,23 +17,6 @@ seekWithin n (x ∷ l) = cond (ltb x n) (x ∷ seekWithin n l) (seekWithin n l)
 unfoldable pub seekNext : List ℕ → ℕ → List ℕ
 seekNext w j = seekWithin (count w) (afterAt w j)
 
--- the step at j goes on to an instruction, and over to one
-abbrev pub onTo : Step → ℕ → ℕ → Bool
-onTo s j n = s .on && ltb (j + 1) n
-
-abbrev pub overTo : Step → ℕ → Bool
-overTo s n = s .to && ltb (s .target) n
-
--- some path from k uses r before it gives it up
-abbrev pub Asked : List ℕ → ℕ → ℕ → Type 0
-Asked w r k = Reach (count w) (usesAt w r) (givesAt w r) (seekNext w) k
-
 -- the jumps of all the code
 abbrev pub jumpsIn : List ℕ → ℕ
 jumpsIn w = many (λ j. isJump (insAt w j)) (count w)
-
--- accepted code, and buffers for a search of it
-pub record AskedRoom (w seen todo : List ℕ) : Type 0 where
-  pub valid : Valid w
-  pub marks : count w + 1 ≤ length seen
-  pub waiting : count w + 1 ≤ length todo

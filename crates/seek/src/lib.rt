@@ -5,9 +5,10 @@ ghost use lib.ListN.{length, getD};
 ghost use mir.Val.{boolByte};
 ghost use Rattle.laws.specs.Page.{among};
 ghost use Rattle.roles.specs.Roles.{roleTable};
-ghost use Rattle.steps.specs.Step.{named, usedOf, givenOf};
-ghost use Rattle.paths.specs.Search.{pushed, Searched};
-ghost use Rattle.seek.specs.Asked.{onTo, overTo, Asked, AskedRoom};
+ghost use Rattle.steps.specs.Step.{named};
+ghost use Rattle.steps.specs.Inner.{usedOf, givenOf};
+ghost use Rattle.paths.specs.Inner.{pushed, Searched};
+ghost use Rattle.seek.specs.Inner.{onTo, overTo, Asked, AskedRoom};
 use steps::Step;
 
 // Whether r stands in a field that a mask names.

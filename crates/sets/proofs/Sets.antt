@@ -19,7 +19,7 @@ use Rattle.flow.proofs.Bits.{bit-lt, bit-ext, or-bit, minus-bit}
 use Rattle.flow.proofs.Rows.{joined-lt}
 use Rattle.flow.proofs.Buffer.{step-word}
 use Rattle.steps.specs.Code.{setOf}
-use Rattle.steps.specs.Step.{usedOf, givenOf, afterOf, stepFlow}
+use Rattle.steps.specs.Inner.{usedOf, givenOf, afterOf, stepFlow}
 use Rattle.steps.specs.declared.Step.{Step}
 
 pub or-assoc : (a b c : ℕ) → bitOr (bitOr a b) c ≡ bitOr a (bitOr b c)

@@ -9,15 +9,16 @@ use lib.ListN.{length, getD, take, drop, set, replicate, length-set}
 use Rattle.roles.specs.Sets.{only, from}
 use Rattle.flow.specs.Set.{minus, alone}
 use Rattle.flow.specs.Flow.{joined, rowAt}
-use Rattle.flow.specs.Sweep.{row, Put}
-use Rattle.flow.specs.Words.{value, window, rowsOf, Small, Holds, WordsStored}
+use Rattle.flow.specs.Sweep.{row}
+use Rattle.flow.specs.Inner.{Put, window, Holds, WordsStored}
+use Rattle.flow.specs.Words.{value, rowsOf, Small}
 use Rattle.flow.proofs.Bits.{bit-ext, minus-bit, bit-zero}
 use Rattle.flow.proofs.Words.{as-set, holds-none, with-in, without-in}
 use Rattle.flow.proofs.Rows.{rowAt-lt}
 use Rattle.flow.proofs.Buffer.{row-inside, rows-at, rows-lt, put-row, step-words}
 use Rattle.flow.proofs.Fill.{Front, front-none, front-rest, front-more, joined-row}
 use Rattle.steps.specs.Code.{setOf}
-use Rattle.steps.specs.Step.{usedOf, givenOf, afterOf, stepFlow}
+use Rattle.steps.specs.Inner.{usedOf, givenOf, afterOf, stepFlow}
 use Rattle.steps.specs.declared.Step.{Step}
 use Rattle.sets.proofs.Sets.{or-assoc, minus-minus, joined-append, reg-in, reg-past, reg-none, set-lt, from-next}
 

@@ -6,7 +6,8 @@ ghost use lib.ListN.{length, take, drop};
 ghost use lib.Bits.{bitOr};
 ghost use Rattle.roles.specs.Sets.{only, from};
 ghost use Rattle.flow.specs.Set.{minus};
-ghost use Rattle.flow.specs.Words.{value, window, Small, Holds, WordsStored};
+ghost use Rattle.flow.specs.Words.{value, Small};
+ghost use Rattle.flow.specs.Inner.{window, Holds, WordsStored};
 ghost use Rattle.steps.specs.Code.{setOf};
 ghost use Rattle.steps.specs.Step.{named};
 

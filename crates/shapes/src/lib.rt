@@ -2,7 +2,7 @@
 ghost use mathlib.Core.Path.{_≡_};
 ghost use Prim.Native.Nat.{_<_};
 ghost use lib.ListN.{length};
-ghost use Rattle.code.specs.Check.{Whole};
+ghost use Rattle.code.specs.Inner.{Whole};
 ghost use Rattle.shapes.specs.Shape.{flatHere, flatAt, flat as flatAll, guards, guarded as guardedAny};
 ghost use Rattle.shapes.specs.Answers.{flatAnswer, guardedAnswer};
 use code::Answer;

@@ -26,7 +26,8 @@ use Rattle.saver.specs.Saver.{Saver, regsOf, enterOf}
 use Rattle.leaves.specs.Leaving.{Back, returned, leaveOf}
 use Rattle.leaves.specs.Leaving as saver
 use Rattle.frames.specs.Frames as frames
-use Rattle.frames.specs.Frames.{fileOf, Sound, SameRoom, Play, Matched}
+use Rattle.frames.specs.Frames.{fileOf, Sound, Matched}
+use Rattle.frames.specs.Inner.{SameRoom, Play}
 use Rattle.saver.specs.declared.SaverAnswer.the-variants.{Used}
 use Rattle.frames.proofs.Resumes.{frame-same, held-return, held-result, held-thrown}
 use Rattle.saved.specs.Calls.{Entered}

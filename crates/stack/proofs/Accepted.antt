@@ -6,11 +6,12 @@ use native.Mathlib.Decide.{decLt}
 use native.Mathlib.Omega.{arith}
 use lib.ListN.{length, List·getD-eq-default}
 use Rattle.code.specs.Ins.{insAt, count}
-use Rattle.code.specs.Check.{Valid, checkOf, insideOf}
+use Rattle.code.specs.Check.{checkOf, insideOf}
+use Rattle.code.specs.Inner.{Valid}
 use Rattle.code.specs.declared.Ins.{Ins}
 use Rattle.code.specs.declared.Checked.{Checked}
 use Rattle.code.specs.declared.Checked.the-variants.{Count}
-use Rattle.stack.specs.Stack.{Narrow}
+use Rattle.stack.specs.Inner.{Narrow}
 use Rattle.code.proofs.Rules.{x-small}
 use Rattle.code.proofs.Checks.{count-of}
 use Rattle.code.proofs.Stages.{at-before, at-inside}

@@ -1,5 +1,5 @@
 -- The callee of a call on the stack, by the values that each instruction pops and pushes (block.rs: `stack_callee`). Assumes nothing.
-use Prim.Native.Nat.{ℕ, zero, suc, _+_, _-_, _≤_}
+use Prim.Native.Nat.{ℕ, zero, suc, _+_, _-_}
 use mathlib.Core.Bool.{cond}
 use mathlib.Core.List.{List, [], _∷_}
 use lib.Dec.{eqb, ltb, leb}
@@ -16,10 +16,6 @@ use Rattle.stack.specs.declared.Source.{Source}
 use Rattle.stack.specs.declared.Source.the-variants.{From, Lost}
 use Rattle.stack.specs.declared.Turn.{Turn}
 use Rattle.stack.specs.declared.Turn.the-variants.{Ends, Needs}
-
--- x is at most 255, as the record rules have it
-pub record Narrow (i : Ins) : Type 0 where
-  pub narrow : i .x ≤ 255
 
 -- the work of each opcode on the stack, in the order of the Rust's match
 unfoldable pub works : List (Row Work)
@@ -77,8 +73,3 @@ pushedAt w (suc k) need = walked (turnOf (insAt w k) k need) (pushedAt w k)
 -- the function of a call of n positionals at j lies right under them
 unfoldable pub stackCallee : List ℕ → ℕ → ℕ → Source
 stackCallee w j n = pushedAt w j (n + 1)
-
--- the depth grows by no more than 65,535
-abbrev pub Grows : ℕ → Turn → Type 0
-Grows need (Needs m) = m ≤ need + 65535
-Grows need (Ends s) = Unit {0}

@@ -2,9 +2,10 @@
 ghost use mathlib.Core.Path.{_≡_};
 ghost use Prim.Native.Nat.{_<_, _≤_};
 ghost use Rattle.code.specs.Ins.{count};
-ghost use Rattle.code.specs.Check.{Valid};
+ghost use Rattle.code.specs.Inner.{Valid};
 ghost use Rattle.roles.specs.Roles.{roleTable};
-ghost use Rattle.stack.specs.Stack.{Narrow, workOf, effectOf, sourceOf, turnOf, Grows, stackCallee};
+ghost use Rattle.stack.specs.Stack.{workOf, effectOf, sourceOf, turnOf, stackCallee};
+ghost use Rattle.stack.specs.Inner.{Narrow, Grows};
 ghost use Rattle.stack.specs.Answers.{stackAnswer};
 use code::Answer;
 use code::Checked;

@@ -15,7 +15,7 @@ use Rattle.roles.specs.Sets.{only}
 use Rattle.touch.specs.declared.Touch.{Touch}
 use Rattle.flow.specs.Sweep.{below}
 use Rattle.steps.specs.Code.{storeOf, overPending, pastStore, restores, idle, afterAt}
-use Rattle.steps.specs.Step.{TouchesAt, StepAt, goesBefore}
+use Rattle.steps.specs.Inner.{TouchesAt, StepAt, goesBefore}
 use Rattle.steps.specs.declared.Step.{Step}
 
 return-stays : (i : Ins) → i .op ≡ ReturnR → isJump i ≡ false

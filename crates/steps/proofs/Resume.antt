@@ -11,11 +11,12 @@ use lib.Dec.{eqb, ltb}
 use lib.ListN.{length, getD, List·getD-eq-default}
 use Rattle.code.specs.Op.{JumpIfFalseR, Call, ArgsR}
 use Rattle.code.specs.Ins.{insAt, count, isCall, wide}
-use Rattle.code.specs.Check.{Valid}
+use Rattle.code.specs.Inner.{Valid}
 use Rattle.code.specs.declared.Ins.{Ins}
 use Rattle.code.proofs.Rules.{args-follow}
 use Rattle.steps.specs.Code.{storeOf}
-use Rattle.steps.specs.Resume.{resumeOf, resultAt, noRegister, Goes}
+use Rattle.steps.specs.Resume.{resumeOf, resultAt, noRegister}
+use Rattle.steps.specs.Inner.{Goes}
 
 module _ (w : List ℕ) (k : ℕ) where
   resume-by : (o : ℕ) → insAt w k .op ≡ o → resumeOf w k ≡ cond (eqb o JumpIfFalseR) k (cond (isCall o) (storeOf w k) (k + 1))

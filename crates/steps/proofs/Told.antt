@@ -20,8 +20,7 @@ use Rattle.touch.specs.Touch.{plainOf}
 use Rattle.roles.specs.declared.Case.{Case}
 use Rattle.roles.specs.declared.Case.the-variants.{Store, Unpack, Enter, Exit, Judge, Step as For, Plain}
 use Rattle.steps.specs.Code.{idle}
-use Rattle.steps.specs.Step.{StepAt, TouchesAt}
-use Rattle.steps.specs.Calm.{bitsOf, isPlain, tells, rowUnread, told, calmOf, calmStep, turnStep}
+use Rattle.steps.specs.Inner.{StepAt, TouchesAt, bitsOf, isPlain, tells, rowUnread, told, calmOf, calmStep, turnStep}
 use Rattle.touch.proofs.Cases.{is-plain}
 use Rattle.steps.proofs.Touched.{at-work}
 use Rattle.steps.proofs.Follows.{is-neither, step-is}

@@ -5,11 +5,12 @@ use mathlib.Core.List.{List}
 use Prim.Native.Nat.{ℕ}
 use Rattle.code.specs.Ins.{insAt}
 use Rattle.code.specs.declared.Ins.{Ins}
-use Rattle.touch.specs.Touch.{touch, touchOf, Touches}
+use Rattle.touch.specs.Touch.{touch, touchOf}
+use Rattle.touch.specs.Inner.{Touches}
 use Rattle.touch.specs.declared.Touch.{Touch}
 use Rattle.touch.proofs.Cases.{touches}
 use Rattle.steps.specs.Code.{idle, usedAt, givenAt}
-use Rattle.steps.specs.Step.{TouchesAt}
+use Rattle.steps.specs.Inner.{TouchesAt}
 
 module _ (w : List ℕ) (k : ℕ) (t : Bool) (e : t ≡ idle w k) where
   pub at-idle : t ≡ true → TouchesAt w k (touch 0 0 0 0)

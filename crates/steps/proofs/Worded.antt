@@ -14,9 +14,10 @@ use Rattle.laws.proofs.Keys.{sorted, row, apart, named, unnamed, Rest}
 use Rattle.code.specs.Op.{Raise}
 use Rattle.code.specs.declared.Ins.{Ins}
 use Rattle.roles.specs.Kinds.{none, Rule, Bits, says, page, ruleOf, kindsOf}
-use Rattle.roles.specs.Roles.{roleTable, EntrySays}
+use Rattle.roles.specs.Roles.{roleTable}
+use Rattle.roles.specs.Inner.{EntrySays}
 use Rattle.roles.proofs.ByTable.{read, past, raised, other}
-use Rattle.steps.specs.Word.{packed, wordOf}
+use Rattle.steps.specs.Inner.{packed, wordOf}
 
 -- ---- the arms of `word_of` are the page's rows
 

@@ -1,6 +1,5 @@
 pub mod Code
 pub mod Level
 pub mod Step
-pub mod Calm
-pub mod Word
 pub mod Resume
+pub mod Inner

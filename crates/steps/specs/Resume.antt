@@ -1,6 +1,5 @@
 -- Where a level goes on, and the register of its result. Assumes nothing.
 use Prim.Native.Nat.{ℕ, _+_}
-use mathlib.Core.Path.{_≡_}
 use mathlib.Core.Bool.{cond, _||_}
 use mathlib.Core.List.{List}
 use lib.Dec.{eqb, ltb}
@@ -21,8 +20,3 @@ unfoldable pub resultAt : List ℕ → ℕ → ℕ
 resultAt w k =
     let o = insAt w k .op in
     cond (eqb o JumpIfFalseR || eqb o Call) noRegister (cond (isCall o) (cond (ltb (storeOf w k) (count w)) (insAt w (storeOf w k) .a) noRegister) (insAt w k .a))
-
--- where the level at k goes on, and its result register
-pub record Goes (w : List ℕ) (k at result : ℕ) : Type 0 where
-  pub resumes : at ≡ resumeOf w k
-  pub results : result ≡ resultAt w k

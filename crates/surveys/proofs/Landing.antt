@@ -17,7 +17,8 @@ use Rattle.code.specs.Ins.{insAt}
 use Rattle.code.specs.declared.Ins.{Ins}
 use Rattle.roles.specs.Kinds.{isJump}
 use Rattle.surveys.specs.Answers.{targetMark}
-use Rattle.surveys.specs.Targets.{hits, jumpsTo, handlerOf, handledAt, jumped, handled, target, Lands}
+use Rattle.surveys.specs.Targets.{hits, jumpsTo, handlerOf, handledAt, jumped, handled, target}
+use Rattle.surveys.specs.Inner.{Lands}
 
 -- one landing
 module _ (n q : ℕ) (out : List ℕ) where

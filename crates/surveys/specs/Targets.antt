@@ -1,12 +1,10 @@
 -- `targets` of block.rs: the positions that a jump lands on, or the handler of a try, one past the last too. Assumes nothing.
-use Prim.Native.Nat.{ℕ, _+_, _*_, _/_, _<_}
-use mathlib.Core.Path.{_≡_}
-use mathlib.Core.Bool.{Bool, cond, _||_, _&&_}
+use Prim.Native.Nat.{ℕ, _+_, _*_, _/_}
+use mathlib.Core.Bool.{Bool, _||_, _&&_}
 use mathlib.Core.List.{List}
 use lib.Dec.{eqb}
 use lib.ListN.{length, getD}
 use Rattle.laws.specs.Some.{some}
-use Rattle.laws.specs.Table.{Held}
 use Rattle.code.specs.Ins.{insAt, count}
 use Rattle.roles.specs.Kinds.{isJump}
 
@@ -37,8 +35,3 @@ handled t m p = some (handledAt t p) m
 -- p is a target: some jump's a is p, or some try's h
 unfoldable pub target : List ℕ → List ℕ → ℕ → Bool
 target w t p = jumped w (count w) p || handled t (length t / 2) p
-
--- 1 at each p up to n with f p, and nothing else changed
-pub record Lands (n : ℕ) (f : ℕ → Bool) (out out′ : List ℕ) : Type 0 where
-  pub each : (p : ℕ) → p < n + 1 → getD out′ p 0 ≡ cond (f p) 1 (getD out p 0)
-  pub held : Held (n + 1) out out′

@@ -3,9 +3,10 @@ ghost use mathlib.Core.Path.{_≡_};
 ghost use Prim.Native.Nat.{_+_, _*_, _/_, _<_, _≤_};
 ghost use lib.ListN.{length};
 ghost use Rattle.laws.specs.Table.{filledTo};
-ghost use Rattle.code.specs.Check.{Whole};
+ghost use Rattle.code.specs.Inner.{Whole};
 ghost use Rattle.surveys.specs.Answers.{targetMark, Targets};
-ghost use Rattle.surveys.specs.Targets.{hits, handlerOf, jumped, handled, Lands};
+ghost use Rattle.surveys.specs.Targets.{hits, handlerOf, jumped, handled};
+ghost use Rattle.surveys.specs.Inner.{Lands};
 use code::Answer;
 use code::Checked;
 

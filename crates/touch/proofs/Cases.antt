@@ -12,7 +12,8 @@ use Rattle.roles.specs.Kinds.{a, b, c, dest, none, has, abc, total, firstOf, ha
 use Rattle.roles.specs.Sets.{only, from, inARow, caseOf, used, given, written, usedBy, givenBy}
 use Rattle.roles.specs.declared.Case.{Case}
 use Rattle.roles.specs.declared.Case.the-variants.{Store, Unpack, Enter, Exit, Judge, Step, Plain}
-use Rattle.touch.specs.Touch.{named, touch, touchBy, touchOf, Touches, writtenBy, plainOf}
+use Rattle.touch.specs.Touch.{named, touch, touchBy, touchOf, writtenBy, plainOf}
+use Rattle.touch.specs.Inner.{Touches}
 use Rattle.touch.specs.declared.Touch.{Touch}
 
 -- ---- masks

@@ -1,2 +1,3 @@
 pub mod Touch
 pub mod Traps
+pub mod Inner

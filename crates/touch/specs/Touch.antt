@@ -1,12 +1,11 @@
 -- What an instruction by itself touches, as masks over its fields: one answer for rows, `writes` and `params_written`. Assumes nothing.
 use Prim.Native.Nat.{ℕ, _*_, _/_, _%_}
-use mathlib.Core.Path.{_≡_}
 use mathlib.Core.Bool.{cond, not}
 use mathlib.Core.List.{List, _++_}
 use lib.Dec.{eqb}
 use Rattle.code.specs.declared.Ins.{Ins}
 use Rattle.roles.specs.Kinds.{a, b, c, none, has, abc, firstOf, kindsOf}
-use Rattle.roles.specs.Sets.{only, from, caseOf, written, usedBy, givenBy}
+use Rattle.roles.specs.Sets.{only, caseOf, written}
 use Rattle.roles.specs.declared.Case.{Case}
 use Rattle.roles.specs.declared.Case.the-variants.{Store, Unpack, Enter, Exit, Judge, Step, Plain}
 use Rattle.touch.specs.declared.Touch.{Touch}
@@ -39,9 +38,3 @@ touchOf i = touchBy (caseOf (i .op)) i
 -- written, as `writes` has it
 unfoldable pub writtenBy : Ins → List ℕ
 writtenBy i = written (caseOf (i .op)) i
-
--- the masks name the registers of the three sets
-pub record Touches (i : Ins) (t : Touch) : Type 0 where
-  pub used : named (t .used) (i .a) (i .b) (i .c) ≡ usedBy i
-  pub given : named (t .given) (i .a) (i .b) (i .c) ++ from (i .b) (t .run) ≡ givenBy i
-  pub written : named (t .written) (i .a) (i .b) (i .c) ++ from (i .b) (t .run) ≡ writtenBy i

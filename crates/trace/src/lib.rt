@@ -1,7 +1,7 @@
 // A recorded trace judged: whether it is a run of the code, and what is wrong first (document 02, wish 9).
 ghost use mathlib.Core.Path.{_≡_};
 ghost use Prim.Native.Nat.{_+_, _/_, _<_};
-ghost use Rattle.code.specs.Check.{Whole};
+ghost use Rattle.code.specs.Inner.{Whole};
 ghost use Rattle.trace.specs.Trace.{verdictOf};
 
 // What a trace is found to be: a run, or the first thing wrong, with its block or step.

@@ -10,7 +10,8 @@ use lib.Bits.{bitAnd, bitOr, bitXor}
 use mir.Syntax.{w64}
 use mir.Val.{SFits, toZ, ofZ}
 use Rattle.values.specs.Python.{shiftUp, shiftDown}
-use Rattle.values.specs.Folds.{SmallInt, SoundInt, inRange, isZero, divmod, quotient, remainder, shifted, ints, floats, foldBinop, foldNot, foldNeg}
+use Rattle.values.specs.Folds.{SmallInt, inRange, isZero, divmod, quotient, remainder, shifted, ints, floats, foldBinop, foldNot, foldNeg}
+use Rattle.values.specs.Inner.{SoundInt}
 use Rattle.values.specs.declared.Val.{Val}
 use Rattle.values.specs.declared.Val.the-variants.{Int, Float as Real, Bool as Truth}
 use Rattle.values.specs.declared.Maybe.{Maybe}

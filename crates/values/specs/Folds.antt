@@ -1,5 +1,5 @@
 -- What an operator makes of constant operands, or `Nothing`: document 01, 'Folding'.
-use Prim.Native.Nat.{ℕ, zero, _^_, _<_}
+use Prim.Native.Nat.{ℕ, _^_, _<_}
 use mathlib.Core.Bool.{Bool, not, cond}
 use lib.Dec.{ltb}
 use lib.IntN.{ℤ, pos, negsuc, negℤ, _+ℤ_, _-ℤ_, _*ℤ_}
@@ -18,12 +18,6 @@ use Rattle.values.specs.declared.Op.the-variants.{Add, Sub, Mul, Div, Mo
 -- within −140,737,488,355,328 to 140,737,488,355,327: `mag` is n for n and for -(n + 1)
 pub record SmallInt (z : ℤ) : Type 0 where
   pub small : mag z < 2 ^ 47
-
--- an operand's int is
-abbrev pub SoundInt : Val → Type 0
-SoundInt (Int z) = SmallInt z
-SoundInt (Real x) = Unit {0}
-SoundInt (Truth b) = Unit {0}
 
 -- an int result stays within that range, or no fold
 unfoldable pub inRange : ℤ → Maybe

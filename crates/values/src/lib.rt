@@ -3,7 +3,8 @@ ghost use mathlib.Core.Path.{_≡_};
 ghost use lib.IntN.{natAbs, negℤ};
 ghost use lib.Ieee.{binary64, ofInt};
 ghost use Rattle.values.specs.Python.{shiftUp, shiftDown};
-ghost use Rattle.values.specs.Folds.{SmallInt, SoundInt, inRange, divmod, shifted, ints, floats, foldNot, foldNeg, foldBinop};
+ghost use Rattle.values.specs.Folds.{SmallInt, inRange, divmod, shifted, ints, floats, foldNot, foldNeg, foldBinop};
+ghost use Rattle.values.specs.Inner.{SoundInt};
 
 pub enum Val {
     Int(i64),

@@ -8,7 +8,7 @@ use native.Mathlib.Omega.{arith}
 use borrow.Author.Tests.{eq-eqb, ne-eqb}
 use Rattle.code.specs.Op.{StoreTopR, LoadGlobalR}
 use Rattle.code.specs.Ins.{insAt, count}
-use Rattle.code.specs.Check.{Valid}
+use Rattle.code.specs.Inner.{Valid}
 use Rattle.code.specs.declared.Ins.{Ins}
 use Rattle.pushes.specs.declared.Place.{Place}
 use Rattle.pushes.specs.declared.Place.the-variants.{At, Nowhere}

@@ -8,7 +8,8 @@ use lib.Dec.{leb, eqb}
 use Rattle.laws.proofs.Branch.{or-false}
 use Rattle.code.specs.Op.{last, PushRegs, UnpackR, ArgsR, WithEnter, WithExit}
 use Rattle.code.specs.Ins.{insAt, isCall, wide}
-use Rattle.code.specs.Rules.{rules, hasRule, ruleAt}
+use Rattle.code.specs.Rules.{rules, ruleAt}
+use Rattle.code.specs.Inner.{hasRule}
 use Rattle.code.specs.declared.Ins.{Ins}
 use Rattle.code.proofs.breaks.Statement.{statement}
 use Rattle.code.proofs.breaks.Tie as tie

@@ -3,7 +3,7 @@ use borrow.Author.Needs.{needs}
 use mathlib.Core.Path.{sym, refl}
 use native.Mathlib.Omega.{arith}
 use denote.Ref.{now}
-use Rattle.kept.specs.Lists.{Width}
+use Rattle.kept.specs.Inner.{Width}
 use Rattle.kept.proofs.Tests.{accepted-offsets, accepted-few, accepted-valid}
 use Rattle.kept.proofs.Calls.{part-mul, part-fits, part-long, part-whole, ready, new-long, out-short, out-told}
 use Rattle.kept.proofs.keep_all.Statement.{statement}

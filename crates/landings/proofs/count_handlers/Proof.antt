@@ -3,7 +3,7 @@ use borrow.Author.Needs.{needs}
 use Prim.Native.Nat.{_≤_, _-_, _/_}
 use mathlib.Core.Path.{_≡_, refl}
 use lib.ListN.{length}
-use Rattle.landings.specs.Landings.{Handled}
+use Rattle.landings.specs.Inner.{Handled}
 use Rattle.landings.proofs.Filled.{handled-none, handled-all, handled-more, handle-fits}
 use Rattle.landings.proofs.count_handlers.Statement.{statement}
 use Rattle.landings.proofs.count_handlers.Tie as tie

@@ -1,7 +1,7 @@
 -- `lent::is_ample` meets its contract. Assumes nothing.
 use borrow.Author.Needs.{needs}
 use Rattle.laws.proofs.Branch.{branch}
-use Rattle.lent.specs.Check.{ample}
+use Rattle.lent.specs.Inner.{ample}
 use Rattle.lent.proofs.is_ample.Statement.{statement}
 use Rattle.lent.proofs.is_ample.Tie as tie
 

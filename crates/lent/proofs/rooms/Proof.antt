@@ -15,7 +15,8 @@ use Rattle.laws.specs.All.{many}
 use Rattle.laws.proofs.Branch.{and-true}
 use Rattle.laws.proofs.Many.{many-few}
 use Rattle.lent.specs.Chunk.{chunkCount, opAt, isPhi, folds}
-use Rattle.lent.specs.Check.{tallyOf, constantRoom, sourceRoom, ample, roomsOf}
+use Rattle.lent.specs.Check.{tallyOf, constantRoom, sourceRoom, roomsOf}
+use Rattle.lent.specs.Inner.{ample}
 use Rattle.lent.specs.declared.Tally.{Tally}
 use Rattle.lent.specs.declared.Counts.{Counts}
 use Rattle.lent.specs.declared.Lens.{Lens}

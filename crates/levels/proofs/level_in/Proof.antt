@@ -9,7 +9,7 @@ use Rattle.code.specs.Answers.{answerOf}
 use Rattle.code.specs.declared.Answer.{Answer}
 use Rattle.code.specs.declared.Ins.{Ins}
 use Rattle.steps.specs.Level.{isLevel}
-use Rattle.steps.specs.Resume.{Goes}
+use Rattle.steps.specs.Inner.{Goes}
 use Rattle.levels.specs.Answers.{levelTold}
 use Rattle.levels.proofs.level_in.Statement.{statement}
 use Rattle.levels.proofs.level_in.Tie as tie

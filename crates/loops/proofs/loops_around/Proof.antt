@@ -3,8 +3,8 @@ use borrow.Author.Needs.{needs}
 use mathlib.Core.List.{List}
 use Prim.Native.Nat.{ℕ, _+_, _/_, _≤_}
 use lib.ListN.{length}
-use Rattle.code.specs.Check.{Valid}
-use Rattle.loops.specs.Loops.{Space}
+use Rattle.code.specs.Inner.{Valid}
+use Rattle.loops.specs.Inner.{Space}
 use Rattle.code.proofs.Stages.{passing, onward}
 use Rattle.walks.proofs.Rooms.{rooms}
 use Rattle.surveys.proofs.Filling.{filling}

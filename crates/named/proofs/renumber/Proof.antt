@@ -1,7 +1,7 @@
 -- `named::renumber` meets its contract. Assumes nothing.
 use borrow.Author.Needs.{needs}
 use Prim.Native.Nat.{_≤_, _-_}
-use Rattle.named.specs.Marks.{numberIn}
+use Rattle.named.specs.Inner.{numberIn}
 use Rattle.named.proofs.Recoding.{Recoding, recoding-none, recoding-more, recoding-same, recoding-done}
 use Rattle.named.proofs.renumber.Statement.{statement}
 use Rattle.named.proofs.renumber.Tie as tie

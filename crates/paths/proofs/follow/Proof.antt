@@ -8,7 +8,7 @@ use native.Mathlib.Omega.{arith}
 use lib.ListN.{length}
 use mir.Val.{boolByte}
 use Rattle.laws.proofs.Byte.{byte-small}
-use Rattle.paths.specs.Search.{pushed}
+use Rattle.paths.specs.Inner.{pushed}
 use Rattle.paths.proofs.Depth.{pushed-long}
 use Rattle.paths.proofs.follow.Statement.{statement}
 use Rattle.paths.proofs.follow.Tie as tie

@@ -7,7 +7,7 @@ use Prim.Native.Nat.{ℕ, _+_}
 use native.Mathlib.Omega.{arith}
 use lib.ListN.{set}
 use mir.Val.{boolByte}
-use Rattle.paths.specs.Search.{pushed}
+use Rattle.paths.specs.Inner.{pushed}
 use Rattle.paths.proofs.push.Statement.{statement}
 use Rattle.paths.proofs.push.Tie as tie
 

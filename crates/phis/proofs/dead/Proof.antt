@@ -7,9 +7,11 @@ use Prim.Native.Nat.{ℕ, _+_, _/_}
 use lib.ListN.{length}
 use Rattle.laws.specs.Table.{clearedTo}
 use Rattle.laws.proofs.Table.{cleared-length}
-use Rattle.paths.specs.Search.{Says, Searched, SearchSettles}
+use Rattle.paths.specs.Search.{Says, SearchSettles}
+use Rattle.paths.specs.Inner.{Searched}
 use Rattle.paths.proofs.Between.{none, settles}
-use Rattle.phis.specs.Phi.{Read, Dead, PhiRoom}
+use Rattle.phis.specs.Phi.{Read, Dead}
+use Rattle.phis.specs.Inner.{PhiRoom}
 use Rattle.phis.proofs.dead.Statement.{statement}
 use Rattle.phis.proofs.dead.Tie as tie
 

@@ -5,7 +5,7 @@ use mathlib.Core.Bool.{Bool}
 use mathlib.Core.List.{List}
 use Prim.Native.Nat.{ℕ, _+_}
 use mir.Val.{boolByte}
-use Rattle.paths.specs.Search.{pushed}
+use Rattle.paths.specs.Inner.{pushed}
 use Rattle.phis.proofs.follow.Statement.{statement}
 use Rattle.phis.proofs.follow.Tie as tie
 

@@ -3,7 +3,7 @@ use borrow.Author.Needs.{needs}
 use Prim.Native.Nat.{_+_, _/_}
 use native.Mathlib.Omega.{arith}
 use lib.ListN.{length}
-use Rattle.paths.specs.Search.{owed}
+use Rattle.paths.specs.Inner.{owed}
 use Rattle.paths.proofs.Loop.{few-wait, room-for-2, turning}
 use Rattle.phis.specs.Phi.{leadsAt}
 use Rattle.phis.proofs.Loop.{Loop, turn}

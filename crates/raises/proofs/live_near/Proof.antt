@@ -3,7 +3,7 @@ use borrow.Author.Needs.{needs}
 use Prim.Native.Nat.{_-_}
 use Rattle.code.specs.Ins.{count}
 use Rattle.steps.specs.Level.{firstLevel}
-use Rattle.raises.specs.Near.{Covers}
+use Rattle.raises.specs.Inner.{Covers}
 use Rattle.raises.proofs.Near.{covers-start}
 use Rattle.raises.proofs.Sweeps.{Between, Turn, toGo, near-starts, near-idle, sweep-starts, near-long, near-down, near-in, near-needs, near-step, near-covers, left-few, left-again, left-less, whole-few, whole-found, whole-again, whole-less}
 use Rattle.raises.proofs.live_near.Statement.{statement}

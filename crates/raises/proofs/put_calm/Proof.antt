@@ -6,10 +6,10 @@ use mathlib.Core.List.{List}
 use Prim.Native.Nat.{ℕ, _+_, _<_}
 use native.Mathlib.Omega.{arith}
 use Rattle.code.specs.declared.Ins.{Ins}
-use Rattle.flow.specs.Sweep.{Put}
-use Rattle.steps.specs.Calm.{calmStep}
+use Rattle.flow.specs.Inner.{Put}
+use Rattle.steps.specs.Inner.{calmStep}
 use Rattle.steps.specs.declared.Step.{Step}
-use Rattle.raises.specs.Near.{moreStep}
+use Rattle.raises.specs.Inner.{moreStep}
 use Rattle.raises.proofs.put_calm.Statement.{statement}
 use Rattle.raises.proofs.put_calm.Tie as tie
 

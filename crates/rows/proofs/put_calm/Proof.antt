@@ -6,9 +6,8 @@ use mathlib.Core.List.{List}
 use Prim.Native.Nat.{ℕ, _+_, _<_}
 use native.Mathlib.Omega.{arith}
 use Rattle.code.specs.declared.Ins.{Ins}
-use Rattle.flow.specs.Sweep.{Put}
-use Rattle.steps.specs.Step.{stepFlow}
-use Rattle.steps.specs.Calm.{calmStep}
+use Rattle.flow.specs.Inner.{Put}
+use Rattle.steps.specs.Inner.{stepFlow, calmStep}
 use Rattle.steps.specs.declared.Step.{Step}
 use Rattle.rows.proofs.put_calm.Statement.{statement}
 use Rattle.rows.proofs.put_calm.Tie as tie

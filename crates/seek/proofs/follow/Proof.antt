@@ -8,8 +8,8 @@ use native.Mathlib.Omega.{arith}
 use lib.Dec.{ltb}
 use mir.Val.{boolByte}
 use Rattle.steps.specs.declared.Step.{Step}
-use Rattle.paths.specs.Search.{pushed}
-use Rattle.seek.specs.Asked.{overTo}
+use Rattle.paths.specs.Inner.{pushed}
+use Rattle.seek.specs.Inner.{overTo}
 use Rattle.seek.proofs.follow.Statement.{statement}
 use Rattle.seek.proofs.follow.Tie as tie
 

@@ -3,7 +3,7 @@ use borrow.Author.Needs.{needs}
 use Prim.Native.Nat.{_+_, _/_}
 use native.Mathlib.Omega.{arith}
 use lib.ListN.{length}
-use Rattle.paths.specs.Search.{owed}
+use Rattle.paths.specs.Inner.{owed}
 use Rattle.seek.specs.Asked.{seekNext}
 use Rattle.seek.proofs.Loop.{Loop, few-wait, place, mark-in, room-for-2, turning}
 use Rattle.seek.proofs.search.Statement.{statement}

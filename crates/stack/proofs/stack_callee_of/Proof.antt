@@ -5,13 +5,14 @@ use mathlib.Core.List.{List}
 use Prim.Native.Nat.{ℕ, zero, suc, _+_, _-_, _*_, _<_, _≤_}
 use native.Mathlib.Omega.{arith}
 use Rattle.code.specs.Ins.{insAt, count}
-use Rattle.code.specs.Check.{Valid}
+use Rattle.code.specs.Inner.{Valid}
 use Rattle.code.specs.declared.Ins.{Ins}
 use Rattle.stack.specs.declared.Source.{Source}
 use Rattle.stack.specs.declared.Source.the-variants.{Lost}
 use Rattle.stack.specs.declared.Turn.{Turn}
 use Rattle.stack.specs.declared.Turn.the-variants.{Ends, Needs}
-use Rattle.stack.specs.Stack.{turnOf, walked, Grows, pushedAt, stackCallee}
+use Rattle.stack.specs.Stack.{turnOf, walked, pushedAt, stackCallee}
+use Rattle.stack.specs.Inner.{Grows}
 use Rattle.stack.proofs.Accepted.{narrow-at}
 use Rattle.stack.proofs.stack_callee_of.Statement.{statement}
 use Rattle.stack.proofs.stack_callee_of.Tie as tie

@@ -5,8 +5,7 @@ use mathlib.Core.List.{List}
 use Prim.Native.Nat.{ℕ, _<_}
 use Rattle.code.specs.Ins.{insAt, count}
 use Rattle.code.specs.declared.Ins.{Ins}
-use Rattle.steps.specs.Step.{StepAt}
-use Rattle.steps.specs.Calm.{calmOf, turnStep}
+use Rattle.steps.specs.Inner.{StepAt, calmOf, turnStep}
 use Rattle.steps.specs.declared.Step.{Step}
 use Rattle.steps.proofs.Told.{turn-is}
 use Rattle.steps.proofs.step_with.Statement.{statement}

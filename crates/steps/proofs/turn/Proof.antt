@@ -5,7 +5,7 @@ use mathlib.Core.Bool.{not}
 use Prim.Native.Nat.{ℕ, _*_, _/_, _%_, min}
 use lib.Dec.{eqb}
 use Rattle.code.specs.declared.Ins.{Ins}
-use Rattle.steps.specs.Calm.{turnStep}
+use Rattle.steps.specs.Inner.{turnStep}
 use Rattle.steps.specs.declared.Step.{Step}
 use Rattle.steps.proofs.turn.Statement.{statement}
 use Rattle.steps.proofs.turn.Tie as tie

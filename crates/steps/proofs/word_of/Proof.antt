@@ -1,6 +1,6 @@
 -- `steps::word_of` meets its contract: its arms are the page's rows. Assumes nothing.
 use Rattle.roles.specs.Kinds.{page}
-use Rattle.steps.specs.Word.{packed}
+use Rattle.steps.specs.Inner.{packed}
 use Rattle.steps.proofs.Worded.{word-arm, word-rest}
 use Rattle.steps.proofs.word_of.Statement.{statement}
 use Rattle.steps.proofs.word_of.Tie as tie

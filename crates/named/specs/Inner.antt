@@ -1,4 +1,4 @@
--- What the passes over the code leave behind: marks of what it names, and numbers for its operands. Assumes nothing.
+-- What only the inside of `named` needs: contracts of inner functions and proofs cite it, no promise does. Assumes nothing.
 use Prim.Native.Nat.{ℕ, _≤_, _<_}
 use mathlib.Core.Path.{_≡_}
 use mathlib.Core.Bool.{Bool, cond, not, _&&_}

@@ -1,22 +1,36 @@
--- The word route's step, and the tries around the positions that it comes down through. Assumes nothing.
+-- What only the inside of `raises` needs: contracts of inner functions and proofs cite it, no promise does. Assumes nothing.
 use Prim.Native.Nat.{ℕ, suc, _+_, _-_, _≤_, _<_, max}
-use mathlib.Core.Path.{_≡_}
 use mathlib.Core.Bool.{Bool, false, cond, _||_}
 use mathlib.Core.List.{List, [], _∷_}
+use Rattle.flow.specs.Flow.{Flow, joined}
+use Rattle.steps.specs.Code.{setOf, usedAt, givenAt, afterAt}
+use Rattle.steps.specs.Inner.{usedOf, givenOf, afterOf}
+use Rattle.steps.specs.declared.Step.{Step}
+use Rattle.nested.specs.Raising.{leaving, stranded, raising, mays, beginsAt}
+use mathlib.Core.Path.{_≡_}
 use lib.Bits.{bitOr}
 use lib.Dec.{ltb}
 use lib.ListN.{length}
 use Rattle.code.specs.Ins.{insAt, count}
 use Rattle.code.specs.declared.Ins.{Ins}
 use Rattle.roles.specs.Sets.{only}
-use Rattle.flow.specs.Flow.{Flow, joined}
-use Rattle.flow.specs.Sweep.{row, below, Put}
+use Rattle.flow.specs.Sweep.{row, below}
+use Rattle.flow.specs.Inner.{Put}
 use Rattle.flow.specs.Kept.{handlersOf}
 use Rattle.steps.specs.Level.{isLevel}
-use Rattle.steps.specs.Code.{setOf, usedAt, givenAt, afterAt}
-use Rattle.steps.specs.Step.{usedOf, givenOf, afterOf}
-use Rattle.steps.specs.declared.Step.{Step}
-use Rattle.nested.specs.Raising.{stranded}
+use Rattle.kept.specs.Answers.{ListsLeft}
+use Rattle.kept.specs.declared.KeptAnswer.{KeptAnswer}
+
+-- the row equation of a step by itself; what may raise may leave for the handlers around it, and what is stranded for the next position
+abbrev pub raisingStep : Bool → Bool → ℕ → ℕ → List ℕ → Step → Flow
+raisingStep may past n regs tries s = record {
+  size = 0;
+  regs = regs;
+  used = λ k. setOf regs (usedOf s);
+  givenUp = λ k. setOf regs (givenOf s);
+  after = afterOf s;
+  raises = λ k. leaving may past n k tries;
+}
 
 -- the rows that are joined whole at k, where i stands: the next one if it is stranded, and if it may raise those of its handlers, which are `out` together
 unfoldable pub moreOf : Bool → ℕ → Ins → List ℕ → ℕ → ℕ
@@ -71,3 +85,8 @@ pub record Covered (n : ℕ) (tries rows : List ℕ) (out low k : ℕ) : Type 0 
 pub record Covers (n : ℕ) (tries rows : List ℕ) (out low k : ℕ) : Type 0 where
   pub some : 0 < low → 1 < length tries
   pub at : low < k → Covered n tries rows out low (k - 1)
+
+-- refusals and leavings are those of the kept-register call; the rows are those of the equations with handlers
+abbrev pub RaisingOutcome : List ℕ → ℕ → List ℕ → Bool → (rows offsets list new o l : List ℕ) → KeptAnswer → Type 0
+RaisingOutcome w regs tries all rows offsets list new o l r = ListsLeft (raising (mays all w) regs w tries)
+    (beginsAt regs w) 64 w regs tries rows offsets list new o l r

@@ -65,7 +65,6 @@ module _ (f : Flow) (first : ℕ) where
       go false = le-refl first
 
   module _ (le : first ≤ f .size) where
-
     module _ (rows : List ℕ) (full lost : ℕ) (a : Found f first rows full lost) where
       -- the rows are the least solution from the final start
       pub found-least : Least f (startOf f first) (row rows)

@@ -11,7 +11,6 @@ use lib.Seq.{getD-at}
 use Rattle.laws.specs.Each.{each}
 
 module _ (g : ℕ → List ℕ) where
-
   pub each-more : (k : ℕ) → each g (k + 1) ≡ each g k ++ g k
   unfolding each
   each-more k = rw add-one

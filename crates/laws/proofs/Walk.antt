@@ -38,7 +38,6 @@ pub ruleset finds = (begins, goes-on, stops, ends)
 
 -- the same for `walk`, from a state s
 module _ {S : Type 0} (f : ℕ → S → S) (k n : ℕ) (s r : S) where
-
   pub steps : k < n → walk f k (n - k) s ≡ r → walk f (k + 1) (n - (k + 1)) (f k s) ≡ r
   unfolding walk
   steps h i =

@@ -117,7 +117,6 @@ unfolding many
 starts w out z = record { below = omega arith; zeroed = z; each = λ p h. z .zero p h; held = record { same = refl; tail = refl } }
 
 module _ (w out₀ out : List ℕ) (g : ℕ) (s : Counting w out₀ out g) where
-
   pub low-at : (a e : ℕ) → e ≤ length w / 6 → CanGrow (length w / 6 + 1) a e out
   low-at a e h =
       record {

@@ -13,7 +13,7 @@ pub fn wide(x: u32) -> usize
 }
 
 // The waiting stack's height with `at` on it, where `yes`.
-pub fn push(todo: &mut [u32], top: usize, at: u32, yes: bool) -> usize
+fn push(todo: &mut [u32], top: usize, at: u32, yes: bool) -> usize
     requires { ⌜ top < length (now todo) ⌝ }
     ensures { λ h. ⌜ (h ≡ top + boolByte yes) × (now (todo .exit) ≡ pushed (now (todo .entry)) top at yes) ⌝ }
 {

@@ -43,12 +43,15 @@ fn follow(todo: &mut [u32], top: usize, j: usize, s: Step, n: usize) -> usize
         × (now (todo .exit) ≡ pushed (pushed (now (todo .entry)) top (j + 1) (onTo s j n)) (top + boolByte (onTo s j n)) (s .target) (overTo s n)) ⌝ }
 {
     let next = j + 1;
-    let on = s.on & (next < n);
-    if s.to {
-        let over = s.target;
-        return paths::follow(todo, top, next as u32, on, over as u32, over < n);
-    }
-    paths::push(todo, top, next as u32, on)
+    let over = s.target;
+    paths::follow(
+        todo,
+        top,
+        next as u32,
+        s.on & (next < n),
+        over as u32,
+        s.to & (over < n),
+    )
 }
 
 // Whether a path from `start` uses r before it gives it up; no mark is set at entry. Only positions of the code wait, and each is looked at once at most.

@@ -64,7 +64,7 @@ pub fn search(
     todo: &mut [u32],
 ) -> bool
     requires { ⌜ (now roles ≡ roleTable)
-        × Room (now code) (now seen) (now todo)
+        × AskedRoom (now code) (now seen) (now todo)
         × ((j : ℕ) → j < length (now code) / 6 → getD (now seen) j 0 ≡ 0) ⌝ }
     ensures { λ b. ⌜ Searched (Asked (now (code .entry)) r start) (length (now (code .entry)) / 6)
         (now (seen .entry)) (now (todo .entry)) b (now (seen .exit)) (now (todo .exit)) ⌝ }

@@ -54,7 +54,7 @@ sub-k : tie.Need-sub-k Inv-loop μ-loop Inv-again μ-again
 sub-k c = search needs
 
 put-near-requires : tie.Need-put-near-requires Inv-loop μ-loop Inv-again μ-again
-put-near-requires c κs = (search needs, search needs, near-long (c .before .before .before .before .before .loop .inv .0), near-down (c .before .before .before .before .before .loop .inv .0) (c .before .before .before .before .loop-test .taken), near-in (c .before .before .before .before .before .loop .inv .0) (c .before .before .before .before .loop-test .taken))
+put-near-requires c κs = (search needs, search needs, near-long (c .before .before .before .before .loop .inv .0), near-down (c .before .before .before .before .loop .inv .0) (c .before .before .before .loop-test .taken), near-in (c .before .before .before .before .loop .inv .0) (c .before .before .before .loop-test .taken))
 
 clear-requires-2 : tie.Need-clear-requires-2 Inv-loop μ-loop Inv-again μ-again
 clear-requires-2 c κs = search needs
@@ -67,16 +67,16 @@ again-less c = search left-less
 
 again-again : tie.Need-again-again Inv-loop μ-loop Inv-again μ-again
 again-again c =
-    left-again (c .before .before .before .before .before .before .before .before .before .before .before .before .before .loop .inv .0) (c .before .before .before .before .before .before .before .before .before .before .covering .ensures) (c .before .before .before .before .before .before .before .before .before .before .before .before .loop-test .taken) (c .before .before .before .before .before .before .before .put-near .ensures) (c .before .before .before .before .if2 .taken) (c .before .before .clear2 .ensures)
-    (c .before .before .before .before .before .before .before .put-near .kept .1 .1 .1 .1 .0)
+    left-again (c .before .before .before .before .before .before .before .before .before .before .before .before .loop .inv .0) (c .before .before .before .before .before .before .before .before .before .covering .ensures) (c .before .before .before .before .before .before .before .before .before .before .before .loop-test .taken) (c .before .before .before .before .before .before .before .put-near .ensures) (c .before .before .before .before .if2 .taken) (c .before .before .clear2 .ensures)
+    (c .before .before .before .before .before .before .before .put-near .kept .1 .1 .1 .0)
 
 loop-less : tie.Need-loop-less Inv-loop μ-loop Inv-again μ-again
 loop-less c = search needs
 
 loop-again : tie.Need-loop-again Inv-loop μ-loop Inv-again μ-again
 loop-again c = (
-  near-step (c .before .before .before .before .before .before .before .before .before .before .before .loop .inv .0) (c .before .before .before .before .before .before .before .before .covering .ensures) (c .before .before .before .before .before .before .before .before .before .before .loop-test .taken) (c .before .before .before .before .before .put-near .ensures) (c .before .before .if2 .left),
-  near-covers (c .before .before .before .before .before .before .before .before .before .before .before .loop .inv .0) (c .before .before .before .before .before .before .before .before .covering .ensures) (c .before .before .before .before .before .before .before .before .before .before .loop-test .taken) (c .before .before .before .before .before .put-near .ensures) (c .before .before .if2 .left),
+  near-step (c .before .before .before .before .before .before .before .before .before .before .loop .inv .0) (c .before .before .before .before .before .before .before .covering .ensures) (c .before .before .before .before .before .before .before .before .before .loop-test .taken) (c .before .before .before .before .before .put-near .ensures) (c .before .before .if2 .left),
+  near-covers (c .before .before .before .before .before .before .before .before .before .before .loop .inv .0) (c .before .before .before .before .before .before .before .covering .ensures) (c .before .before .before .before .before .before .before .before .before .loop-test .taken) (c .before .before .before .before .before .put-near .ensures) (c .before .before .if2 .left),
 )
 
 add-full : tie.Need-add-full Inv-loop μ-loop Inv-again μ-again

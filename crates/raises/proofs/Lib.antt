@@ -1,5 +1,3 @@
-pub mod Near
-pub mod Sweeps
 pub mod Calls
 pub mod Exposing
 pub mod Examples

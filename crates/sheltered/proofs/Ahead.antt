@@ -12,7 +12,7 @@ use Rattle.steps.specs.Code.{flow, jumpsBack}
 use Rattle.kept.proofs.Counts.{jumps-back}
 use Rattle.kept.proofs.Demand.{inside}
 use Rattle.nested.specs.Raising.{raising, mays, beginsAt}
-use Rattle.raises.proofs.Sweeps.{below-same}
+use Rattle.sweeps.proofs.Sweeps.{below-same}
 
 -- counts by two tests that agree
 tally-same : (p q : ℕ → Bool) (start d : ℕ) → ((k : ℕ) → start ≤ k → k < start + d → p k ≡ q k) → tally p start d ≡ tally q start d

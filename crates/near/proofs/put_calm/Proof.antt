@@ -1,0 +1,58 @@
+-- `near::put_calm` meets its contract. Assumes nothing.
+use borrow.Author.Needs.{needs}
+use mathlib.Core.Path.{_≡_, sym, ap, _∙_, subst}
+use mathlib.Core.Bool.{Bool}
+use mathlib.Core.List.{List}
+use Prim.Native.Nat.{ℕ, _+_, _<_}
+use native.Mathlib.Omega.{arith}
+use Rattle.code.specs.declared.Ins.{Ins}
+use Rattle.flow.specs.Inner.{Put}
+use Rattle.steps.specs.Inner.{calmStep}
+use Rattle.steps.specs.declared.Step.{Step}
+use Rattle.near.specs.Inner.{moreStep}
+use Rattle.near.proofs.put_calm.Statement.{statement}
+use Rattle.near.proofs.put_calm.Tie as tie
+
+no-target : (i : Ins) (m k n : ℕ) (s : Step) → s ≡ calmStep i m → k + 1 < n → s .target < n
+no-target i m k n s e l = rw e (omega arith)
+
+put-as : (i : Ins) (m j more regs k : ℕ) (s : Step) (rows out : List ℕ) (r : Bool) → s ≡ calmStep i j → m ≡ j
+    → Put (moreStep more regs s) rows k out r → Put (moreStep more regs (calmStep i m)) rows k out r
+put-as i m j more regs k s rows out r e h p = subst (λ (x : Step). Put (moreStep more regs x) rows k out r) (e ∙ ap (calmStep i) (sym h)) p
+
+calm-requires : tie.Need-calm-requires
+calm-requires c κs = search needs
+
+put-word-requires : tie.Need-put-word-requires
+put-word-requires c κs = search (needs, no-target)
+
+same-length : tie.Need-same-length
+same-length c = search needs
+
+returns : tie.Need-returns
+returns c = search put-as
+
+calm-requires-2 : tie.Need-calm-requires-2
+calm-requires-2 c κs = search needs
+
+put-word-requires-2 : tie.Need-put-word-requires-2
+put-word-requires-2 c κs = search (needs, no-target)
+
+same-length-2 : tie.Need-same-length-2
+same-length-2 c = search needs
+
+returns-2 : tie.Need-returns-2
+returns-2 c = search put-as
+
+pub put-calm-spec : {M : Type 1} → statement M
+put-calm-spec =
+    tie.close
+    (tie.spec
+    calm-requires
+    put-word-requires
+    same-length
+    returns
+    calm-requires-2
+    put-word-requires-2
+    same-length-2
+    returns-2)

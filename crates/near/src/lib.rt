@@ -1,0 +1,389 @@
+// The word route of the sweeps that join handlers: a row in one word, and the handlers' rows together for a whole stretch of positions.
+ghost use mathlib.Core.Path.{_≡_};
+ghost use mathlib.Core.Bool.{cond, _||_};
+ghost use Prim.Native.Nat.{suc, _+_, _-_, _<_, _≤_, max};
+ghost use lib.ListN.{length};
+ghost use lib.Dec.{ltb};
+ghost use Rattle.code.specs.Ins.{count};
+ghost use Rattle.code.specs.Inner.{Valid};
+ghost use Rattle.roles.specs.Sets.{only, from};
+ghost use Rattle.flow.specs.Flow.{joined, rowAt};
+ghost use Rattle.flow.specs.Sweep.{row, Found};
+ghost use Rattle.flow.specs.Inner.{Put};
+ghost use Rattle.steps.specs.Code.{setOf};
+ghost use Rattle.steps.specs.Level.{isLevel, firstLevel};
+ghost use Rattle.steps.specs.Step.{named};
+ghost use Rattle.steps.specs.Inner.{givenOf, afterOf, calmOf, calmStep};
+ghost use Rattle.flow.specs.Kept.{handlersOf};
+ghost use Rattle.nested.specs.Raising.{raising, mays};
+ghost use Rattle.near.specs.Inner.{moreOf, moreStep, WentAt, edgeOf, lowestOf, Covered, Covers};
+use code::Ins;
+use code::op::*;
+use rows::Counts;
+use steps::Step;
+
+// Row k, if.
+fn row_if(t: bool, rows: &[u64], k: usize) -> u64
+    requires { ⌜ k < length (now rows) ⌝ }
+    ensures { λ x. ⌜ x ≡ joined (row (now (rows .entry))) (only t k) ⌝ }
+{
+    if t { rows[k] } else { 0 }
+}
+
+// The rows after a step at k, together.
+fn after_word(s: Step, rows: &[u64], k: usize) -> u64
+    requires { ⌜ (k + 1 < length (now rows)) × (s .target < length (now rows)) ⌝ }
+    ensures { λ x. ⌜ x ≡ joined (row (now (rows .entry))) (afterOf s k) ⌝ }
+{
+    row_if(s.on, rows, k + 1) | row_if(s.to, rows, s.target)
+}
+
+// Register r, if, and if there is such a register.
+fn reg_word(t: bool, regs: usize, r: usize) -> u64
+    requires { ⌜ regs ≤ 64 ⌝ }
+    ensures { λ x. ⌜ x ≡ setOf regs (only t r) ⌝ }
+{
+    if t {
+        if r < regs {
+            return 1u64 << r;
+        }
+        return 0;
+    }
+    0
+}
+
+// Those of three registers that a mask names.
+fn named_word(regs: usize, mask: u8, a: u16, b: u16, c: u16) -> u64
+    requires { ⌜ regs ≤ 64 ⌝ }
+    ensures { λ x. ⌜ x ≡ setOf regs (named mask a b c) ⌝ }
+{
+    let p = reg_word(mask / 2 % 2 == 1, regs, a as usize);
+    let q = reg_word(mask / 4 % 2 == 1, regs, b as usize);
+    let r = reg_word(mask / 8 % 2 == 1, regs, c as usize);
+    p | q | r
+}
+
+// The `run` registers from b on.
+fn run_word(regs: usize, b: usize, run: u8) -> u64
+    requires { ⌜ (regs ≤ 64) × (b + run ≤ 65790) ⌝ }
+    ensures { λ x. ⌜ x ≡ setOf regs (from b run) ⌝ }
+{
+    if run == 0 {
+        return 0;
+    }
+    reg_word(true, regs, b) | run_word(regs, b + 1, run - 1)
+}
+
+// What a step gives up.
+fn given_word(s: Step, regs: usize) -> u64
+    requires { ⌜ regs ≤ 64 ⌝ }
+    ensures { λ x. ⌜ x ≡ setOf regs (givenOf s) ⌝ }
+{
+    named_word(regs, s.given, s.a, s.b, s.c) | run_word(regs, s.b as usize, s.run)
+}
+
+// Row k, found from the rows as they are, and with the registers `more`.
+fn row_word(s: Step, regs: usize, rows: &[u64], k: usize, more: u64) -> u64
+    requires { ⌜ (regs ≤ 64) × (k + 1 < length (now rows)) × (s .target < length (now rows)) ⌝ }
+    ensures { λ x. ⌜ x ≡ rowAt (moreStep more regs s) (row (now (rows .entry))) k ⌝ }
+{
+    let set = after_word(s, rows, k);
+    let gone = given_word(s, regs);
+    let used = named_word(regs, s.used, s.a, s.b, s.c) | more;
+    used | (set & !gone)
+}
+
+// Row k is found and stored: whether that changed it.
+fn put_word(s: Step, regs: usize, rows: &mut [u64], k: usize, more: u64) -> bool
+    requires { ⌜ (regs ≤ 64) × (k + 1 < length (now rows)) × (s .target < length (now rows)) ⌝ }
+    ensures { λ r. ⌜ Put (moreStep more regs s) (now (rows .entry)) k (now (rows .exit)) r ⌝ }
+{
+    let set = row_word(s, regs, rows, k, more);
+    if rows[k] == set {
+        return false;
+    }
+    rows[k] = set;
+    true
+}
+
+// Row k is found and stored, where an instruction only reads and writes the registers that m tells; most write a and read b and c, which is 13.
+fn put_calm(i: Ins, m: u8, regs: usize, rows: &mut [u64], k: usize, more: u64) -> bool
+    requires { ⌜ (regs ≤ 64) × (k + 1 < length (now rows)) ⌝ }
+    ensures { λ r. ⌜ Put (moreStep more regs (calmStep i m)) (now (rows .entry)) k (now (rows .exit)) r ⌝ }
+{
+    if m == 13 {
+        return put_word(steps::calm(i, 13), regs, rows, k, more);
+    }
+    put_word(steps::calm(i, m), regs, rows, k, more)
+}
+
+// What the opcode alone tells of a step, a function of this route alone so that it stands in place: the bits of `kinds`, none for no role; 32 more where the row after it is not read; 64 where it does not tell all.
+fn calm_of(o: u16) -> u8
+    requires { ⌜ o ≤ 190 ⌝ }
+    ensures { λ r. ⌜ r ≡ calmOf o ⌝ }
+{
+    match o {
+        Jump => 48,
+        ForIter | JumpIfFalse | JumpIfFalseOrPop | JumpIfTrueOrPop => 16,
+        JumpIfFalseR => 20,
+        JumpUnlessLt
+        | JumpUnlessLtEq
+        | JumpUnlessGt
+        | JumpUnlessGtEq
+        | JumpUnlessEq
+        | JumpUnlessNotEq => 28,
+        ReturnR => 36,
+        StoreGlobalR | StoreGlobalAtR => 4,
+        LoadGlobalR | LoadGlobalAtR | UnbindR => 1,
+        WrapCellR => 3,
+        Move | MinusR | NotR | LenR | GetAttrR | LoadCellR => 5,
+        AddR
+        | InPlaceAddR
+        | SubR
+        | InPlaceSubR
+        | MulR
+        | DivR
+        | ModR
+        | FloorDivR
+        | BitAndR
+        | BitOrR
+        | BitXorR
+        | ShlR
+        | ShrR
+        | LtR
+        | LtEqR
+        | GtR
+        | GtEqR
+        | EqR
+        | NotEqR
+        | IsR
+        | IsNotR
+        | PowR
+        | InR
+        | NotInR
+        | GetItemR
+        | SuperR => 13,
+        StoreCellR | SetAttrR | CallSpreadR | ListPushR => 6,
+        StoreItemR | ArgsR => 14,
+        AppendR => 7,
+        OwnResetR => 2,
+        ListAppendR | SetAddR | MapAddR => 12,
+        PopTop
+        | PushRegs
+        | StoreTopR
+        | UnpackR
+        | CallGlobalR
+        | CallR
+        | CallMethodR
+        | Raise
+        | ForIterR
+        | Del
+        | WithEnter
+        | WithExit
+        | WithJudge => 64,
+        _ => 0,
+    }
+}
+
+// The handlers' rows where an instruction may raise, else none.
+fn raised(i: Ins, all: bool, out: u64) -> u64
+    ensures { λ x. ⌜ x ≡ cond (all || isLevel i) out 0 ⌝ }
+{
+    if out == 0 {
+        return 0;
+    }
+    if all {
+        return out;
+    }
+    if steps::level_at(i) {
+        return out;
+    }
+    0
+}
+
+// What row k is joined with whole: the next row where its instruction is stranded, and where it may raise the rows of the handlers around it.
+fn leaves(i: Ins, all: bool, out: u64, rows: &[u64], k: usize) -> u64
+    requires { ⌜ k + 1 < length (now rows) ⌝ }
+    ensures { λ x. ⌜ x ≡ moreOf all out i (now (rows .entry)) k ⌝ }
+{
+    let more = raised(i, all, out);
+    if i.marks / 2 % 2 == 0 {
+        return more;
+    }
+    row_if(sweeps::stranded(i), rows, k + 1) | more
+}
+
+// What a step of a sweep told: whether it was left because a jump goes to before the start; else whether the row changed, and whether a jump goes back.
+pub struct Went {
+    pub left: bool,
+    pub changed: bool,
+    pub back: bool,
+}
+
+// Row k is found and stored, unless a jump goes to before the start.
+fn put_near(
+    code: &[u16],
+    regs: usize,
+    all: bool,
+    rows: &mut [u64],
+    out: u64,
+    start: usize,
+    k: usize,
+) -> Went
+    requires { ⌜ Valid (now code) × (regs ≤ 64) × (length (now rows) ≡ suc (count (now code))) × (start ≤ k) × (k < count (now code)) ⌝ }
+    ensures { λ r. ⌜ WentAt all out regs (now (code .entry)) start k (now (rows .entry)) (now (rows .exit)) (r .left) (r .changed) (r .back) ⌝ }
+{
+    let i = code::ins_in(code, k);
+    let more = leaves(i, all, out, rows, k);
+    let m = calm_of(i.op);
+    if m < 16 {
+        let changed = put_calm(i, m, regs, rows, k, more);
+        return Went {
+            left: false,
+            changed,
+            back: false,
+        };
+    }
+    let step = steps::step_with(code, code.len() / 6, k, i, m);
+    if steps::goes_before(step, start) {
+        return Went {
+            left: true,
+            changed: false,
+            back: false,
+        };
+    }
+    let changed = put_word(step, regs, rows, k, more);
+    let back = steps::goes_before(step, k + 1);
+    Went {
+        left: false,
+        changed,
+        back,
+    }
+}
+
+// The rows of the handlers around k, together.
+fn handlers_word(rows: &[u64], n: usize, k: usize, tries: &[u32]) -> u64
+    requires { ⌜ (n < length (now rows)) × (1 < length (now tries)) ⌝ }
+    ensures { λ x. ⌜ x ≡ joined (row (now (rows .entry))) (handlersOf n k (now (tries .entry))) ⌝ }
+{
+    let mut out: u64 = 0;
+    let mut i = 0;
+    loop {
+        let s = lists::wide_of(tries[i]);
+        let h = lists::wide_of(tries[i + 1]);
+        out = out | row_if(lists::around(s, k, h), rows, code::least(h, n));
+        i += 2;
+        if tries.len() <= i + 1 {
+            return out;
+        }
+    }
+}
+
+// Down to where a try (s, h) is around all, or around none, if it is around k or is not.
+fn edge(s: usize, k: usize, h: usize) -> usize
+    ensures { λ r. ⌜ r ≡ edgeOf k s h ⌝ }
+{
+    if k < h {
+        if s < k {
+            return s + 1;
+        }
+        return 0;
+    }
+    h
+}
+
+// The greater of two.
+fn most(p: usize, q: usize) -> usize
+    ensures { λ r. ⌜ r ≡ max p q ⌝ }
+{
+    if p < q { q } else { p }
+}
+
+// Down to where the tries are around all that they are around at k.
+fn lowest(k: usize, tries: &[u32]) -> usize
+    requires { ⌜ 1 < length (now tries) ⌝ }
+    ensures { λ r. ⌜ r ≡ lowestOf k (now (tries .entry)) ⌝ }
+{
+    let mut low = 0;
+    let mut i = 0;
+    loop {
+        let s = lists::wide_of(tries[i]);
+        let h = lists::wide_of(tries[i + 1]);
+        low = most(low, edge(s, k, h));
+        i += 2;
+        if tries.len() <= i + 1 {
+            return low;
+        }
+    }
+}
+
+// Positions with the same tries around them, from `low` on: the rows of their handlers, together.
+pub struct Cover {
+    pub out: u64,
+    pub low: usize,
+}
+
+// What covers nothing yet; and without a try, all.
+fn uncovered(n: usize, tries: &[u32]) -> Cover
+    ensures { λ r. ⌜ (r .out ≡ 0) × (r .low ≡ cond (ltb (length (now (tries .entry))) 2) 0 n) ⌝ }
+{
+    if tries.len() < 2 {
+        return Cover { out: 0, low: 0 };
+    }
+    Cover { out: 0, low: n }
+}
+
+// What covers k - 1: what covered k, or found anew.
+fn covering(old: Cover, rows: &[u64], n: usize, k: usize, tries: &[u32]) -> Cover
+    requires { ⌜ (0 < k) × (k ≤ n) × (n < length (now rows)) × Covers n (now tries) (now rows) (old .out) (old .low) k ⌝ }
+    ensures { λ r. ⌜ Covered n (now (tries .entry)) (now (rows .entry)) (r .out) (r .low) (k - 1) ⌝ }
+{
+    if old.low < k {
+        return old;
+    }
+    let out = handlers_word(rows, n, k - 1, tries);
+    let low = lowest(k - 1, tries);
+    Cover { out, low }
+}
+
+// The rows from the first level on, for 64 registers at most.
+pub fn live_near(code: &[u16], regs: usize, tries: &[u32], all: bool, rows: &mut [u64]) -> Counts
+    requires { ⌜ Valid (now code) × (regs ≤ 64) × (length (now rows) ≡ suc (count (now code))) ⌝ }
+    ensures { λ r. ⌜ Found (raising (mays all (now (code .entry))) regs (now (code .entry)) (now (tries .entry))) (firstLevel (now (code .entry)))
+        (now (rows .exit)) (r .full) (r .abandoned) ⌝ }
+{
+    let n = code.len() / 6;
+    let mut start = steps::first_level(code);
+    rows::clear(rows);
+    if n <= start {
+        return Counts {
+            full: 1,
+            abandoned: 0,
+        };
+    }
+    let mut full: u32 = 0;
+    let mut abandoned: u32 = 0;
+    'again: loop {
+        let mut changed = false;
+        let mut back = false;
+        let mut around = uncovered(n, tries);
+        let mut k = n;
+        while start < k {
+            around = covering(around, rows, n, k, tries);
+            k -= 1;
+            let p = put_near(code, regs, all, rows, around.out, start, k);
+            if p.left {
+                rows::clear(rows);
+                start = 0;
+                abandoned += 1;
+                continue 'again;
+            }
+            changed = p.changed | changed;
+            back = p.back | back;
+        }
+        full += 1;
+        if !(changed & back) {
+            return Counts { full, abandoned };
+        }
+    }
+}

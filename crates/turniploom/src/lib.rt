@@ -43,6 +43,7 @@ fn kept_told(k: KeptAnswer) -> Answer
     }
 }
 
+// The role of an instruction as bits: whether a is written, which fields are read, whether it jumps; 32 alone for none.
 #[no_mangle]
 pub extern "C" fn turniploom_kinds(code: &[u16], at: usize) -> Answer
     ensures { λ r. ⌜ r ≡ kindsAnswer (now (code .entry)) at ⌝ }
@@ -50,6 +51,7 @@ pub extern "C" fn turniploom_kinds(code: &[u16], at: usize) -> Answer
     fields::kinds(code, at)
 }
 
+// The same told apart: whether it has a role, whether a is written, which fields are read, whether it jumps.
 #[no_mangle]
 pub extern "C" fn turniploom_role(code: &[u16], at: usize) -> Answer
     ensures { λ r. ⌜ r ≡ roleAnswer (now (code .entry)) at ⌝ }
@@ -57,6 +59,7 @@ pub extern "C" fn turniploom_role(code: &[u16], at: usize) -> Answer
     fields::role(code, at)
 }
 
+// A field of an instruction: a for 0, b for 1, c for every higher number.
 #[no_mangle]
 pub extern "C" fn turniploom_field(code: &[u16], at: usize, f: u8) -> Answer
     ensures { λ r. ⌜ r ≡ fieldAnswer (now (code .entry)) at f ⌝ }
@@ -64,6 +67,7 @@ pub extern "C" fn turniploom_field(code: &[u16], at: usize, f: u8) -> Answer
     fields::field(code, at, f)
 }
 
+// Whether an instruction writes a register.
 #[no_mangle]
 pub extern "C" fn turniploom_writes(code: &[u16], at: usize, r: u16) -> Answer
     ensures { λ a. ⌜ a ≡ writesAnswer (now (code .entry)) at r ⌝ }
@@ -71,6 +75,7 @@ pub extern "C" fn turniploom_writes(code: &[u16], at: usize, r: u16) -> Answer
     fields::writes(code, at, r)
 }
 
+// The fields that an instruction uses, gives up and writes, and how many registers from b on besides.
 #[no_mangle]
 pub extern "C" fn turniploom_touched(code: &[u16], at: usize) -> Answer
     ensures { λ r. ⌜ r ≡ touchAnswer (now (code .entry)) at ⌝ }
@@ -78,6 +83,7 @@ pub extern "C" fn turniploom_touched(code: &[u16], at: usize) -> Answer
     fields::touched(code, at)
 }
 
+// Whether a body may be laid as a section.
 #[no_mangle]
 pub extern "C" fn turniploom_pure(code: &[u16]) -> Answer
     ensures { λ r. ⌜ r ≡ pureAnswer (now (code .entry)) ⌝ }
@@ -85,6 +91,7 @@ pub extern "C" fn turniploom_pure(code: &[u16]) -> Answer
     laid::pure(code)
 }
 
+// Whether laid code leaves nothing of its own on the stack.
 #[no_mangle]
 pub extern "C" fn turniploom_flat(code: &[u16]) -> Answer
     ensures { λ r. ⌜ r ≡ flatAnswer (now (code .entry)) ⌝ }
@@ -92,6 +99,7 @@ pub extern "C" fn turniploom_flat(code: &[u16]) -> Answer
     shapes::flat(code)
 }
 
+// Whether code has a try or a with.
 #[no_mangle]
 pub extern "C" fn turniploom_guarded(code: &[u16]) -> Answer
     ensures { λ r. ⌜ r ≡ guardedAnswer (now (code .entry)) ⌝ }
@@ -99,6 +107,7 @@ pub extern "C" fn turniploom_guarded(code: &[u16]) -> Answer
     shapes::guarded(code)
 }
 
+// Whether a PushRegs pushes the value that a ReturnValue returns.
 #[no_mangle]
 pub extern "C" fn turniploom_returns(code: &[u16], at: usize) -> Answer
     ensures { λ r. ⌜ r ≡ returnsAnswer (now (code .entry)) at ⌝ }
@@ -106,6 +115,7 @@ pub extern "C" fn turniploom_returns(code: &[u16], at: usize) -> Answer
     walks::returns(code, at)
 }
 
+// The parameters that some instruction writes, as bits.
 #[no_mangle]
 pub extern "C" fn turniploom_params_written(code: &[u16], arity: usize) -> Answer
     ensures { λ r. ⌜ r ≡ writtenAnswer (now (code .entry)) arity ⌝ }
@@ -113,6 +123,7 @@ pub extern "C" fn turniploom_params_written(code: &[u16], arity: usize) -> Answe
     params::params_written(code, arity)
 }
 
+// The parameters that a call passes on as they are, as bits.
 #[no_mangle]
 pub extern "C" fn turniploom_passed(code: &[u16], at: usize, arity: usize) -> Answer
     ensures { λ r. ⌜ r ≡ passedAnswer (now (code .entry)) at arity ⌝ }
@@ -120,6 +131,7 @@ pub extern "C" fn turniploom_passed(code: &[u16], at: usize, arity: usize) -> An
     params::passed(code, at, arity)
 }
 
+// Whether a generator may be laid as a section.
 #[no_mangle]
 pub extern "C" fn turniploom_gen_pure(code: &[u16], seen: &mut [u8], todo: &mut [u32]) -> Answer
     ensures { λ r. ⌜ GenTold (now (code .entry)) (now (seen .entry)) (now (todo .entry)) r (now (seen .exit)) (now (todo .exit)) ⌝ }
@@ -127,6 +139,7 @@ pub extern "C" fn turniploom_gen_pure(code: &[u16], seen: &mut [u8], todo: &mut 
     generators::gen_pure(code, seen, todo)
 }
 
+// Whether what a Phi writes to a register is read on no path.
 #[no_mangle]
 pub extern "C" fn turniploom_dead_phi(
     code: &[u16],
@@ -140,6 +153,7 @@ pub extern "C" fn turniploom_dead_phi(
     phis::dead_phi(code, at, r, seen, todo)
 }
 
+// For each position and the end, how many for loops it lies inside.
 #[no_mangle]
 pub extern "C" fn turniploom_loops_around(code: &[u16], out: &mut [u32]) -> Answer
     ensures { λ r. ⌜ LoopsAround (now (code .entry)) (now (out .entry)) r (now (out .exit)) ⌝ }
@@ -147,6 +161,7 @@ pub extern "C" fn turniploom_loops_around(code: &[u16], out: &mut [u32]) -> Answ
     loops::loops_around(code, out)
 }
 
+// For each position and the end, whether a jump or a handler lands there.
 #[no_mangle]
 pub extern "C" fn turniploom_targets(code: &[u16], tries: &[u32], out: &mut [u8]) -> Answer
     ensures { λ r. ⌜ Targets (now (code .entry)) (now (tries .entry)) (now (out .entry)) r (now (out .exit)) ⌝ }
@@ -154,6 +169,7 @@ pub extern "C" fn turniploom_targets(code: &[u16], tries: &[u32], out: &mut [u8]
     surveys::targets(code, tries, out)
 }
 
+// The module binding that a call calls, or none.
 #[no_mangle]
 pub extern "C" fn turniploom_global_of(code: &[u16], at: usize) -> Answer
     ensures { λ r. ⌜ r ≡ globalAnswer (now (code .entry)) at ⌝ }
@@ -161,6 +177,7 @@ pub extern "C" fn turniploom_global_of(code: &[u16], at: usize) -> Answer
     callee::global_of(code, at)
 }
 
+// The PushRegs that pushed what a StoreTopR takes back into a register past a call, or none.
 #[no_mangle]
 pub extern "C" fn turniploom_pushed_back(code: &[u16], at: usize, r: u16) -> Answer
     ensures { λ a. ⌜ a ≡ pushAnswer (now (code .entry)) at r ⌝ }
@@ -168,6 +185,7 @@ pub extern "C" fn turniploom_pushed_back(code: &[u16], at: usize, r: u16) -> Ans
     pushes::pushed_back(code, at, r)
 }
 
+// The PushRegs that pushed the function of a stack call, and the register, or none.
 #[no_mangle]
 pub extern "C" fn turniploom_stack_callee(code: &[u16], at: usize, count: u16) -> Answer
     ensures { λ r. ⌜ r ≡ stackAnswer (now (code .entry)) at count ⌝ }
@@ -175,6 +193,7 @@ pub extern "C" fn turniploom_stack_callee(code: &[u16], at: usize, count: u16) -
     stack::stack_callee(code, at, count)
 }
 
+// Whether a register is needed at a position.
 #[no_mangle]
 pub extern "C" fn turniploom_needed(
     code: &[u16],
@@ -189,6 +208,7 @@ pub extern "C" fn turniploom_needed(
     needed::needed(code, regs, at, r, seen, todo)
 }
 
+// The registers that each level keeps, by rows of 64 bits.
 #[no_mangle]
 pub extern "C" fn turniploom_kept(
     code: &[u16],
@@ -204,6 +224,7 @@ pub extern "C" fn turniploom_kept(
     kept_told(kept::kept(code, regs, tries, wide, rows, offsets, list))
 }
 
+// The same by rows of 32 bits.
 #[no_mangle]
 pub extern "C" fn turniploom_kept32(
     code: &[u16],
@@ -219,6 +240,7 @@ pub extern "C" fn turniploom_kept32(
     kept_told(kept32::kept32(code, regs, tries, wide, rows, offsets, list))
 }
 
+// The chunk with its constants folded, every table anew.
 #[no_mangle]
 pub extern "C" fn turniploom_fold(
     code: &mut [u16],
@@ -262,6 +284,7 @@ pub extern "C" fn turniploom_fold(
     )
 }
 
+// The chunk without the constants that no instruction names.
 #[no_mangle]
 pub extern "C" fn turniploom_clear(
     code: &mut [u16],
@@ -275,6 +298,7 @@ pub extern "C" fn turniploom_clear(
     clear::clear(code, kinds, words, constants, scratch)
 }
 
+// Where a level goes on, and which register has its result.
 #[no_mangle]
 pub extern "C" fn turniploom_level(code: &[u16], at: usize) -> Answer
     ensures { λ r. ⌜ r ≡ levelAnswer (now (code .entry)) at ⌝ }
@@ -282,6 +306,7 @@ pub extern "C" fn turniploom_level(code: &[u16], at: usize) -> Answer
     levels::level(code, at)
 }
 
+// A frame saver for so many registers, with nothing put aside.
 #[no_mangle]
 pub extern "C" fn turniploom_saver_make(head: &mut [u64; 2], regs: usize) -> Answer
     ensures { λ r. ⌜ MadeTold regs (now (head .entry)) (now (head .exit)) r ⌝ }
@@ -289,6 +314,7 @@ pub extern "C" fn turniploom_saver_make(head: &mut [u64; 2], regs: usize) -> Ans
     saver::told(saver::make(head, regs))
 }
 
+// What a level keeps is put aside as its call is entered.
 #[no_mangle]
 pub extern "C" fn turniploom_saver_enter(
     head: &mut [u64; 2],
@@ -303,6 +329,7 @@ pub extern "C" fn turniploom_saver_enter(
     saver::told(saver::enter(head, area, file, list, result))
 }
 
+// It is put back as the call returns, and the result written.
 #[no_mangle]
 pub extern "C" fn turniploom_saver_return(
     head: &mut [u64; 2],
@@ -316,6 +343,7 @@ pub extern "C" fn turniploom_saver_return(
     saver::told(leaves::leave_by_return(head, area, file, value))
 }
 
+// It is put back as the call is left by an exception.
 #[no_mangle]
 pub extern "C" fn turniploom_saver_exception(
     head: &mut [u64; 2],
@@ -328,6 +356,7 @@ pub extern "C" fn turniploom_saver_exception(
     saver::told(leaves::leave_by_exception(head, area, file))
 }
 
+// A body with its kept lists is added to a report.
 #[no_mangle]
 pub extern "C" fn turniploom_figures_add(
     code: &[u16],
@@ -340,6 +369,7 @@ pub extern "C" fn turniploom_figures_add(
     figures::add(code, offsets, list, report)
 }
 
+// The report of a later group is joined to an earlier one.
 #[no_mangle]
 pub extern "C" fn turniploom_figures_join(later: &[u64; 7], report: &mut [u64; 7]) -> Answer
     ensures { λ r. ⌜ joinCall (now (later .entry)) (now (report .entry)) ≡ reports (now (report .exit)) r ⌝ }
@@ -347,6 +377,7 @@ pub extern "C" fn turniploom_figures_join(later: &[u64; 7], report: &mut [u64; 7
     figures::join(later, report)
 }
 
+// A recorded day is replayed: steps, levels met, reads of each register.
 #[no_mangle]
 pub extern "C" fn turniploom_replay(
     code: &[u16],

@@ -108,10 +108,3 @@ module _ {dead xs old : List ℕ} {to i : ℕ} (k : Kept dead xs old to i) where
       let e : i ≡ length dead = omega arith in
       let c = walk-count w (omega (arith, w .behind)) in
       h ∙ rw (w .front, w .same, c, e)
-
--- ---- all of it
-
-pub whole : (dead w stmts calls : List ℕ) (r : ℕ) (w′ map stmts′ calls′ : List ℕ)
-    → r ≡ live dead (length dead) → w′ ≡ compacted dead w → Remap dead map → stmts′ ≡ placed dead stmts → calls′ ≡ placed dead calls
-    → Compacted dead w stmts calls r w′ map stmts′ calls′
-whole dead w stmts calls r w′ map stmts′ calls′ a b m p q = record { count = a; code = b; remap = m .whole; stmt = p; call = q }

@@ -65,8 +65,6 @@ module _ (words n regs k : ℕ) (tries rows : List ℕ) (s : Step) (may past : B
       (with-next a l ha ∙ ap (bitOr plain) (sym (or-zero-r (joined R (only past (k + 1)))) ∙ sym (joined-append R (only past (k + 1)) []))
       ∙ sym (onto-is R (only past (k + 1) ++ []) plain)))
 
-pub ruleset holds = (holds-level, holds-plain)
-
 pub put-is : (words n k regs : ℕ) (tries rows : List ℕ) (s : Step) (may past : Bool) (out new : List ℕ) (changed : Bool) → k < n → regs ≤ words * 64
     → Small 64 rows
     → Holds 64 new (rowAt (raisingStep may past n regs tries s) (row (rowsOf 64 words (suc n) rows)) k) → WordsStored rows (k * words) words new out changed

@@ -43,21 +43,6 @@ module _ (n k : ℕ) where
   handlers-none (x ∷ []) h = refl
   handlers-none (x ∷ (y ∷ l)) h = absurd (omega arith)
 
-  -- one try more
-  module _ (tries : List ℕ) (i : ℕ) (l : i + 1 < length tries) where
-    next : (b : Bool) → (ltb (getD tries i 0) k && ltb k (getD tries (i + 1) 0)) ≡ b
-        → handlersOf n k (drop i tries) ≡ cond b (min (getD tries (i + 1) 0) n ∷ handlersOf n k (drop (i + 2) tries)) (handlersOf n k (drop (i + 2) tries))
-    unfolding handlersOf
-    next b e = ap (handlersOf n k) split ∙ ap (λ (c : Bool). cond c (min (getD tries (i + 1) 0) n ∷ handlersOf n k (drop (i + 2) tries)) (handlersOf n k (drop (i + 2) tries))) e
-      where
-        two : suc (i + 1) ≡ i + 2
-        two = omega arith
-
-        split : drop i tries ≡ getD tries i 0 ∷ (getD tries (i + 1) 0 ∷ drop (i + 2) tries)
-        split = drop-cons tries i 0 (omega arith)
-            ∙ ap (λ (x : ℕ). getD tries i 0 ∷ drop x tries) (sym (add-one i))
-            ∙ ap (λ (x : List ℕ). getD tries i 0 ∷ x) (drop-cons tries (i + 1) 0 l ∙ ap (λ (x : ℕ). getD tries (i + 1) 0 ∷ drop x tries) two)
-
 module _ (regs : ℕ) (R : ℕ → ℕ) (seen : ℕ) where
   pub added-none : added regs R seen [] ≡ []
   unfolding added

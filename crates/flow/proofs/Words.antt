@@ -142,9 +142,6 @@ module _ (w : ℕ) (pos : 0 < w) where
     here : a < regs → alone regs a ≡ 2 ^ a
     here l = ap (λ (t : Bool). cond t (2 ^ a) 0) (lt-ltb a regs l)
 
-    gone : regs ≤ a → alone regs a ≡ 0
-    gone l = ap (λ (t : Bool). cond t (2 ^ a) 0) (le-ltb a regs l)
-
     fits : a < regs → a / w < length s
     fits l = div-lt-iff-lt-mul pos .1 (lt-of-lt-of-le l le)
 

@@ -76,9 +76,6 @@ pub ruleset tests = (stage-no, stage-few, stage-add, stage-mul, stage-yes)
 -- ---- what an accepted input keeps
 
 module _ (bits : ℕ) (w : List ℕ) (regs : ℕ) (tries : List ℕ) (a b n : ℕ) (h : stagesOf bits w regs tries a b ≡ Count n) where
-  four : Checked
-  four = triedOf (registersOf (checkOf w) regs) tries
-
   whole : Count n ≡ roomOf (roomOf (triedOf (registersOf (checkOf w) regs) tries) 1 a (scratchFor bits regs w)) 2 b (suc (count w))
   unfolding stagesOf
   whole = sym h

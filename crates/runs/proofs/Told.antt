@@ -52,9 +52,6 @@ near dead (suc i) p e = go (eqb (getD dead i 0) 0) refl e (near dead i p)
 -- ---- what a plan found: its operands and its result, and that nothing bars it
 
 module _ (bars : ℕ → Bool) (i : ℕ) (s : Chunk) where
-  abbrev found : ℕ → Maybe
-  found p = operandOf (s .code) (s .kinds) (s .words) (s .constants) p
-
   pub data Told (p q : ℕ) (v : Val) : Type 0 where
     two : (o : Op) (a b : Val) → kindOf (opAt (s .code) i) ≡ Binop o → Near (s .dead) i q → Near (s .dead) q p
         → operandOf (s .code) (s .kinds) (s .words) (s .constants) p ≡ Is a → operandOf (s .code) (s .kinds) (s .words) (s .constants) q ≡ Is b

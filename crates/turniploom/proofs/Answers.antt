@@ -2,9 +2,6 @@
 use mathlib.Core.Path.{_≡_}
 use Rattle.code.specs.declared.Answer.{Answer}
 
-pub by-case : {A : Type 0} (f : A → Answer) (v s x : A) (a : Answer) → v ≡ s → v ≡ x → a ≡ f x → a ≡ f s
-by-case f v s x a e h z = rw (← e, h) z
-
 pub onto : {A : Type 0} (f : A → Answer) (v s : A) (a : Answer) → v ≡ s → a ≡ f v → a ≡ f s
 onto f v s a e h = rw (← e) h
 

@@ -2,17 +2,12 @@
 ghost use mathlib.Core.Path.{_≡_};
 ghost use Prim.Native.Nat.{suc, _+_, _*_, _<_, _≤_};
 ghost use lib.ListN.{length};
-ghost use lib.Bits.{bitOr};
 ghost use Rattle.code.specs.Ins.{count};
 ghost use Rattle.code.specs.Inner.{Valid};
-ghost use Rattle.roles.specs.Sets.{only, from};
-ghost use Rattle.flow.specs.Set.{minus};
 ghost use Rattle.flow.specs.Flow.{joined, rowAt};
 ghost use Rattle.flow.specs.Sweep.{row, Found};
-ghost use Rattle.flow.specs.Inner.{Put, Holds, WordsStored};
-ghost use Rattle.flow.specs.Words.{value, rowsOf, Small};
-ghost use Rattle.steps.specs.Code.{setOf};
-ghost use Rattle.steps.specs.Step.{named};
+ghost use Rattle.flow.specs.Inner.{Put, Holds};
+ghost use Rattle.flow.specs.Words.{rowsOf, Small};
 ghost use Rattle.steps.specs.Inner.{afterOf, stepFlow};
 ghost use Rattle.nested.specs.Raising.{raising, mays};
 ghost use Rattle.far.specs.Inner.{raisingStep};
@@ -27,78 +22,15 @@ fn after_wide(s: Step, rows: &[u64], n: usize, words: usize, k: usize) -> [u64; 
     sets::join_if(s.to, next, rows, s.target, words)
 }
 
-// A set with a register, if, and if there is such a register.
-fn with_reg(set: [u64; 16], t: bool, regs: usize, reg: usize) -> [u64; 16]
-    requires { ⌜ (regs ≤ 1024) × Small 64 set ⌝ }
-    ensures { λ s. ⌜ Holds 64 s (bitOr (value 64 set) (setOf regs (only t reg))) ⌝ }
-{
-    if t {
-        if reg < regs {
-            let mut out = set;
-            out[reg / 64] = out[reg / 64] | (1u64 << (reg % 64));
-            return out;
-        }
-        return set;
-    }
-    set
-}
-
-// A set with those of three registers that a mask names.
-fn with_named(set: [u64; 16], regs: usize, mask: u8, a: u16, b: u16, c: u16) -> [u64; 16]
-    requires { ⌜ (regs ≤ 1024) × Small 64 set ⌝ }
-    ensures { λ s. ⌜ Holds 64 s (bitOr (value 64 set) (setOf regs (named mask a b c))) ⌝ }
-{
-    let p = with_reg(set, mask / 2 % 2 == 1, regs, a as usize);
-    let q = with_reg(p, mask / 4 % 2 == 1, regs, b as usize);
-    with_reg(q, mask / 8 % 2 == 1, regs, c as usize)
-}
-
-// A set without those of three registers that a mask names.
-fn without_named(set: [u64; 16], regs: usize, mask: u8, a: u16, b: u16, c: u16) -> [u64; 16]
-    requires { ⌜ (regs ≤ 1024) × Small 64 set ⌝ }
-    ensures { λ s. ⌜ Holds 64 s (minus (value 64 set) (setOf regs (named mask a b c))) ⌝ }
-{
-    let p = sets::without_reg(set, mask / 2 % 2 == 1, regs, a as usize);
-    let q = sets::without_reg(p, mask / 4 % 2 == 1, regs, b as usize);
-    sets::without_reg(q, mask / 8 % 2 == 1, regs, c as usize)
-}
-
-// A set without the `run` registers from b on.
-fn without_run(set: [u64; 16], regs: usize, b: usize, run: u8) -> [u64; 16]
-    requires { ⌜ (regs ≤ 1024) × (b + run ≤ 65790) × Small 64 set ⌝ }
-    ensures { λ s. ⌜ Holds 64 s (minus (value 64 set) (setOf regs (from b run))) ⌝ }
-{
-    if run == 0 {
-        return set;
-    }
-    let rest = sets::without_reg(set, true, regs, b);
-    without_run(rest, regs, b + 1, run - 1)
-}
-
 // Row k, found from the rows as they are.
 fn row_wide(s: Step, regs: usize, rows: &[u64], n: usize, words: usize, k: usize) -> [u64; 16]
     requires { ⌜ (regs ≤ 1024) × (words ≤ 16) × (k < n) × (s .target ≤ n) × (suc n * words ≤ length (now rows)) × Small 64 (now rows) ⌝ }
     ensures { λ r. ⌜ Holds 64 r (rowAt (stepFlow regs s) (row (rowsOf 64 words (suc n) (now (rows .entry)))) k) ⌝ }
 {
     let after = after_wide(s, rows, n, words, k);
-    let rest = without_named(after, regs, s.given, s.a, s.b, s.c);
-    let left = without_run(rest, regs, s.b as usize, s.run);
-    with_named(left, regs, s.used, s.a, s.b, s.c)
-}
-
-// The words of a set are stored in the row that starts at `at`: whether that changed one.
-fn store_row(rows: &mut [u64], at: usize, words: usize, set: [u64; 16]) -> bool
-    requires { ⌜ (words ≤ 16) × (at + words ≤ length (now rows)) ⌝ }
-    ensures { λ r. ⌜ WordsStored (now (rows .entry)) at words set (now (rows .exit)) r ⌝ }
-{
-    let mut changed = false;
-    let mut j = 0;
-    while j < words {
-        changed = (rows[at + j] != set[j]) | changed;
-        rows[at + j] = set[j];
-        j += 1;
-    }
-    changed
+    let rest = sets::without_named(after, regs, s.given, s.a, s.b, s.c);
+    let left = sets::without_run(rest, regs, s.b as usize, s.run);
+    sets::with_named(left, regs, s.used, s.a, s.b, s.c)
 }
 
 // Row k, found from the rows as they are; where it is stranded with the next row, and where it may raise with those of the handlers around it.
@@ -141,7 +73,7 @@ fn put_raising(
         (now (rows .exit))) r ⌝ }
 {
     let set = row_raising(s, may, past, regs, tries, rows, n, words, k);
-    store_row(rows, k * words, words, set)
+    sets::store_row(rows, k * words, words, set)
 }
 
 // The rows from 0 on, and how many sweeps there were.

@@ -6,13 +6,12 @@ ghost use lib.ListN.{length};
 ghost use lib.Dec.{ltb};
 ghost use Rattle.code.specs.Ins.{count};
 ghost use Rattle.code.specs.Inner.{Valid};
-ghost use Rattle.roles.specs.Sets.{only, from};
+ghost use Rattle.roles.specs.Sets.{only};
 ghost use Rattle.flow.specs.Flow.{joined, rowAt};
 ghost use Rattle.flow.specs.Sweep.{row, Found};
 ghost use Rattle.flow.specs.Inner.{Put};
 ghost use Rattle.steps.specs.Code.{setOf};
 ghost use Rattle.steps.specs.Level.{isLevel, firstLevel};
-ghost use Rattle.steps.specs.Step.{named};
 ghost use Rattle.steps.specs.Inner.{givenOf, afterOf, calmOf, calmStep};
 ghost use Rattle.flow.specs.Kept.{handlersOf};
 ghost use Rattle.nested.specs.Raising.{raising, mays};
@@ -38,48 +37,12 @@ fn after_word(s: Step, rows: &[u64], k: usize) -> u64
     row_if(s.on, rows, k + 1) | row_if(s.to, rows, s.target)
 }
 
-// Register r, if, and if there is such a register.
-fn reg_word(t: bool, regs: usize, r: usize) -> u64
-    requires { ⌜ regs ≤ 64 ⌝ }
-    ensures { λ x. ⌜ x ≡ setOf regs (only t r) ⌝ }
-{
-    if t {
-        if r < regs {
-            return 1u64 << r;
-        }
-        return 0;
-    }
-    0
-}
-
-// Those of three registers that a mask names.
-fn named_word(regs: usize, mask: u8, a: u16, b: u16, c: u16) -> u64
-    requires { ⌜ regs ≤ 64 ⌝ }
-    ensures { λ x. ⌜ x ≡ setOf regs (named mask a b c) ⌝ }
-{
-    let p = reg_word(mask / 2 % 2 == 1, regs, a as usize);
-    let q = reg_word(mask / 4 % 2 == 1, regs, b as usize);
-    let r = reg_word(mask / 8 % 2 == 1, regs, c as usize);
-    p | q | r
-}
-
-// The `run` registers from b on.
-fn run_word(regs: usize, b: usize, run: u8) -> u64
-    requires { ⌜ (regs ≤ 64) × (b + run ≤ 65790) ⌝ }
-    ensures { λ x. ⌜ x ≡ setOf regs (from b run) ⌝ }
-{
-    if run == 0 {
-        return 0;
-    }
-    reg_word(true, regs, b) | run_word(regs, b + 1, run - 1)
-}
-
 // What a step gives up.
 fn given_word(s: Step, regs: usize) -> u64
     requires { ⌜ regs ≤ 64 ⌝ }
     ensures { λ x. ⌜ x ≡ setOf regs (givenOf s) ⌝ }
 {
-    named_word(regs, s.given, s.a, s.b, s.c) | run_word(regs, s.b as usize, s.run)
+    sets::named_word(regs, s.given, s.a, s.b, s.c) | sets::run_word(regs, s.b as usize, s.run)
 }
 
 // Row k, found from the rows as they are, and with the registers `more`.
@@ -89,7 +52,7 @@ fn row_word(s: Step, regs: usize, rows: &[u64], k: usize, more: u64) -> u64
 {
     let set = after_word(s, rows, k);
     let gone = given_word(s, regs);
-    let used = named_word(regs, s.used, s.a, s.b, s.c) | more;
+    let used = sets::named_word(regs, s.used, s.a, s.b, s.c) | more;
     used | (set & !gone)
 }
 

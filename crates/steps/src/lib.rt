@@ -329,24 +329,10 @@ pub fn goes_before(s: Step, p: usize) -> bool
     s.to & (s.target < p)
 }
 
-// The step at k, in code of n instructions, by the table of roles.
+// The same for one who has the table of roles at hand; one more caller of `touch_at`, and it no longer stands in place in the sweeps.
 pub fn step_in(roles: &[u8; 1280], code: &[u16], n: usize, k: usize) -> Step
     requires { ⌜ (now roles ≡ roleTable) × Whole (now code) × (n ≡ count (now code)) × (k < n) ⌝ }
     ensures { λ s. ⌜ StepAt (now (code .entry)) k s ⌝ }
 {
-    let i = code::ins_in(code, k);
-    let kind = roles::kinds_in(roles, i);
-    let t = touch_at(code, k, i, kind);
-    let o = i.op;
-    Step {
-        a: i.a,
-        b: i.b,
-        c: i.c,
-        used: t.used,
-        given: t.given,
-        run: t.run,
-        on: (o != ReturnR) & (o != Jump),
-        to: kind / 16 % 4 == 1,
-        target: code::least(i.a as usize, n),
-    }
+    step_of(code, n, k)
 }

@@ -329,7 +329,7 @@ pub fn goes_before(s: Step, p: usize) -> bool
     s.to & (s.target < p)
 }
 
-// The same for one who has the table of roles at hand; one more caller of `touch_at`, and it no longer stands in place in the sweeps.
+// The same for one who has the table of roles at hand: asked by way of `step_of`, since with two callers `touch_at` would no longer stand in place in the sweeps.
 pub fn step_in(roles: &[u8; 1280], code: &[u16], n: usize, k: usize) -> Step
     requires { ⌜ (now roles ≡ roleTable) × Whole (now code) × (n ≡ count (now code)) × (k < n) ⌝ }
     ensures { λ s. ⌜ StepAt (now (code .entry)) k s ⌝ }

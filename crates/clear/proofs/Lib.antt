@@ -11,4 +11,3 @@ pub mod Pools
 pub mod Attempts
 pub mod Refold
 pub mod Accepts
-pub mod Examples

@@ -40,16 +40,6 @@ module _ (n : ℕ) where
   tries-before (No r) t e = never n r e
   tries-before (Count m) t e = sym (kept (ltb (firstBadTry t m) (pairs t)) n m _ e .1)
 
-  pub tries-kept : (v : Checked) (t : List ℕ) → Count n ≡ triedOf v t → pairs t ≤ firstBadTry t n
-  tries-kept (No r) t e = never n r e
-  tries-kept (Count m) t e =
-      let q = kept (ltb (firstBadTry t m) (pairs t)) n m _ e in
-      let s : n ≡ m = same m (q .1) in
-      rw s (ltb-false _ _ (q .0))
-    where
-      same : (m : ℕ) → Count n ≡ Count m → n ≡ m
-      same m e = cc
-
   pub at-before : (v : Checked) (k : ℕ) → Count n ≡ insideOf v k → v ≡ Count n
   at-before (No r) k e = never n r e
   at-before (Count m) k e = sym (met (ltb k m) n m _ e .1)

@@ -10,7 +10,6 @@ pub mod Kept
 pub mod Demand
 pub mod Tries
 pub mod Answer
-pub mod Examples
 pub mod Loop
 pub mod Words
 pub mod Buffer

@@ -1,7 +1,7 @@
 -- A body whose plain lists are not enough: the call at 2 overwrites r5, the call at 6 raises, and the handler at 9 reads r5. Assumes nothing.
 use mathlib.Core.Path.{_≡_, refl, sym, ap, _∙_, subst}
 use mathlib.Core.Bool.{Bool, true, false, cond}
-use mathlib.Core.List.{List, [], _∷_, _++_, map, List·Memᴰ, List·Memᴰ·not-nil}
+use mathlib.Core.List.{List, [], _∷_, map, List·Memᴰ, List·Memᴰ·not-nil}
 use Prim.Native.Nat.{ℕ}
 use native.Mathlib.Omega.{arith}
 use borrow.Author.Tests.{eqb-true}
@@ -10,7 +10,7 @@ use lib.ListN.{getD, replicate}
 use Rattle.roles.specs.Kinds.{page, ruleOf, kindsOf, hasRole, isJump}
 use Rattle.roles.specs.Sets.{cases, caseOf, usedBy, givenBy}
 use Rattle.flow.specs.Set.{bit, minus}
-use Rattle.flow.specs.Flow.{Flow, joined, rowAt}
+use Rattle.flow.specs.Flow.{joined, rowAt}
 use Rattle.flow.specs.Sweep.{row, sweep, below, tally, done, Found}
 use Rattle.flow.specs.Listed.{listed}
 use Rattle.flow.specs.Kept.{handlersOf, added, kept}
@@ -96,10 +96,6 @@ untidy-rows = 0 ∷ 0 ∷ 1 ∷ 4 ∷ 0 ∷ []
 
 abbrev untidy-rows′ : List ℕ
 untidy-rows′ = 4 ∷ 4 ∷ 5 ∷ 4 ∷ 0 ∷ []
-
-untidy-plain : Found (flow 3 untidy) 0 untidy-rows 1 0
-unfolding minus joined rowAt sweep below tally page ruleOf kindsOf hasRole isJump cases caseOf usedBy givenBy storeOf overPending pastStore restores idle usedAt givenAt afterAt
-untidy-plain = record { sweeps = done (last-straight (flow 3 untidy) 0 (replicate 5 0) refl); left = refl }
 
 untidy-found : Found (raising (mays true untidy) 3 untidy []) 0 untidy-rows′ 1 0
 unfolding minus joined rowAt sweep below tally page ruleOf kindsOf hasRole isJump cases caseOf usedBy givenBy storeOf overPending pastStore restores idle usedAt givenAt afterAt isLevel handlersOf raisesAt

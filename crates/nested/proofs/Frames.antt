@@ -1,16 +1,15 @@
 -- From the rows that the sweeps find: nested frames, no register idle, and what is exposed. Assumes nothing.
-use mathlib.Core.Path.{_≡_, refl, sym, ap, _∙_}
-use mathlib.Core.Bool.{Bool, true, false, cond, _||_, false≢true}
-use mathlib.Core.List.{List, [], _∷_}
+use mathlib.Core.Path.{_≡_, refl}
+use mathlib.Core.Bool.{Bool, true, false}
+use mathlib.Core.List.{List}
 use Prim.Native.Nat.{ℕ, _≤_, _<_}
 use native.Mathlib.Omega.{arith}
 use Rattle.code.specs.Ins.{insAt, count}
 use Rattle.code.specs.Inner.{Valid}
 use Rattle.flow.specs.Sweep.{row, startOf, Found}
-use Rattle.flow.specs.Kept.{Level, kept}
-use Rattle.flow.specs.Demand.{Keeps, Lost, Once}
-use Rattle.flow.proofs.Answer.{found-least, start-closed, start-le, level-keeps, found-few}
-use Rattle.flow.proofs.Demand.{none-spare}
+use Rattle.flow.specs.Kept.{kept}
+use Rattle.flow.specs.Demand.{Keeps, Once}
+use Rattle.flow.proofs.Answer.{found-least, start-closed, start-le, level-keeps}
 use Rattle.flow.proofs.Kept.{kept-once}
 use Rattle.flow.proofs.Rows.{In}
 use Rattle.flow.proofs.Tries.{handlers-past}
@@ -24,7 +23,7 @@ use Rattle.nested.specs.Machine.{Sheltered}
 use Rattle.nested.specs.Raising.{raising, frame}
 use Rattle.nested.specs.Exposed.{exposed, ToldApart}
 use Rattle.nested.proofs.Machine.{sheltered}
-use Rattle.nested.proofs.More.{more-rows, more-kept}
+use Rattle.nested.proofs.More.{more-kept}
 use Rattle.nested.proofs.Raising.{shelters}
 use Rattle.nested.proofs.Exposed.{exposed-only, told}
 
@@ -58,9 +57,6 @@ module _ (may : ℕ → Bool) (bits : ℕ) (wide : Bool) (regs : ℕ) (w tries :
     raising-keeps = level-keeps (raising may regs w tries) (routeStart bits wide regs w) (inside bits wide regs w) rows full lost found k (resumeOf w k)
         (resultOf regs w k) tries
         (before bits wide regs w k inCode level) inCode (resume-in w k valid inCode .0)
-
-    pub none-to-spare : (r : ℕ) → In r (listAt k) → Lost (raising may regs w tries) (listAt k) (levelOf regs w tries k) r
-    none-to-spare = none-spare (raising may regs w tries) (listAt k) (levelOf regs w tries k) raising-keeps
 
     pub each-once : Once (listAt k)
     each-once = kept-once regs (row rows) (levelOf regs w tries k)

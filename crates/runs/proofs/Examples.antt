@@ -1,13 +1,12 @@
--- A run, computed; and document 01's P13, whose end the plain mode does not keep. Assumes nothing.
+-- Document 01's P13, whose end the plain mode does not keep; and a run, computed. Assumes nothing.
 use Prim.Native.Nat.{ℕ}
 use native.Mathlib.Omega.{arith}
 use mathlib.Core.Path.{_≡_, refl}
-use mathlib.Core.Bool.{true}
 use mathlib.Core.List.{[], _∷_}
 use lib.IntN.{pos}
 use Rattle.code.specs.Op as op
 use Rattle.values.specs.Folds.{foldBinop, ints, inRange}
-use Rattle.values.specs.declared.Val.the-variants.{Int, Bool as Truth}
+use Rattle.values.specs.declared.Val.the-variants.{Int}
 use Rattle.values.specs.declared.Op.the-variants.{Add}
 use Rattle.chunk.specs.Pool.{toVal}
 use Rattle.fold.specs.declared.Kind.the-variants.{Binop}
@@ -15,17 +14,6 @@ use Rattle.fold.specs.Plan.{operatorPage, kindOf}
 use Rattle.runs.specs.Machine.{Known, None, Stack, isTrue, Ins, End, Left, Short, At, Stop, binopV, answer, apply, test, act, Run, ends, stops, goes}
 use Rattle.runs.specs.Machine.{pushOf, plain, read, ins}
 use Rattle.runs.specs.Kept.{RunEnds, Same}
-
--- LoadConst 0; LoadConst 1; Add; JumpIfFalse 5; LoadTrue, pool 2 and 3: 5 is true, so true is left
-pub start : RunEnds (op.LoadConst ∷ 2 ∷ 0 ∷ 0 ∷ op.LoadConst ∷ 2 ∷ 1 ∷ 1 ∷ op.Add ∷ 0 ∷ 0 ∷ 2 ∷ op.JumpIfFalse ∷ 1 ∷ 5 ∷ 3 ∷ op.LoadTrue ∷ 0 ∷ 0 ∷ 4 ∷ [])
-    (1 ∷ 1 ∷ [])
-    (2 ∷ 3 ∷ []) 5 (Left (Known (Truth true) ∷ []))
-unfolding act apply answer binopV foldBinop ints inRange test isTrue ins read plain pushOf kindOf operatorPage toVal
-start =
-    goes {k = 0} {j = 1} {t = Known (Int (pos 2)) ∷ []} (omega arith) refl
-    (goes {k = 1} {j = 2} {t = Known (Int (pos 3)) ∷ Known (Int (pos 2)) ∷ []} (omega arith) refl
-    (goes {k = 2} {j = 3} {t = Known (Int (pos 5)) ∷ []} (omega arith) refl
-    (goes {k = 3} {j = 4} {t = []} (omega arith) refl (goes {k = 4} {j = 5} {t = Known (Truth true) ∷ []} (omega arith) refl (ends {k = 5} (omega arith))))))
 
 -- P13: LoadConst 0; LoadConst 1; Add; Jump 2, with room for a constant more. At the second Add the stack is short.
 pub p13 : RunEnds (op.LoadConst ∷ 2 ∷ 0 ∷ 0 ∷ op.LoadConst ∷ 2 ∷ 1 ∷ 0 ∷ op.Add ∷ 0 ∷ 0 ∷ 0 ∷ op.Jump ∷ 1 ∷ 2 ∷ 0 ∷ []) (1 ∷ 1 ∷ 9 ∷ []) (2 ∷ 3 ∷ 9 ∷ []) 4

@@ -22,7 +22,7 @@ use Rattle.lent.specs.declared.Counts.{Counts}
 use Rattle.lent.specs.declared.Lens.{Lens}
 use Rattle.lent.proofs.Kept.{few, kinds-there, words-there}
 use Rattle.named.specs.Unused.{constantNamed, before, pooled, recoded}
-use Rattle.lent.proofs.Counting.{many-ext}
+use Rattle.laws.proofs.Counting.{many-ext}
 use Rattle.clear.proofs.Tested.{table-met, check-met, whole-of}
 use Rattle.clear.proofs.Loads.{recoded-count, recoded-op}
 use Rattle.clear.proofs.Twice.{check-same, constants-same}

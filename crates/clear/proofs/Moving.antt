@@ -1,17 +1,17 @@
 -- Laws of `packedList` and `freed`, for the loops that write them in place. Assumes nothing.
 use Prim.Native.Nat.{ℕ, _+_, _-_, _≤_, _<_}
-use native.Mathlib.Nat.{sub-self, le-refl}
+use native.Mathlib.Nat.{le-refl}
 use native.Mathlib.Omega.{arith}
 use mathlib.Core.Path.{_≡_, refl, sym, ap, _∙_}
 use mathlib.Core.Bool.{Bool, true, false, not}
 use mathlib.Core.List.{List, [], _∷_, _++_, append-nil, append-assoc}
 use lib.Dec.{eqb}
-use lib.ListN.{length, getD, set, take, drop, replicate, replicate-append-replicate}
+use lib.ListN.{length, getD, set, take, drop, replicate}
 use Rattle.laws.specs.All.{many}
 use Rattle.laws.specs.Each.{each}
 use Rattle.laws.proofs.Many.{many-more, many-few}
 use Rattle.laws.proofs.Each.{each-more}
-use Rattle.laws.proofs.InPlace.{Walked, walk-none, walk-read, walk-pass, walk-put, walk-as, walk-end, word-put}
+use Rattle.laws.proofs.InPlace.{Walked, walk-none, walk-read, walk-pass, walk-put, walk-as, walk-end, word-put, Cleared, cleared-more}
 use Rattle.named.specs.Unused.{packedAt, packedList, numbered}
 use Rattle.named.specs.Inner.{markedIn}
 use Rattle.clear.specs.Inner.{Moved, Down, freed}
@@ -124,31 +124,9 @@ module _ {kinds kinds₀ words words₀ scratch scratch₀ : List ℕ} {to i : �
 
 -- ---- the freed entries
 
--- 0 from a on, as far as i
-pub record Freeing (xs old : List ℕ) (a i : ℕ) : Type 0 where
-  pub walked : Walked xs old (take a old ++ replicate (i - a) 0) i i
-  pub from : a ≤ i
-
-pub freeing-none : (old : List ℕ) (a : ℕ) → Freeing old old a a
-freeing-none old a =
-    record { walked = rw (sub-self a, append-nil) (record { front = refl; rest = refl; same = refl; behind = le-refl a }); from = le-refl a }
-
-zeros-more : (l : List ℕ) (a i : ℕ) → a ≤ i → (l ++ replicate (i - a) 0) ++ (0 ∷ []) ≡ l ++ replicate (i + 1 - a) 0
-zeros-more l a i h =
-    let e : i + 1 - a ≡ (i - a) + 1 = omega arith in
-    append-assoc l (replicate (i - a) 0) (0 ∷ []) ∙ rw e (ap (λ (t : List ℕ). l ++ t) (replicate-append-replicate (i - a) 1 0))
-
-module _ {xs old : List ℕ} {a i : ℕ} (c : Freeing xs old a i) where
-  pub freeing-more : (m : ℕ) → i < m → m ≤ length old → Freeing (set xs i 0) old a (i + 1)
-  freeing-more m b l =
-      let h : i < length old = omega arith in
-      record {
-        walked = walk-as (walk-put (c .walked) 0 h) (take a old ++ replicate (i + 1 - a) 0) (zeros-more (take a old) a i (c .from));
-        from = omega (arith, c .from);
-      }
-
-  pub freeing-same : length xs ≡ length old
-  freeing-same = c .walked .same
+module _ {xs old : List ℕ} {a i : ℕ} (c : Cleared xs old a i) where
+  pub freeing-more : (m : ℕ) → i < m → m ≤ length old → Cleared (set xs i 0) old a (i + 1)
+  freeing-more m b l = cleared-more c (omega (arith, c .walked .same))
 
   pub freeing-done : (m : ℕ) → m ≤ i → i ≤ m → xs ≡ freed a m old
   freeing-done m h l =

@@ -14,11 +14,11 @@ use Rattle.laws.specs.All.{many}
 use Rattle.laws.specs.Walk.{first}
 use Rattle.laws.proofs.Branch.{and-true}
 use Rattle.laws.proofs.Many.{many-few, many-more}
-use Rattle.laws.proofs.Walk.{none-passed}
+use Rattle.laws.proofs.Walk.{none-passed, first-passes}
 use Rattle.chunk.specs.Pool.{equals, position, stored, findOrPush}
 use Rattle.chunk.specs.declared.Kept.the-variants.{At}
 use Rattle.chunk.proofs.Store.{found, pushed}
-use Rattle.lent.proofs.Counting.{many-ext}
+use Rattle.laws.proofs.Counting.{many-ext}
 
 pub cases : {X : Type 0} (a b : ℕ) → (a ≡ b → X) → ((a ≡ b → ⊥) → X) → X
 cases {X} a b y n = go (eqb a b) refl
@@ -62,17 +62,6 @@ has-grew g e f h =
       kind = g .kind (h .at) (h .inside) ∙ h .kind ∙ e;
       word = g .word (h .at) (h .inside) ∙ h .word ∙ f;
     }
-
-first-passes : (f : ℕ → Bool) (m k : ℕ) → first f k m < k + m → f (first f k m) ≡ true
-unfolding first
-first-passes f zero k h = absurd (omega arith)
-first-passes f (suc m) k h = go (f k) refl (first-passes f m (suc k)) h
-  where
-    go : (b : Bool) → f k ≡ b → (first f (suc k) m < suc k + m → f (first f (suc k) m) ≡ true) → first f k (suc m) < k + suc m → f (first f k (suc m)) ≡ true
-    go true e ih h = rw e e
-    go false e ih h =
-        let l : first f (suc k) m < k + suc m = rw e at h in
-        rw e (ih (omega arith))
 
 module _ (kinds words : List ℕ) (n k w : ℕ) where
   found-is : position kinds words n k w < n → (getD kinds (position kinds words n k w) 0 ≡ k) × (getD words (position kinds words n k w) 0 ≡ w)

@@ -11,7 +11,7 @@ use Rattle.lent.specs.Check.{constantRoom}
 use Rattle.fold.specs.Plan.{Chunk, chunk}
 use Rattle.fold.specs.Inner.{PassRoom}
 use Rattle.named.specs.Unused.{constantNamed, before, pooled, recoded}
-use Rattle.lent.proofs.Counting.{many-ext}
+use Rattle.laws.proofs.Counting.{many-ext}
 use Rattle.clear.proofs.Kept.{pooled-length}
 use Rattle.clear.proofs.Loads.{recoded-count, recoded-op}
 

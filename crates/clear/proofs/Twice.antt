@@ -4,7 +4,7 @@ use native.Mathlib.Nat.{sub-self, le-refl}
 use native.Mathlib.Numerals.{add-one}
 use native.Mathlib.Omega.{arith}
 use mathlib.Core.Path.{_≡_, refl, sym, ap, _∙_}
-use mathlib.Core.Bool.{Bool, true, false, not}
+use mathlib.Core.Bool.{Bool, true, false}
 use mathlib.Core.List.{List, [], _∷_}
 use lib.Dec.{ltb}
 use lib.ListN.{length, getD, take, drop, length-append, length-drop, take-append-drop}
@@ -16,14 +16,13 @@ use Rattle.laws.specs.Walk.{first}
 use Rattle.laws.proofs.Branch.{and-true}
 use Rattle.laws.proofs.Each.{each-word}
 use Rattle.laws.proofs.Many.{many-few}
-use Rattle.code.specs.Answers.{asked}
 use Rattle.code.specs.declared.Checked.{Checked}
 use Rattle.code.specs.declared.Checked.the-variants.{Count, No as Refused}
 use Rattle.code.proofs.Stages.{room-before}
 use Rattle.lent.specs.Chunk.{stride, chunkCount, operandAt, names, breaksAt}
 use Rattle.lent.specs.Tables.{constantKept, within, constantsKept, tableOf}
 use Rattle.lent.specs.Check.{firstBadOf, chunkCheckOf}
-use Rattle.lent.proofs.Counting.{every-at}
+use Rattle.laws.proofs.Counting.{every-at}
 use Rattle.named.specs.Unused.{constantNamed, before, packedList, pooled, renamedOperand, recoded, numbered}
 use Rattle.clear.specs.Clear.{Is, No, PoolBuffers, ClearOutcome, clearOutcome, cleared, clearReadyOf, clearCall}
 use Rattle.clear.specs.Inner.{ClearRoom}

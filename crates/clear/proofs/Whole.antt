@@ -1,5 +1,5 @@
 -- Laws of the clearing call, from what its passes leave. Assumes nothing.
-use Prim.Native.Nat.{ℕ, zero, suc, _≤_, _<_}
+use Prim.Native.Nat.{ℕ, _≤_, _<_}
 use native.Mathlib.Omega.{arith}
 use mathlib.Core.Path.{_≡_, refl, ap, _∙_}
 use mathlib.Core.Bool.{Bool, true, false, not}
@@ -17,7 +17,7 @@ use Rattle.code.specs.declared.Checked.{Checked}
 use Rattle.lent.specs.Chunk.{chunkCount, operandAt, markAt, opAt, originAt, names}
 use Rattle.lent.specs.Tables.{constantsKept, tableOf}
 use Rattle.lent.specs.Check.{chunkCheckOf}
-use Rattle.lent.proofs.Counting.{many-ext}
+use Rattle.laws.proofs.Counting.{many-ext}
 use Rattle.named.specs.Unused.{constantNamed, before, packedAt, packedList, pooled, renumbered, renamedOperand, insOf, recoded, numbered}
 use Rattle.named.specs.Inner.{NamedMarks, markedIn, LowNumbers, numberIn}
 use Rattle.clear.specs.Inner.{Moved, Down, freed}

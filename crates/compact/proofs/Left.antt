@@ -3,7 +3,7 @@ use Prim.Native.Nat.{ℕ, zero, suc, _+_, _-_, _*_, _≤_, _<_}
 use native.Mathlib.Omega.{arith}
 use mathlib.Core.Path.{_≡_, refl, sym, ap, _∙_}
 use mathlib.Core.Bool.{Bool, true, false, cond}
-use mathlib.Core.List.{List, [], _∷_, _++_}
+use mathlib.Core.List.{List, [], _++_}
 use lib.Dec.{ltb, eqb}
 use lib.ListN.{length, getD, replicate, length-append, List·getD-append}
 use lib.Seq.{getD-append-add}
@@ -12,7 +12,7 @@ use mir.Val.{boolByte}
 use Rattle.laws.specs.All.{many}
 use Rattle.laws.specs.Each.{each}
 use Rattle.lent.specs.Chunk.{stride, opAt, markAt, operandAt, originAt}
-use Rattle.lent.proofs.Counting.{many-le, zeros-at}
+use Rattle.laws.proofs.Counting.{many-le, zeros-at}
 use Rattle.positions.specs.Remap.{alive, live}
 use Rattle.compact.specs.Tables.{movedOperand, wordsOf, leftAt, left, compacted}
 use Rattle.positions.proofs.Moves.{live-on}

@@ -1,12 +1,12 @@
 -- The call: its tests, and what each way out leaves. Assumes nothing.
-use mathlib.Core.Path.{_≡_, refl, sym, ap, _∙_, subst}
+use mathlib.Core.Path.{_≡_, refl, sym, ap, _∙_}
 use mathlib.Core.Bool.{Bool, true, false, cond}
 use mathlib.Core.List.{List}
-use Prim.Native.Nat.{ℕ, zero, suc, _+_, _-_, _*_, _/_, _≤_, _<_, zero-le}
+use Prim.Native.Nat.{ℕ, zero, suc, _*_, _/_, _≤_, _<_, zero-le}
 use native.Mathlib.Decide.{ℕ-discrete}
 use native.Mathlib.Omega.{arith}
 use lib.ListN.{length}
-use Rattle.laws.specs.Table.{filledTo}
+use Rattle.laws.proofs.Walk.{first-le}
 use Rattle.laws.specs.Walk.{first}
 use Rattle.code.specs.Ins.{count}
 use Rattle.code.specs.Check.{checkOf, registersOf, triedOf, roomOf}
@@ -18,25 +18,14 @@ use Rattle.code.proofs.Checks.{counted, checked}
 use Rattle.code.proofs.Stages.{regs-before, tries-before, room-before, room-there}
 use Rattle.blocks.specs.Blocks.{slotAt, fillerAt, stepsOf}
 use Rattle.trace.specs.Trace.{verdictOf, Recorded}
-use Rattle.day.specs.Count.{readsIn, levelsIn}
 use Rattle.day.specs.Inner.{Tallied, Walkable}
 use Rattle.day.specs.Day.{replayStages, Day, refused, check, filler, move, told}
 use Rattle.trace.specs.declared.Verdict.{Verdict}
 use Rattle.trace.specs.declared.Verdict.the-variants as found
-use Rattle.day.specs.declared.DayAnswer.{DayAnswer}
 use Rattle.day.specs.declared.DayAnswer.the-variants.{Is, No, Check, Filler, Move}
 use Rattle.trace.proofs.Runs.{fine-recorded}
 
 -- ---- the first filler
-
-first-le : (f : ℕ → Bool) (m k : ℕ) → first f k m ≤ k + m
-unfolding first
-first-le f zero k = omega arith
-first-le f (suc m) k = go (f k) (first-le f m (suc k))
-  where
-    go : (t : Bool) → first f (suc k) m ≤ suc k + m → cond t k (first f (suc k) m) ≤ k + suc m
-    go true h = omega arith
-    go false h = omega arith
 
 before-first : (f : ℕ → Bool) (m k j : ℕ) → k ≤ j → j < first f k m → f j ≡ false
 unfolding first

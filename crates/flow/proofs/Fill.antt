@@ -12,11 +12,10 @@ use lib.Bits.{bitOr, or-zero-r}
 use lib.Dec.{ltb, eqb}
 use lib.ListN.{length, getD, take, drop, set, length-set}
 use lib.Seq.{getD-set-same, getD-set-other, set-getD}
-use Rattle.laws.proofs.Branch.{or-false}
+use Rattle.laws.proofs.Branch.{or-false, or-true}
 use Rattle.flow.specs.Words.{value, Small}
 use Rattle.flow.specs.Inner.{Holds, WordsStored}
-use Rattle.flow.proofs.Tally.{or-some}
-use Rattle.flow.proofs.Words.{holds-ext, holds-or}
+use Rattle.flow.proofs.Words.{holds-or}
 use Rattle.flow.proofs.Buffer.{window-in, window-past, small-window}
 
 -- the first j entries are A's, the others B's
@@ -76,7 +75,7 @@ module _ (buf : List ℕ) (at : ℕ) (s : List ℕ) where
         ap (λ (x : ℕ). set out (at + j) x) (sym (eqb-true old v (not-false (eqb old v) (w .0)))) ∙ set-getD out (at + j) 0 ∙ p .quiet (w .1);
     loud = λ e. ⊎-elim
         (λ t. (j, omega arith, λ h. eqb-false old v (not-true (eqb old v) t) (p .kept (at + j) (inr (le-refl (at + j))) ∙ h)))
-        (λ t. let w = p .loud t in (w .0, omega (arith, w .1), w .2)) (or-some (not (eqb old v)) changed e);
+        (λ t. let w = p .loud t in (w .0, omega (arith, w .1), w .2)) (or-true (not (eqb old v)) changed e);
   }
     where
       v : ℕ

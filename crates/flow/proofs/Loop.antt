@@ -12,11 +12,11 @@ use borrow.Author.Tests.{lt-ltb, le-ltb, eqb-true, eqb-false, eq-eqb, ne-eqb, no
 use lib.Dec.{eqb}
 use lib.ListN.{length, set, length-set}
 use lib.Seq.{getD-set-same, getD-set-other, set-getD}
-use Rattle.laws.proofs.Branch.{or-false}
+use Rattle.laws.proofs.Branch.{or-false, or-true}
 use Rattle.flow.specs.Flow.{Flow, reach, rowAt}
 use Rattle.flow.specs.Sweep.{row, empty, sweep, swept, below, backs, strays, Again, Sweeps, done, more, startOf, abandonedOf, Found}
 use Rattle.flow.specs.Inner.{Put}
-use Rattle.flow.proofs.Tally.{or-some, tally-zero, tally-some, tally-le, strays-zero}
+use Rattle.flow.proofs.Tally.{tally-zero, tally-some, tally-le, strays-zero}
 use Rattle.flow.proofs.Rows.{empty-long, empty-row}
 use Rattle.flow.proofs.Bound.{bounded}
 
@@ -66,10 +66,10 @@ module _ (f : Flow) (first : ℕ) where
           ∙ sym (sweep-next rows (j - first)) ∙ ap (λ (x : ℕ). sweep f first x rows) down ∙ p .left;
       low = λ i l. ap (λ (l′ : List ℕ). row l′ i) (put .stored) ∙ getD-set-other rows j i v 0 (λ e. omega arith) ∙ p .low i (omega arith);
       kept = λ e. let w = or-false changed′ changed e in put .stored ∙ still (w .0) ∙ p .kept (w .1);
-      moved = λ e. moves (or-some changed′ changed e) (decide changed′);
+      moved = λ e. moves (or-true changed′ changed e) (decide changed′);
       ahead = λ e i a b. let w = or-false back′ back e in aheadAt (w .0) (w .1) i a b (ℕ-discrete i j);
       behind = λ e. ⊎-elim (λ t. (j, le-refl j, omega (arith, p .hi), ap (λ (x : ℕ). below x (reach f j)) one ∙ sym eb ∙ t))
-          (λ t. let w = p .behind t in (w .0, omega (arith, w .1), w .2, w .3)) (or-some back′ back e);
+          (λ t. let w = p .behind t in (w .0, omega (arith, w .1), w .2, w .3)) (or-true back′ back e);
       inside = λ i a b. insideAt i a b (ℕ-discrete i j);
     }
       where

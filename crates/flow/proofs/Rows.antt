@@ -7,7 +7,7 @@ use native.Mathlib.Nat.{le-refl, le-antisymm}
 use native.Mathlib.Decide.{ℕ-discrete, decLe, decLt}
 use native.Mathlib.Omega.{arith}
 use lib.Bits.{bitOr, or-lt}
-use lib.ListN.{length, getD, set, replicate, length-set, length-replicate}
+use lib.ListN.{length, set, length-set, length-replicate}
 use lib.Pow.{pow-pos}
 use lib.Seq.{getD-set-same, getD-set-other}
 use Rattle.flow.specs.Set.{bit, minus, _⊑_}
@@ -15,16 +15,12 @@ use Rattle.flow.specs.Flow.{Flow, joined, onto, rowAt, reach, Solution, 
 use Rattle.flow.specs.Sweep.{row, empty, sweep, swept, below, backs, Again, Sweeps, done, more}
 use Rattle.flow.proofs.Bits.{bit-lt, bit-zero, bit-ext, or-bit, minus-bit, minus-lt}
 use Rattle.flow.proofs.Tally.{below-none, tally-none}
+pub use Rattle.laws.proofs.Counting.{zeros-at}
 
 abbrev pub In : ℕ → List ℕ → Type 0
 In s ss = List·Memᴰ s ss
 
 -- ---- empty rows
-
-pub zeros-at : (n i : ℕ) → _≡_ {A = ℕ} (getD (replicate n 0) i 0) 0
-zeros-at zero i = refl
-zeros-at (suc n) zero = refl
-zeros-at (suc n) (suc i) = zeros-at n i
 
 pub empty-long : (f : Flow) → length (empty f) ≡ suc (f .size)
 empty-long f = length-replicate {A = ℕ} (suc (f .size)) 0

@@ -1,6 +1,6 @@
 -- Tests of positions, and how many pass one. Assumes nothing.
 use mathlib.Core.Path.{_≡_, refl, sym, ap, ap₂, _∙_}
-use mathlib.Core.Logic.{⊎-elim, _⊎_, inl, inr}
+use mathlib.Core.Logic.{⊎-elim}
 use mathlib.Core.List.{List, [], _∷_, List·Memᴰ, List·Memᴰ·cases-cons, List·Memᴰ·not-nil}
 use mathlib.Core.Bool.{Bool, true, false, cond, _||_, true≢false}
 use Prim.Native.Nat.{ℕ, zero, suc, _+_, _-_, _≤_, _<_, zero-le}
@@ -12,10 +12,6 @@ use lib.Dec.{ltb}
 use Rattle.laws.proofs.Branch.{or-false}
 use Rattle.flow.specs.Flow.{Flow, reach}
 use Rattle.flow.specs.Sweep.{below, tally, strays}
-
-pub or-some : (a b : Bool) → (a || b) ≡ true → (a ≡ true) ⊎ (b ≡ true)
-or-some true b e = inl refl
-or-some false b e = inr e
 
 -- ---- positions below a bound
 

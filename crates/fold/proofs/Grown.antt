@@ -1,5 +1,5 @@
 -- An attempt at i writes before i alone, and the constants grow by one at most, at a folding operator; so there is room for all. Assumes nothing.
-use Prim.Native.Nat.{ℕ, zero, suc, _+_, _-_, _*_, _≤_, _<_, min, max}
+use Prim.Native.Nat.{ℕ, suc, _+_, _≤_, _<_, min, max}
 use native.Mathlib.Omega.{arith}
 use native.Mathlib.Numerals.{add-one}
 use mathlib.Core.Path.{_≡_, refl, sym, ap, _∙_}
@@ -11,18 +11,17 @@ use mir.Val.{boolByte}
 use Rattle.laws.specs.All.{many}
 use Rattle.lent.specs.Chunk.{chunkCount, opAt, folds}
 use Rattle.lent.specs.Check.{constantRoom}
-use Rattle.lent.proofs.Counting.{many-le}
+use Rattle.laws.proofs.Counting.{many-le}
 use Rattle.values.specs.declared.Val.{Val}
 use Rattle.values.specs.declared.Val.the-variants.{Int, Float as Real, Bool as Truth}
 use Rattle.chunk.specs.Pool.{Stored, findOrPushConst}
-use Rattle.chunk.specs.Inner.{PushRoom}
 use Rattle.chunk.specs.declared.Kept.{Kept}
 use Rattle.chunk.specs.declared.Kept.the-variants.{At, Full}
 use Rattle.chunk.proofs.Store.{kept-few}
 use Rattle.landings.specs.Latest.{latest, isLanding}
 use Rattle.fold.specs.Plan.{Chunk, after, planAt}
 use Rattle.fold.specs.Pass.{Loading, loadOf, constLoad, landed, applied, tryFold, Bars, byTable, folded, foldAll}
-use Rattle.fold.specs.Inner.{Readable, OperatorRoom, PassRoom}
+use Rattle.fold.specs.Inner.{OperatorRoom, PassRoom}
 use Rattle.fold.specs.declared.Loaded.{Loaded}
 use Rattle.fold.specs.declared.Loaded.the-variants.{As, No}
 use Rattle.fold.specs.declared.Plan.{Plan}

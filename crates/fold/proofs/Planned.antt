@@ -7,7 +7,7 @@ use mathlib.Core.List.{List, [], _∷_, _++_}
 use lib.Dec.{eqb}
 use lib.ListN.{length}
 use Rattle.laws.specs.Page.{Row, among, look}
-use Rattle.laws.proofs.Branch.{or-false}
+use Rattle.laws.proofs.Branch.{or-false, or-assoc}
 use Rattle.laws.proofs.Keys.{every}
 use Rattle.code.specs.Op.{LoadConst}
 use Rattle.lent.specs.Chunk.{chunkCount, opAt, folds}
@@ -18,7 +18,7 @@ use Rattle.values.specs.declared.Maybe.the-variants.{Is, Nothing}
 use Rattle.values.specs.declared.Op.{Op}
 use Rattle.chunk.specs.Inner.{PushRoom}
 use Rattle.fold.specs.Plan.{Chunk, operatorPage, kindOf, prevLive, operandOf, blocked, withFound, withVal, foldUnary, tryFoldBinop, tryFoldUnary, planFor, planAt}
-use Rattle.fold.specs.Inner.{Readable, OperatorRoom}
+use Rattle.fold.specs.Inner.{OperatorRoom}
 use Rattle.operands.specs.declared.Found.{Found}
 use Rattle.operands.specs.declared.Found.the-variants.{At, Nowhere}
 use Rattle.fold.specs.declared.Kind.{Kind}
@@ -32,10 +32,6 @@ use Rattle.operands.proofs.Parts.{before, operand-load}
 abbrev keys : List (Row Kind) → List ℕ
 keys [] = []
 keys (r ∷ rs) = r .ops ++ keys rs
-
-or-assoc : (a b c : Bool) → (a || b) || c ≡ a || (b || c)
-or-assoc true b c = refl
-or-assoc false b c = refl
 
 among-append : (o : ℕ) (xs ys : List ℕ) → among o (xs ++ ys) ≡ among o xs || among o ys
 among-append o [] ys = refl

@@ -1,17 +1,16 @@
 -- Refusal 14 is given exactly where a listed register is not in the file or stands there twice. Assumes nothing.
-use mathlib.Core.Path.{_≡_, refl, sym, ap, _∙_, subst}
-use mathlib.Core.Logic.{⊎-elim, inl, inr, _⊎_}
-use mathlib.Core.Bool.{Bool, true, false, cond, _||_, false≢true}
+use mathlib.Core.Path.{_≡_, refl, sym, _∙_, subst}
+use mathlib.Core.Logic.{⊎-elim}
+use mathlib.Core.Bool.{Bool, true, false, _||_, false≢true}
 use mathlib.Core.List.{List, [], _∷_, List·Memᴰ, List·Memᴰ·head, List·Memᴰ·tail, List·Memᴰ·cases-cons, List·Memᴰ·not-nil}
 use Prim.Native.Nat.{ℕ, zero, suc, _+_, _≤_, _<_, zero-le}
 use native.Mathlib.Omega.{arith}
-use borrow.Author.Tests.{lt-leb, leb-false, eqb-true, eq-eqb}
-use lib.Dec.{leb, eqb}
+use borrow.Author.Tests.{lt-leb, eqb-true, eq-eqb}
+use lib.Dec.{leb}
 use lib.ListN.{length, getD}
 use Rattle.laws.specs.Some.{some}
-use Rattle.laws.specs.Walk.{first}
 use Rattle.laws.proofs.Some.{passes-at}
-use Rattle.laws.proofs.Walk.{none-passed}
+use Rattle.laws.proofs.Walk.{none-passed, reaches}
 use Rattle.flow.specs.Demand.{Once}
 use Rattle.taken.specs.Lists.{strange, firstStrange}
 use Rattle.taken.proofs.Lists.{as-at, all-in}
@@ -45,18 +44,6 @@ twice [] i j h k e o = omega arith
 twice (x ∷ l) zero j h k e o = omega arith
 twice (x ∷ l) (suc i) zero h k e o = o .0 (subst (λ (y : ℕ). List·Memᴰ y l) (sym e) (at-place l i (omega arith)))
 twice (x ∷ l) (suc i) (suc j) h k e o = twice l i j (omega arith) (omega arith) e (o .1)
-
--- the walk reaches the end where no place passes
-reaches : (f : ℕ → Bool) (m k : ℕ) → ((j : ℕ) → k ≤ j → j < k + m → f j ≡ false) → first f k m ≡ k + m
-unfolding first
-reaches f zero k h = omega arith
-reaches f (suc m) k h =
-    ap (λ (t : Bool). cond t k (first f (suc k) m)) (h k (omega arith) (omega arith))
-    ∙ reaches f m (suc k) (λ j a b. h j (omega arith) (omega arith))
-    ∙ sum k m
-  where
-    sum : (k m : ℕ) → suc k + m ≡ k + suc m
-    sum k m = omega arith
 
 module _ (regs : ℕ) (l : List ℕ) where
   -- registers of the file, each listed once: not refused

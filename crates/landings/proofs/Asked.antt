@@ -1,11 +1,10 @@
 -- The last landing tells whether any is in (p, i]: the table in place of the scan. Assumes nothing.
-use Prim.Native.Nat.{ℕ, zero, suc, _+_, _*_, _/_, _≤_, _<_}
+use Prim.Native.Nat.{ℕ, zero, suc, _+_, _/_, _≤_, _<_}
 use native.Mathlib.Omega.{arith}
-use native.Mathlib.Numerals.{add-one}
 use mathlib.Core.Path.{_≡_, refl, sym, ap, _∙_}
 use mathlib.Core.Bool.{Bool, true, false, not, cond, _&&_, _||_, false≢true}
-use mathlib.Core.List.{List, [], _∷_}
-use mathlib.Core.Logic.{_⊎_, inl, inr, ⊎-elim}
+use mathlib.Core.List.{List}
+use mathlib.Core.Logic.{⊎-elim}
 use lib.Dec.{eqb, ltb, leb}
 use lib.ListN.{length, getD}
 use borrow.Author.Tests.{lt-ltb, le-leb, ltb-true, ltb-false, leb-true, eqb-true, eqb-false, eq-eqb, ne-eqb}
@@ -14,7 +13,7 @@ use Rattle.laws.specs.All.{many}
 use Rattle.laws.specs.Some.{some}
 use Rattle.laws.proofs.Each.{each-at, each-word}
 use Rattle.laws.proofs.Some.{passes-at}
-use Rattle.laws.proofs.Branch.{and-true}
+use Rattle.laws.proofs.Branch.{and-true, or-true}
 use Rattle.lent.specs.Chunk.{chunkCount, operandAt, marksJump, lands}
 use Rattle.landings.specs.Landings.{handlerAt, jumpLands, handlerLands, landingsAt, landingsOf, landsAny, handles, handlesAny, barred}
 use Rattle.landings.specs.Latest.{latest, isLanding}
@@ -121,10 +120,6 @@ or-right : (a b : Bool) → b ≡ true → a || b ≡ true
 or-right true b e = refl
 or-right false b e = e
 
-either : (a b : Bool) → a || b ≡ true → (a ≡ true) ⊎ (b ≡ true)
-either true b e = inl refl
-either false b e = inr e
-
 module _ (w tries : List ℕ) (p i : ℕ) (h : i ≤ chunkCount w) where
   -- a count above 0 in (p, i] is a jump or a handler there
   found : (t : ℕ) → p < t → t ≤ i → (landingsAt w tries t ≡ 0 → ⊥) → landsAny w p i || handlesAny tries p i ≡ true
@@ -154,7 +149,7 @@ module _ (w tries : List ℕ) (p i : ℕ) (h : i ≤ chunkCount w) where
 
   lost : landsAny w p i || handlesAny tries p i ≡ true → Landing
   unfolding landingsAt landsAny lands handlesAny handles
-  lost e = ⊎-elim jump handler (either (landsAny w p i) (handlesAny tries p i) e)
+  lost e = ⊎-elim jump handler (or-true (landsAny w p i) (handlesAny tries p i) e)
     where
       jump : landsAny w p i ≡ true → Landing
       jump e =

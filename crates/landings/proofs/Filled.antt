@@ -1,14 +1,13 @@
 -- The fill counts each jump and each handler once. Assumes nothing.
-use Prim.Native.Nat.{ℕ, zero, suc, _+_, _*_, _/_, _^_, _≤_, _<_}
+use Prim.Native.Nat.{ℕ, _+_, _/_, _^_, _≤_, _<_}
 use native.Mathlib.Omega.{arith}
-use native.Mathlib.Numerals.{add-one}
 use mathlib.Core.Path.{_≡_, refl, sym, ap, _∙_}
-use mathlib.Core.Bool.{Bool, true, false, not, cond, _&&_}
+use mathlib.Core.Bool.{Bool, true, false, not, cond}
 use mathlib.Core.List.{List, [], _∷_, _++_, append-nil}
 use lib.Dec.{eqb, ltb}
-use lib.ListN.{length, getD, set, drop, replicate, length-set, length-replicate, List·getD-eq-default}
+use lib.ListN.{length, getD, set, drop, replicate, length-set, List·getD-eq-default}
 use lib.Seq.{getD-set-same, getD-set-other, ext-getD, drop-length}
-use borrow.Author.Tests.{lt-ltb, le-ltb, ltb-true, ltb-false, eqb-true, eqb-false, eq-eqb, ne-eqb}
+use borrow.Author.Tests.{lt-ltb, le-ltb, ltb-true, ltb-false, eqb-true, eqb-false}
 use mir.Val.{boolByte}
 use Rattle.laws.specs.All.{many}
 use Rattle.laws.specs.Each.{each}
@@ -16,7 +15,7 @@ use Rattle.laws.proofs.Many.{many-more, many-few}
 use Rattle.laws.proofs.Each.{each-word, each-at}
 use Rattle.laws.proofs.Table.{fill-on}
 use Rattle.lent.specs.Chunk.{chunkCount, operandAt, marksJump}
-use Rattle.lent.proofs.Counting.{zeros-at}
+use Rattle.laws.proofs.Counting.{zeros-at}
 use Rattle.landings.specs.Landings.{handlerAt, jumpLands, handlerLands, landingsAt, landingsOf}
 use Rattle.landings.specs.Inner.{bumped, Counts, FewAt, Zeros, Jumped, Handled}
 

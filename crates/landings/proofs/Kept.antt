@@ -1,18 +1,15 @@
 -- Codes with the same jumps have the same landings. Assumes nothing.
-use Prim.Native.Nat.{ℕ, zero, suc, _+_, _/_, _≤_, _<_}
-use native.Mathlib.Omega.{arith}
-use mathlib.Core.Path.{_≡_, refl, sym, ap, _∙_}
+use Prim.Native.Nat.{ℕ, _+_, _/_}
+use mathlib.Core.Path.{_≡_, refl, ap, _∙_}
 use mathlib.Core.Bool.{Bool, true, false, _&&_}
 use mathlib.Core.List.{List, [], _∷_}
 use lib.Dec.{eqb}
 use lib.ListN.{length}
-use mir.Val.{boolByte}
-use Rattle.laws.specs.All.{many}
 use Rattle.laws.specs.Each.{each}
 use Rattle.laws.proofs.Each.{each-ext}
 use Rattle.lent.specs.Chunk.{stride, chunkCount, operandAt, marksJump}
-use Rattle.lent.proofs.Counting.{many-ext}
-use Rattle.landings.specs.Landings.{jumpLands, handlerLands, landingsAt, landingsOf}
+use Rattle.laws.proofs.Counting.{many-ext}
+use Rattle.landings.specs.Landings.{jumpLands, landingsAt, landingsOf}
 
 -- the same jumps, to the same places
 pub record SameJumps (w w′ : List ℕ) : Type 0 where

@@ -1,11 +1,12 @@
 -- A loop that goes through a list from the front and writes at or behind where it reads.
 -- `Walked xs old done to p`: xs was old; its first `to` words are done, and from p on it is as it was. Assumes nothing.
 use Prim.Native.Nat.{ℕ, _+_, _-_, _≤_, _<_, zero-le}
+use native.Mathlib.Nat.{le-refl, sub-self}
 use native.Mathlib.Numerals.{add-one}
 use native.Mathlib.Omega.{arith}
 use mathlib.Core.Path.{_≡_, refl, sym, ap, _∙_}
 use mathlib.Core.List.{List, [], _∷_, _++_, append-nil, append-assoc}
-use lib.ListN.{length, getD, take, drop, set, length-set, length-append, length-drop, take-append-drop, drop-of-length-le}
+use lib.ListN.{length, getD, take, drop, set, replicate, length-set, take-append-drop, drop-of-length-le, replicate-append-replicate}
 use lib.Seq.{take-suc-set, drop-set-lt, drop-drop, getD-drop, length-take-le}
 use Rattle.laws.specs.Each.{each}
 use Rattle.laws.proofs.Each.{each-more}
@@ -78,3 +79,31 @@ walk-whole {xs} {old} {done} {p} w h = walk-end w ∙ rw (drop-of-length-le old 
 module _ (f : ℕ → ℕ) {xs old : List ℕ} {p : ℕ} (w : Walked xs old (each (λ k. f k ∷ []) p) p p) (h : p < length old) where
   pub word-put : (v : ℕ) → v ≡ f p → Walked (set xs p v) old (each (λ k. f k ∷ []) (p + 1)) (p + 1) (p + 1)
   word-put v e = rw (each-more (λ k. f k ∷ []) p, sym e) (walk-put w v h)
+
+-- ---- what is cleared
+
+-- xs was old, and is 0 from a on as far as i
+pub record Cleared (xs old : List ℕ) (a i : ℕ) : Type 0 where
+  pub walked : Walked xs old (take a old ++ replicate (i - a) 0) i i
+  pub from : a ≤ i
+
+pub cleared-none : (old : List ℕ) (a : ℕ) → Cleared old old a a
+cleared-none old a =
+    record { walked = rw (sub-self a, append-nil) (record { front = refl; rest = refl; same = refl; behind = le-refl a }); from = le-refl a }
+
+zeros-more : (l : List ℕ) (a i : ℕ) → a ≤ i → (l ++ replicate (i - a) 0) ++ (0 ∷ []) ≡ l ++ replicate (i + 1 - a) 0
+zeros-more l a i h =
+    let e : i + 1 - a ≡ (i - a) + 1 = omega arith in
+    append-assoc l (replicate (i - a) 0) (0 ∷ []) ∙ rw e (ap (λ (t : List ℕ). l ++ t) (replicate-append-replicate (i - a) 1 0))
+
+module _ {xs old : List ℕ} {a i : ℕ} (c : Cleared xs old a i) where
+  pub cleared-more : i < length xs → Cleared (set xs i 0) old a (i + 1)
+  cleared-more h =
+      let w = c .walked in
+      record {
+        walked = walk-as (walk-put w 0 (omega (arith, w .same))) (take a old ++ replicate (i + 1 - a) 0) (zeros-more (take a old) a i (c .from));
+        from = omega (arith, c .from);
+      }
+
+  pub cleared-same : length xs ≡ length old
+  cleared-same = c .walked .same

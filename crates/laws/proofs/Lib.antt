@@ -1,5 +1,6 @@
 pub mod Branch
 pub mod Byte
+pub mod Counting
 pub mod Each
 pub mod Every
 pub mod InPlace

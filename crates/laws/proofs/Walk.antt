@@ -1,12 +1,12 @@
--- Laws of `first` and `walk` for a loop that counts k up to n, tests t at k, and keeps that what is left has the answer r of the whole. Assumes nothing.
-use mathlib.Core.Path.{_≡_, refl, sym, ap, _∙_}
+-- Laws of `first` for a loop that counts k up to n, tests t at k, and keeps that what is left has the answer r of the whole. Assumes nothing.
+use mathlib.Core.Path.{_≡_, refl}
 use mathlib.Core.Logic.{⊎-elim}
 use mathlib.Core.Bool.{Bool, true, false, cond}
 use Prim.Native.Nat.{ℕ, zero, suc, _+_, _-_, _<_, _≤_}
 use native.Mathlib.Nat.{eq-or-lt-of-le}
 use native.Mathlib.Omega.{arith}
 use native.Mathlib.Numerals.{add-one}
-use Rattle.laws.specs.Walk.{first, walk}
+use Rattle.laws.specs.Walk.{first}
 
 module _ (f : ℕ → Bool) (k n r : ℕ) where
   pub begins : first f 0 n ≡ r → first f 0 (n - 0) ≡ r
@@ -36,14 +36,6 @@ module _ (f : ℕ → Bool) (k n r : ℕ) where
 
 pub ruleset finds = (begins, goes-on, stops, ends)
 
--- the same for `walk`, from a state s
-module _ {S : Type 0} (f : ℕ → S → S) (k n : ℕ) (s r : S) where
-  pub steps : k < n → walk f k (n - k) s ≡ r → walk f (k + 1) (n - (k + 1)) (f k s) ≡ r
-  unfolding walk
-  steps h i =
-      let d : n - k ≡ suc (n - (k + 1)) = omega arith in
-      rw add-one (rw (d, add-one) at i)
-
 -- no place passes f where the walk reaches the end
 module _ (f : ℕ → Bool) (j : ℕ) where
   step : (m k : ℕ) (b : Bool) → f k ≡ b → k + suc m ≤ first f k (suc m) → k ≤ j → j < k + suc m
@@ -60,3 +52,30 @@ module _ (f : ℕ → Bool) (j : ℕ) where
   pub none-passed : (m k : ℕ) → k + m ≤ first f k m → k ≤ j → j < k + m → f j ≡ false
   none-passed zero k h l u = absurd (omega arith)
   none-passed (suc m) k h l u = step m k (f k) refl h l u (none-passed m (suc k))
+
+-- the end is as far as the walk goes
+pub first-le : (f : ℕ → Bool) (m k : ℕ) → first f k m ≤ k + m
+unfolding first
+first-le f zero k = omega arith
+first-le f (suc m) k = go (f k) (first-le f m (suc k))
+  where
+    go : (t : Bool) → first f (suc k) m ≤ suc k + m → cond t k (first f (suc k) m) ≤ k + suc m
+    go true h = omega arith
+    go false h = omega arith
+
+-- it reaches the end where no place passes
+pub reaches : (f : ℕ → Bool) (m k : ℕ) → ((j : ℕ) → k ≤ j → j < k + m → f j ≡ false) → first f k m ≡ k + m
+unfolding first
+reaches f zero k h = omega arith
+reaches f (suc m) k h = rw (h k (omega arith) (omega arith)) (omega (arith, reaches f m (suc k) (λ j a b. h j (omega arith) (omega arith))))
+
+-- and short of the end it stands where one passes
+pub first-passes : (f : ℕ → Bool) (m k : ℕ) → first f k m < k + m → f (first f k m) ≡ true
+unfolding first
+first-passes f zero k h = absurd (omega arith)
+first-passes f (suc m) k h = go (f k) refl h (first-passes f m (suc k))
+  where
+    go : (t : Bool) → f k ≡ t → cond t k (first f (suc k) m) < k + suc m → (first f (suc k) m < suc k + m → f (first f (suc k) m) ≡ true)
+        → f (cond t k (first f (suc k) m)) ≡ true
+    go true e h ih = e
+    go false e h ih = ih (omega arith)

@@ -1,44 +1,38 @@
 -- The rows of code that may raise shelter its frames. Assumes nothing.
 use mathlib.Core.Path.{_≡_, refl, sym, ap, ap₂, _∙_, subst}
 use mathlib.Core.Logic.{⊎-elim, _⊎_, inl, inr}
-use mathlib.Core.Bool.{Bool, true, false, cond, not, _&&_, _||_, false≢true}
-use mathlib.Core.List.{List, [], _∷_, _++_, List·Memᴰ, List·Memᴰ·head, Memᴰ·append-left, Memᴰ·append-right}
+use mathlib.Core.Bool.{Bool, true, false, cond, _&&_, _||_, false≢true}
+use mathlib.Core.List.{List, [], _∷_, List·Memᴰ·head, Memᴰ·append-left, Memᴰ·append-right}
 use Prim.Native.Nat.{ℕ, zero, suc, _+_, _-_, _≤_, _<_, min, max}
 use native.Mathlib.Omega.{arith}
-use borrow.Author.Tests.{eqb-true, eqb-false}
+use borrow.Author.Tests.{eqb-true}
 use lib.Bits.{bitOr}
-use lib.Dec.{eqb, ltb}
-use lib.ListN.{take}
-use Rattle.laws.proofs.Branch.{or-false}
+use lib.Dec.{eqb}
+use Rattle.laws.proofs.Branch.{or-false, or-true}
 use Rattle.code.specs.Op.{JumpIfFalseR, GetAttrR, Call, ArgsR, Jump, ReturnR, CallGlobalR, CallR, CallMethodR, CallSpreadR, StoreTopR, UnpackR, WithEnter, WithExit, WithJudge, ForIterR}
 use Rattle.code.specs.Ins.{insAt, count, isCall, wide, dunder}
 use Rattle.code.specs.Inner.{Valid}
 use Rattle.code.specs.declared.Ins.{Ins}
 use Rattle.code.proofs.Rules.{args-follow, wide-call}
 use Rattle.roles.specs.Kinds.{page, ruleOf, kindsOf, hasRole, isJump, has, dest, abc, bc, firstOf}
-use Rattle.roles.specs.Sets.{cases, caseOf, only, given, destBy, givenBy}
+use Rattle.roles.specs.Sets.{cases, caseOf, only, given, givenBy}
 use Rattle.roles.specs.declared.Case.{Case}
 use Rattle.roles.specs.declared.Case.the-variants.{Store, Unpack, Enter, Exit, Judge, Step as For, Plain}
-use Rattle.flow.specs.Set.{bit, alone, minus}
-use Rattle.flow.specs.Flow.{Flow, joined, onto, rowAt, Solution, Closed}
+use Rattle.flow.specs.Set.{bit, alone}
+use Rattle.flow.specs.Flow.{joined, Solution, Closed}
 use Rattle.flow.specs.Kept.{handlersOf}
-use Rattle.flow.proofs.Bits.{bit-lt, bit-zero, bit-ext, or-bit}
-use Rattle.flow.proofs.Rows.{In, joined-in, onto-bit, rowAt-bit}
+use Rattle.flow.proofs.Bits.{bit-lt, bit-zero, or-bit}
+use Rattle.flow.proofs.Rows.{In, joined-in, rowAt-bit}
 use Rattle.flow.proofs.Tries.{handlers-past}
 use Rattle.steps.specs.Code.{storeOf, idle, setOf, usedAt, givenAt, afterAt}
 use Rattle.steps.specs.Inner.{rowUnread}
 use Rattle.steps.specs.Level.{isLevel}
-use Rattle.kept.specs.Level.{resumeOf, noRegister, resultAt, levelOf}
+use Rattle.kept.specs.Level.{resumeOf, resultAt}
 use Rattle.steps.proofs.Resume.{resume-in}
-use Rattle.nested.specs.Machine.{Frame}
 use Rattle.nested.specs.Inner.{Shelters}
-use Rattle.nested.specs.Raising.{stranded, raisesAt, raising, levels, argsAt, frame}
+use Rattle.nested.specs.Raising.{stranded, raisesAt, raising, argsAt, frame}
 
 -- ---- opcodes
-
-or-true : (a b : Bool) → (a || b) ≡ true → (a ≡ true) ⊎ (b ≡ true)
-or-true true b e = inl refl
-or-true false b e = inr e
 
 -- a fact of each of the four calls is one of all calls
 call-cases : (P : ℕ → Type 0) → P CallGlobalR → P CallR → P CallMethodR → P CallSpreadR → (o : ℕ) → isCall o ≡ true → P o

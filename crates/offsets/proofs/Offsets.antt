@@ -1,6 +1,6 @@
 -- Offsets that break no rule, and those that do: one law for each way out. Assumes nothing.
-use mathlib.Core.Path.{_≡_, refl, sym, ap, _∙_, subst}
-use mathlib.Core.Bool.{Bool, true, false, cond, not, _&&_, _||_, false≢true}
+use mathlib.Core.Path.{_≡_, refl, ap, _∙_, subst}
+use mathlib.Core.Bool.{Bool, true, false, not, _&&_, _||_}
 use mathlib.Core.List.{List}
 use Prim.Native.Nat.{ℕ, zero, suc, _+_, _≤_, _<_, zero-le}
 use native.Mathlib.Decide.{decLt}
@@ -8,8 +8,8 @@ use native.Mathlib.Omega.{arith}
 use borrow.Author.Tests.{lt-ltb, le-ltb, eq-eqb, ltb-false, eqb-true, not-false, ne-eqb}
 use lib.Dec.{eqb, ltb}
 use lib.ListN.{length, getD}
-use Rattle.laws.specs.Walk.{first}
-use Rattle.laws.proofs.Walk.{none-passed}
+use Rattle.laws.proofs.Branch.{or-left, or-right}
+use Rattle.laws.proofs.Walk.{none-passed, reaches}
 use Rattle.code.specs.Ins.{insAt, count}
 use Rattle.code.specs.Inner.{Valid}
 use Rattle.code.specs.declared.Ins.{Ins}
@@ -34,14 +34,6 @@ module _ (w o : List ℕ) (len : ℕ) (passed : count w + 1 ≤ firstWrong w o l
   fine : (k : ℕ) → k ≤ count w → wrong w o len k ≡ false
   unfolding firstWrong
   fine k h = none-passed (wrong w o len) k (count w + 1) 0 (omega arith) zero-le (omega arith)
-
-  or-left : (a b : Bool) → a || b ≡ false → a ≡ false
-  or-left true b e = e
-  or-left false b e = refl
-
-  or-right : (a b : Bool) → a || b ≡ false → b ≡ false
-  or-right true b e = absurd (false≢true (sym e))
-  or-right false b e = e
 
   -- the rule of a place in the code
   rule : (k : ℕ) → k < count w
@@ -75,18 +67,6 @@ module _ (w o : List ℕ) (len : ℕ) (passed : count w + 1 ≤ firstWrong w o l
         (subst (λ (t : Bool). not t && not (eqb (getD o (k + 1) 0) (getD o k 0)) ≡ false) e
         (or-right ((eqb k 0 && not (eqb (getD o k 0) 0)) || ltb (getD o (k + 1) 0) (getD o k 0)) (not (isLevel (insAt w k)) && not (eqb (getD o (k + 1) 0) (getD o k 0))) (rule k h))));
   }
-
--- the walk reaches the end where no place passes
-reaches : (f : ℕ → Bool) (m k : ℕ) → ((j : ℕ) → k ≤ j → j < k + m → f j ≡ false) → first f k m ≡ k + m
-unfolding first
-reaches f zero k h = omega arith
-reaches f (suc m) k h =
-    ap (λ (t : Bool). cond t k (first f (suc k) m)) (h k (omega arith) (omega arith))
-    ∙ reaches f m (suc k) (λ j a b. h j (omega arith) (omega arith))
-    ∙ sum k m
-  where
-    sum : (k m : ℕ) → suc k + m ≡ k + suc m
-    sum k m = omega arith
 
 -- Offsets that begin at 0, never fall, give a list to levels alone and end at the list's length are not refused with 15.
 pub right-fine : (w o : List ℕ) (len : ℕ) → Right w o → getD o (count w) 0 ≡ len → firstWrong w o len ≡ count w + 1

@@ -5,16 +5,15 @@ use mathlib.Core.Path.{_≡_, refl, sym, ap, _∙_}
 use mathlib.Core.Bool.{Bool, true, false, cond, not}
 use mathlib.Core.List.{List, [], _∷_, _++_}
 use lib.Dec.{eqb, ltb}
-use lib.ListN.{length, getD, set, take, replicate, length-set, length-append, length-replicate, List·getD-append, List·getD-eq-default}
-use lib.Seq.{getD-set-same, getD-set-other, getD-append-add, length-take-le}
-use mir.Val.{boolByte}
+use lib.ListN.{length, getD, take, replicate, length-append, length-replicate, List·getD-append, List·getD-eq-default}
+use lib.Seq.{getD-append-add, length-take-le}
 use borrow.Author.Tests.{eqb-true, eqb-false, ltb-true, ltb-false, not-false}
-use Rattle.laws.specs.All.{every, many}
+use Rattle.laws.proofs.Walk.{reaches}
+use Rattle.laws.specs.All.{every}
 use Rattle.laws.specs.Each.{each}
 use Rattle.laws.specs.Walk.{first}
 use Rattle.laws.proofs.Branch.{or-false}
 use Rattle.laws.proofs.Many.{many-few}
-use Rattle.laws.proofs.Walk.{none-passed}
 use Rattle.code.specs.Answers.{asked}
 use Rattle.code.specs.declared.Refusal.{Refusal}
 use Rattle.code.specs.declared.Refusal.the-variants.{Length, Record}
@@ -24,7 +23,7 @@ use Rattle.lent.specs.Chunk.{stride, chunkCount, opAt, markAt, originAt, folds,
 use Rattle.lent.specs.Check.{unevenChunk, firstBadOf, chunkCheckOf, readyOf}
 use Rattle.lent.specs.declared.Counts.{Counts}
 use Rattle.lent.proofs.Checks.{accepted}
-use Rattle.lent.proofs.Counting.{zeros-at}
+use Rattle.laws.proofs.Counting.{zeros-at}
 use Rattle.values.specs.declared.Val.{Val}
 use Rattle.values.specs.declared.Val.the-variants.{Int, Float as Real, Bool as Truth}
 use Rattle.chunk.specs.Pool.{findOrPushConst}
@@ -44,8 +43,7 @@ use Rattle.compact.proofs.Left.{left-long}
 use Rattle.phi_pass.specs.Phi.{marked}
 use Rattle.phi_pass.proofs.Pairs.{marked-length}
 use Rattle.finish.specs.Finish.{Tables, tables, mapOf, sourcesOf, renewed, finished}
-use Rattle.optimizer.specs.Fold.{Buffers, lensOf, needed, foldOutcome, foldPass, constantFold, joinedBuffers, foldLent, called, rejoined, foldCall}
-use Rattle.optimizer.specs.Fold.{No}
+use Rattle.optimizer.specs.Fold.{Buffers, lensOf, needed, foldOutcome, foldPass, constantFold, joinedBuffers, foldLent, called, rejoined, foldCall, No}
 use Rattle.optimizer.proofs.Ruled.{Ruled, no-words, ruled-of}
 use Rattle.optimizer.proofs.Tested.{held-of}
 use Rattle.optimizer.proofs.Whole.{pass-kept}
@@ -212,11 +210,6 @@ fold-keeps bars b c h l =
 never : {A : Type 0} (n : ℕ) (r : Refusal) → Refused r ≡ Count n → A
 never n r e = let z : _≡_ {A = ℕ} 0 1 = cc in absurd (omega arith)
 
-first-none : (f : ℕ → Bool) (m k : ℕ) → ((j : ℕ) → f j ≡ false) → first f k m ≡ k + m
-unfolding first
-first-none f zero k h = omega arith
-first-none f (suc m) k h = rw (h k) (omega (arith, first-none f m (suc k) h))
-
 -- a code that keeps the rules of one that passes them, and its length, passes too
 checks : (w w′ : List ℕ) (n : ℕ) → Keeps w w′ → chunkCheckOf w ≡ Count n → chunkCheckOf w′ ≡ Count n
 unfolding chunkCheckOf
@@ -229,7 +222,7 @@ checks w w′ n k e = go (unevenChunk w) refl (ltb (firstBadOf w) (chunkCount w)
         let z : Count (chunkCount w) ≡ Count n = rw (p, q) at h in
         let l : length w % stride ≡ 0 = eqb-true (length w % stride) 0 (not-false _ (or-false (not (eqb (length w % stride) 0)) (ltb 65535 (chunkCount w)) p .0)) in
         let r : Ruled w′ = k .ruled (ruled-of w (omega arith) (ltb-false (firstBadOf w) (chunkCount w) q)) in
-        let f : firstBadOf w′ ≡ 0 + chunkCount w′ = first-none (breaksAt w′) (chunkCount w′) 0 (λ j. ap not (r j)) in
+        let f : firstBadOf w′ ≡ 0 + chunkCount w′ = reaches (breaksAt w′) (chunkCount w′) 0 (λ j a b. ap not (r j)) in
         let u : unevenChunk w′ ≡ false = rw (k .long) p in
         sym (accepted w′ (firstBadOf w′) refl u (omega arith)) ∙ ap (λ (m : ℕ). Count (m / stride)) (k .long) ∙ z
 

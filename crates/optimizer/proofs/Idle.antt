@@ -1,27 +1,24 @@
 -- If nothing died, the code and the constants stay as lent too, and the dead marks are all 0. Assumes nothing.
-use Prim.Native.Nat.{ℕ, zero, suc, _≤_, _<_}
-use native.Mathlib.Nat.{eq-or-lt-of-le}
+use Prim.Native.Nat.{ℕ, _≤_, _<_}
 use native.Mathlib.Omega.{arith}
-use mathlib.Core.Path.{_≡_, refl, sym, ap, _∙_}
+use mathlib.Core.Path.{_≡_, refl, sym, _∙_}
 use mathlib.Core.Logic.{⊎-elim}
 use mathlib.Core.Bool.{Bool, true, false, cond}
 use mathlib.Core.List.{List}
-use lib.Dec.{eqb, ltb}
+use lib.Dec.{ltb}
 use lib.ListN.{length, getD, replicate, length-replicate, getD-replicate, List·getD-eq-default}
 use lib.Seq.{ext-getD}
-use borrow.Author.Tests.{eqb-true, ne-eqb, ltb-true, ltb-false}
+use borrow.Author.Tests.{eqb-true, ltb-true, ltb-false}
 use Rattle.laws.specs.All.{every}
-use Rattle.laws.proofs.Branch.{and-true}
 use Rattle.laws.proofs.Each.{each-at}
 use Rattle.lent.specs.Chunk.{chunkCount}
-use Rattle.lent.proofs.Counting.{every-at}
+use Rattle.laws.proofs.Counting.{every-at}
 use Rattle.lent.specs.declared.Counts.{Counts}
 use Rattle.positions.specs.Remap.{alive}
 use Rattle.phi_pass.specs.Phi.{phiMarkAt, marked}
 use Rattle.phi_pass.proofs.Pairs.{marked-length, dead-stays}
-use Rattle.fold.specs.Plan.{Chunk, chunk}
+use Rattle.fold.specs.Plan.{chunk}
 use Rattle.fold.specs.Pass.{Bars}
-use Rattle.fold.proofs.Passed.{Passed, Died}
 use Rattle.finish.specs.Finish.{Tables, tables, mapOf, sourcesOf, renewed, finished}
 use Rattle.optimizer.specs.Fold.{Buffers, buffers, foldOutcome, foldPass, constantFold}
 use Rattle.optimizer.proofs.Whole.{pass-kept}

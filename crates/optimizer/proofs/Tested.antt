@@ -1,8 +1,8 @@
 -- What the tests of the folding call leave of the buffers. Assumes nothing.
-use Prim.Native.Nat.{ℕ, _+_, _*_, _%_, _/_, _≤_, _<_, max}
+use Prim.Native.Nat.{ℕ, _+_, _*_, _%_, _/_, _≤_, _<_}
 use native.Mathlib.Omega.{arith}
 use mathlib.Core.Path.{_≡_, refl, sym, ap, _∙_}
-use mathlib.Core.Logic.{_⊎_, inl, inr, ⊎-elim}
+use mathlib.Core.Logic.{⊎-elim}
 use mathlib.Core.Bool.{Bool, true, false, cond, not, _&&_, _||_}
 use mathlib.Core.List.{List}
 use lib.Dec.{eqb, leb, ltb}
@@ -10,7 +10,7 @@ use lib.ListN.{length}
 use mir.Val.{boolByte}
 use borrow.Author.Tests.{eqb-true, leb-true, ltb-false, not-false}
 use Rattle.laws.specs.All.{every}
-use Rattle.laws.proofs.Branch.{and-true, or-false}
+use Rattle.laws.proofs.Branch.{and-true, or-false, or-true}
 use Rattle.laws.proofs.Walk.{none-passed}
 use Rattle.code.specs.Op.{LoadConst}
 use Rattle.code.specs.Rules.{tryKept}
@@ -20,12 +20,11 @@ use Rattle.code.specs.declared.Refusal.{Refusal}
 use Rattle.code.specs.declared.Refusal.the-variants.{Length, Record, Try, Table}
 use Rattle.code.specs.declared.Checked.{Checked}
 use Rattle.code.specs.declared.Checked.the-variants.{Count, No}
-use Rattle.lent.specs.Chunk.{stride, chunkCount, opAt, markAt, marksJump, folds, chunkRules}
+use Rattle.lent.specs.Chunk.{stride, chunkCount, opAt, markAt, folds, chunkRules}
 use Rattle.landings.specs.Landings.{Unmarked}
-use Rattle.lent.specs.Tables.{constantKept, within, constantsKept, mapKept, pairsKept, tableOf}
-use Rattle.lent.specs.Check.{unevenChunk, firstBadOf, chunkCheckOf, tablesOf, tallyOf, constantRoom, sourceRoom, roomsOf, readyOf}
+use Rattle.lent.specs.Tables.{constantKept, within, mapKept, pairsKept, tableOf}
+use Rattle.lent.specs.Check.{unevenChunk, firstBadOf, chunkCheckOf, tablesOf, tallyOf, sourceRoom, roomsOf, readyOf}
 use Rattle.lent.specs.declared.Counts.{Counts}
-use Rattle.lent.specs.declared.Lens.{Lens}
 use Rattle.lent.proofs.Kept.{few}
 use Rattle.optimizer.specs.Fold.{Buffers, lensOf}
 use Rattle.optimizer.specs.Inner.{FoldRoom}
@@ -42,16 +41,12 @@ table-met n (Count m) t false e = never n (Table t) e
 room-met : (n : ℕ) (v : Checked) (b have needed : ℕ) → Count n ≡ roomOf v b have needed → (v ≡ Count n) × (needed ≤ have)
 room-met n v b have needed e = (room-before n v b have needed e, room-there n v b have needed e)
 
-either : (a b : Bool) → a || b ≡ true → (a ≡ true) ⊎ (b ≡ true)
-either true b e = inl refl
-either false b e = inr e
-
 map-few : (n entries len : ℕ) → mapKept n entries len ≡ true → entries ≤ n
 map-few n entries len e =
     ⊎-elim
     (λ q. let z : entries ≡ 0 = eqb-true entries 0 q in omega arith)
     (λ q. let z : entries ≡ n = eqb-true entries n q in omega arith)
-    (either (eqb entries 0) (eqb entries n) (and-true (eqb entries 0 || eqb entries n) (leb entries len) e .0))
+    (or-true (eqb entries 0) (eqb entries n) (and-true (eqb entries 0 || eqb entries n) (leb entries len) e .0))
 
 pairs-whole : (words len : ℕ) → pairsKept words len ≡ true → (words % 2 ≡ 0) × (words ≤ len)
 pairs-whole words len e =

@@ -1,20 +1,20 @@
 -- After an answer the table of landings is true and 0 past the new end, and the tries keep their rule. Assumes nothing.
 use Prim.Native.Nat.{ℕ, _+_, _*_, _/_, _≤_, _<_, min}
 use native.Mathlib.Omega.{arith}
-use mathlib.Core.Path.{_≡_, refl, sym, ap, _∙_, subst}
+use mathlib.Core.Path.{_≡_, refl, sym, ap, _∙_}
 use mathlib.Core.Bool.{Bool, true, false, cond, _&&_}
-use mathlib.Core.List.{List, _++_}
+use mathlib.Core.List.{List}
 use lib.Dec.{ltb, leb, eqb}
-use lib.ListN.{length, getD, take, drop, replicate, length-replicate, List·getD-append}
+use lib.ListN.{length, getD, drop, length-replicate, List·getD-append}
 use lib.Seq.{length-take-le}
-use borrow.Author.Tests.{ltb-true, ltb-false, leb-true, le-leb, lt-ltb, ne-eqb}
-use Rattle.laws.specs.All.{every, many}
+use borrow.Author.Tests.{ltb-true, ltb-false, leb-true, le-leb, ne-eqb}
+use Rattle.laws.specs.All.{every}
 use Rattle.laws.proofs.Branch.{and-true}
 use Rattle.code.specs.Rules.{tryKept}
 use Rattle.code.specs.Check.{pairs}
 use Rattle.lent.specs.Chunk.{stride, chunkCount, markAt, operandAt, marksJump}
 use Rattle.lent.specs.declared.Counts.{Counts}
-use Rattle.lent.proofs.Counting.{many-none, many-all}
+use Rattle.laws.proofs.Counting.{many-none, many-all}
 use Rattle.landings.specs.Landings.{handlerAt, jumpLands, handlerLands, landingsAt, landingsOf}
 use Rattle.landings.proofs.Asked.{table-long, table-at}
 use Rattle.fold.specs.Plan.{chunk}
@@ -27,10 +27,9 @@ use Rattle.positions.proofs.Mapped.{map-out, pair-kept, moved-long, moved-at}
 use Rattle.phi_pass.specs.Phi.{marked}
 use Rattle.phi_pass.proofs.Pairs.{marked-length}
 use Rattle.finish.specs.Finish.{Tables, tables, mapOf, sourcesOf, renewed, finished}
-use Rattle.optimizer.specs.Fold.{Buffers, needed, foldPass, constantFold, joinedBuffers, foldLent, Called, rejoined, foldCall}
+use Rattle.optimizer.specs.Fold.{Buffers, needed, foldPass, constantFold, joinedBuffers, foldLent, Called, rejoined, foldCall, Is}
 use Rattle.optimizer.specs.Inner.{Exact}
 use Rattle.optimizer.specs.declared.Folded.{Folded}
-use Rattle.optimizer.specs.Fold.{Is}
 use Rattle.optimizer.proofs.Again.{fold-keeps}
 use Rattle.optimizer.proofs.Answered.{Answered, answered}
 use Rattle.optimizer.proofs.Idle.{finished-dead}

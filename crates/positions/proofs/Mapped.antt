@@ -1,18 +1,17 @@
 -- Where positions go, and the tries with them. Assumes nothing.
-use Prim.Native.Nat.{ℕ, _+_, _*_, _≤_, _<_, min}
+use Prim.Native.Nat.{ℕ, _≤_, _<_, min}
 use native.Mathlib.Omega.{arith}
 use mathlib.Core.Path.{_≡_, refl, sym, _∙_}
 use mathlib.Core.Bool.{Bool, true, false, cond}
-use mathlib.Core.List.{List, [], _∷_}
+use mathlib.Core.List.{List}
 use lib.Dec.{leb}
 use lib.ListN.{length, getD}
 use lib.Seq.{ext-getD}
 use borrow.Author.Tests.{leb-true, leb-false, le-leb}
 use Rattle.laws.specs.All.{every}
-use Rattle.laws.specs.Each.{each}
 use Rattle.laws.proofs.Each.{each-at, each-word}
 use Rattle.laws.proofs.Many.{many-few}
-use Rattle.lent.proofs.Counting.{many-le, many-all, every-le}
+use Rattle.laws.proofs.Counting.{many-le, many-all, every-le}
 use Rattle.positions.specs.Remap.{alive, live, mapped}
 use Rattle.positions.specs.Moved.{movedAll}
 

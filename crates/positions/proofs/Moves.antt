@@ -1,10 +1,10 @@
 -- Laws of remap, of what follows it and of what is cleared, for the loops that write them in place. Assumes nothing.
 use Prim.Native.Nat.{ℕ, _+_, _-_, _*_, _/_, _%_, _≤_, _<_}
-use native.Mathlib.Nat.{sub-self, le-refl}
+use native.Mathlib.Nat.{le-refl}
 use native.Mathlib.Omega.{arith}
 use mathlib.Core.Path.{_≡_, refl, sym, ap, _∙_}
-use mathlib.Core.List.{List, [], _∷_, _++_, append-nil, append-assoc}
-use lib.ListN.{length, getD, set, take, replicate, replicate-append-replicate}
+use mathlib.Core.List.{List, [], _∷_, _++_, append-assoc}
+use lib.ListN.{length, getD, set, take, replicate}
 use lib.Seq.{set-getD}
 use borrow.Author.Tests.{eq-eqb, ne-eqb, le-leb, lt-leb}
 use mir.Val.{boolByte}
@@ -12,7 +12,7 @@ use Rattle.laws.specs.All.{many}
 use Rattle.laws.specs.Each.{each}
 use Rattle.laws.proofs.Many.{many-more, many-few, counted-on}
 use Rattle.laws.proofs.Each.{each-more, each-word, each-at}
-use Rattle.laws.proofs.InPlace.{Walked, walk-none, walk-read, walk-put, walk-at, walk-as, walk-whole, word-put}
+use Rattle.laws.proofs.InPlace.{Walked, walk-none, walk-read, walk-put, walk-at, walk-as, walk-whole, word-put, Cleared}
 use Rattle.positions.specs.Remap.{alive, live, remapOf, mapped}
 use Rattle.positions.specs.Inner.{Remap}
 use Rattle.positions.specs.Moved.{pairAt, placed, movedAll}
@@ -79,31 +79,7 @@ module _ {dead xs old : List ℕ} {at i : ℕ} (c : Counted dead xs old at i) wh
 
 -- ---- what is cleared from a on, as far as i
 
-pub record Cleared (xs old : List ℕ) (a i : ℕ) : Type 0 where
-  pub walked : Walked xs old (take a old ++ replicate (i - a) 0) i i
-  pub from : a ≤ i
-
-pub cleared-none : (old : List ℕ) (a : ℕ) → Cleared old old a a
-cleared-none old a =
-    record { walked = rw (sub-self a, append-nil) (record { front = refl; rest = refl; same = refl; behind = le-refl a }); from = le-refl a }
-
-zeros-more : (l : List ℕ) (a i : ℕ) → a ≤ i → (l ++ replicate (i - a) 0) ++ (0 ∷ []) ≡ l ++ replicate (i + 1 - a) 0
-zeros-more l a i h =
-    let e : i + 1 - a ≡ (i - a) + 1 = omega arith in
-    append-assoc l (replicate (i - a) 0) (0 ∷ []) ∙ rw e (ap (λ (t : List ℕ). l ++ t) (replicate-append-replicate (i - a) 1 0))
-
 module _ {xs old : List ℕ} {a i : ℕ} (c : Cleared xs old a i) where
-  pub cleared-more : i < length xs → Cleared (set xs i 0) old a (i + 1)
-  cleared-more h =
-      let w = c .walked in
-      record {
-        walked = walk-as (walk-put w 0 (omega (arith, w .same))) (take a old ++ replicate (i + 1 - a) 0) (zeros-more (take a old) a i (c .from));
-        from = omega (arith, c .from);
-      }
-
-  pub cleared-same : length xs ≡ length old
-  cleared-same = c .walked .same
-
   pub cleared-whole : length xs ≤ i → i ≤ length old → xs ≡ take a old ++ replicate (length old - a) 0
   cleared-whole h l =
       let s = c .walked .same in

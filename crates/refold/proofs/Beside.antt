@@ -2,12 +2,11 @@
 use Prim.Native.Nat.{ℕ, zero, suc, _+_, _-_, _*_, _/_, _%_, _≤_, _<_}
 use native.Mathlib.Omega.{arith}
 use mathlib.Core.Path.{_≡_, refl, sym, ap, _∙_}
-use mathlib.Core.Bool.{Bool, true, false, cond, _&&_, false≢true}
+use mathlib.Core.Bool.{Bool, true, false, cond, false≢true}
 use mathlib.Core.List.{List, [], _∷_, _++_}
 use lib.Dec.{eqb, ltb}
 use lib.ListN.{length, getD, take, replicate, length-append, length-replicate, List·getD-append, List·getD-eq-default}
 use lib.Seq.{getD-append-add}
-use mir.Val.{boolByte}
 use borrow.Author.Tests.{ltb-true, ltb-false}
 use Rattle.laws.specs.All.{every, many}
 use Rattle.laws.specs.Each.{each}
@@ -17,12 +16,11 @@ use Rattle.landings.specs.Landings.{landingsOf}
 use Rattle.landings.proofs.Kept.{landings-same}
 use Rattle.lent.specs.Chunk.{stride, chunkCount, opAt, markAt, operandAt, marksJump, names, isPhi}
 use Rattle.fold.specs.Plan.{Chunk}
-use Rattle.positions.specs.Remap.{alive, live, remapOf, mapped}
+use Rattle.positions.specs.Remap.{alive, live}
 use Rattle.compact.specs.Tables.{movedOperand, wordsOf, leftAt, left, compacted}
 use Rattle.compact.proofs.Left.{left-long}
-use Rattle.positions.specs.Moved.{placed}
 use Rattle.phi_pass.specs.Phi.{paired, noop, phiMarkAt as phiMark, marked, pairLeft, pairsLeft, indexed}
-use Rattle.lent.proofs.Counting.{many-ext}
+use Rattle.laws.proofs.Counting.{many-ext, zeros-at}
 use Rattle.clear.proofs.Alike.{Loads, Alike}
 use Rattle.finish.specs.Finish.{Tables, tables, sourcesAfter, renewed, finished}
 use Rattle.finish.specs.declared.Left.{Left}
@@ -102,20 +100,15 @@ module _ (limit : ℕ) (s t : Chunk) where
             far v v′ 2 lv h,
           ) (q (k - m))
 
-  zero-word : (n i : ℕ) → _≡_ {A = ℕ} (getD (replicate n 0) i 0) 0
-  zero-word zero i = refl
-  zero-word (suc n) zero = refl
-  zero-word (suc n) (suc i) = zero-word n i
-
   zeros-like : (n m : ℕ) → Like (replicate n 0) (replicate m 0)
   zeros-like n m k =
       rw (
-        zero-word n (stride * k),
-        zero-word n (stride * k + 1),
-        zero-word n (stride * k + 2),
-        zero-word m (stride * k),
-        zero-word m (stride * k + 1),
-        zero-word m (stride * k + 2),
+        zeros-at n (stride * k),
+        zeros-at n (stride * k + 1),
+        zeros-at n (stride * k + 2),
+        zeros-at m (stride * k),
+        zeros-at m (stride * k + 1),
+        zeros-at m (stride * k + 2),
       ) none
 
 -- Phis are indexed by where they stand

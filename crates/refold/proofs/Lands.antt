@@ -4,22 +4,20 @@ use native.Mathlib.Nat.{eq-or-lt-of-le}
 use native.Mathlib.Omega.{arith}
 use mathlib.Core.Path.{_≡_, refl, sym, ap, _∙_, subst}
 use mathlib.Core.Logic.{⊎-elim}
-use mathlib.Core.Bool.{Bool, true, false, cond, _&&_}
+use mathlib.Core.Bool.{Bool, true, false, cond}
 use mathlib.Core.List.{List}
-use lib.Dec.{eqb}
 use lib.ListN.{length, getD, take, drop}
 use lib.Seq.{length-take-le, getD-take, take-at}
 use mir.Val.{boolByte}
 use Rattle.laws.specs.All.{every, many}
-use Rattle.lent.specs.Chunk.{stride, chunkCount, markAt, operandAt, marksJump}
+use Rattle.lent.specs.Chunk.{stride, chunkCount, marksJump}
 use Rattle.lent.specs.declared.Counts.{Counts}
-use Rattle.lent.proofs.Counting.{many-ext}
+use Rattle.laws.proofs.Counting.{many-ext}
 use Rattle.landings.specs.Landings.{jumpLands, handlerLands, landingsAt}
-use Rattle.positions.specs.Remap.{alive, live}
+use Rattle.positions.specs.Remap.{alive}
 use Rattle.positions.specs.Moved.{movedAll}
 use Rattle.compact.proofs.Left.{mark-past}
 use Rattle.phi_pass.specs.Phi.{marked}
-use Rattle.phi_pass.proofs.Pairs.{marked-length}
 use Rattle.finish.specs.Finish.{Tables, tables, mapOf, sourcesOf, renewed, finished}
 use Rattle.optimizer.specs.Fold.{Called, constantFold, joinedBuffers}
 use Rattle.optimizer.specs.declared.Folded.{Folded}

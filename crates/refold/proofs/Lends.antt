@@ -12,11 +12,10 @@ use borrow.Author.Tests.{eqb-true, eq-eqb, le-leb, le-ltb}
 use Rattle.laws.specs.All.{every, many}
 use Rattle.laws.specs.Table as Table
 use Rattle.laws.specs.Walk.{first}
-use Rattle.laws.proofs.Branch.{and-true}
+use Rattle.laws.proofs.Branch.{and-true, or-true}
 use Rattle.laws.proofs.Many.{many-fewer}
-use Rattle.code.specs.Check.{pairs, firstBadTry, triedOf, roomOf}
+use Rattle.code.specs.Check.{pairs, firstBadTry, triedOf}
 use Rattle.code.specs.Rules.{tryKept}
-use Rattle.code.specs.Answers.{asked}
 use Rattle.code.specs.declared.Refusal.{Refusal}
 use Rattle.code.specs.declared.Refusal.the-variants.{Length, Record, Try, Table}
 use Rattle.code.specs.declared.Checked.{Checked}
@@ -28,7 +27,7 @@ use Rattle.lent.specs.Check.{unevenChunk, firstBadOf, chunkCheckOf, tablesOf, t
 use Rattle.lent.proofs.Kept.{kinds-there, words-there}
 use Rattle.lent.specs.declared.Counts.{Counts}
 use Rattle.lent.specs.declared.Lens.{Lens}
-use Rattle.lent.proofs.Counting.{every-at}
+use Rattle.laws.proofs.Counting.{every-at}
 use Rattle.fold.specs.Plan.{Chunk, chunk}
 use Rattle.landings.specs.Landings.{landingsOf}
 use Rattle.landings.proofs.Asked.{table-long}
@@ -39,18 +38,16 @@ use Rattle.positions.specs.Moved.{movedAll}
 use Rattle.positions.proofs.Mapped.{moved-long, none-moved}
 use Rattle.finish.specs.Finish.{Tables, tables, finished}
 use Rattle.finish.specs.Inner.{TableRoom}
-use Rattle.optimizer.specs.Fold.{Buffers, lensOf, needed, sourcesNeeded, FoldOutcome, foldOutcome, foldPass, constantFold, joinedBuffers}
-use Rattle.optimizer.specs.Fold.{foldLent, Called, rejoined, foldCall}
+use Rattle.optimizer.specs.Fold.{Buffers, lensOf, needed, sourcesNeeded, FoldOutcome, foldPass, constantFold, joinedBuffers}
+use Rattle.optimizer.specs.Fold.{foldLent, Called, rejoined, foldCall, Is, No}
 use Rattle.optimizer.specs.Inner.{FoldRoom, Exact}
 use Rattle.optimizer.specs.declared.Folded.{Folded}
-use Rattle.optimizer.specs.Fold.{FoldAnswer}
-use Rattle.optimizer.specs.Fold.{Is, No}
 use Rattle.optimizer.proofs.Whole.{pass-kept, exact-of, fit-of}
 use Rattle.optimizer.proofs.Again.{again}
 use Rattle.optimizer.proofs.Idle.{as-lent}
 use Rattle.optimizer.proofs.Tested.{held-of, table-there}
 use Rattle.optimizer.proofs.Tries.{tries-kept}
-use Rattle.clear.proofs.Accepts.{table-on, room-on, room-met}
+use Rattle.clear.proofs.Accepts.{table-on, room-on}
 use Rattle.clear.proofs.Twice.{every-of}
 use Rattle.refold.proofs.Pushes.{all-pushed, all-held as pool-few, pool-again}
 use Rattle.refold.proofs.Prefix.{prefix}
@@ -59,7 +56,7 @@ use Rattle.refold.proofs.Settled.{Settled, settled}
 use Rattle.refold.specs.Inner.{Pushed, foldOf, Folds}
 use Rattle.refold.specs.Lending.{Lending, lending, readyFor, foldLeaving}
 use Rattle.refold.specs.Left.{PoolLeft, BuffersBeyond, FoldBeyond, NoneDied, asLent}
-use Rattle.refold.specs.Lendable.{cutCode, cutAt, countsLeft, Lendable}
+use Rattle.refold.specs.Lendable.{cutCode, countsLeft, Lendable}
 
 never : {A : Type 0} (n : ℕ) (r : Refusal) → Refused r ≡ Count n → A
 never n r e = let z : _≡_ {A = ℕ} 0 1 = cc in absurd (omega arith)
@@ -183,14 +180,10 @@ map-on n entries len e h = ⊎-elim (λ q. rw (eq-eqb entries 0 q, le-leb entrie
     or-yes true = refl
     or-yes false = refl
 
-either : (a b : Bool) → a || b ≡ true → (a ≡ true) ⊎ (b ≡ true)
-either true b e = inl refl
-either false b e = inr e
-
 map-is : (n entries len : ℕ) → mapKept n entries len ≡ true → (entries ≡ 0) ⊎ (entries ≡ n)
 map-is n entries len e =
     ⊎-elim (λ q. inl (eqb-true entries 0 q)) (λ q. inr (eqb-true entries n q))
-    (either (eqb entries 0) (eqb entries n) (and-true (eqb entries 0 || eqb entries n) (leb entries len) e .0))
+    (or-true (eqb entries 0) (eqb entries n) (and-true (eqb entries 0 || eqb entries n) (leb entries len) e .0))
 
 pairs-on : (words len : ℕ) → words % 2 ≡ 0 → words ≤ len → pairsKept words len ≡ true
 pairs-on words len e h = rw (eq-eqb (words % 2) 0 e, le-leb words len h)

@@ -3,7 +3,7 @@ use Prim.Native.Nat.{ℕ}
 use mathlib.Core.Path.{_≡_, refl, sym, _∙_}
 use mathlib.Core.Bool.{Bool, true, false, _||_, false≢true}
 use mathlib.Core.List.{List, [], _∷_}
-use lib.Dec.{eqb}
+use Rattle.laws.proofs.Branch.{or-assoc}
 use Rattle.laws.specs.Page.{among}
 use Rattle.laws.proofs.Keys.{every}
 use Rattle.code.specs.Op.{Add, Sub, Mul, Div, Mod, FloorDiv, Eq, NotEq, Lt, Gt, LtEq, GtEq, BitAnd, BitOr, BitXor, Shl, Shr, Not, Minus}
@@ -22,10 +22,6 @@ operators =
 or-none : (b : Bool) → b || false ≡ b
 or-none true = refl
 or-none false = refl
-
-or-assoc : (a b c : Bool) → (a || b) || c ≡ a || (b || c)
-or-assoc true b c = refl
-or-assoc false b c = refl
 
 folds-among : (o : ℕ) → among o operators ≡ folds o
 unfolding folds

@@ -1,9 +1,9 @@
 -- The pass over a chunk only pushes: `all-pushed`. Assumes nothing.
-use Prim.Native.Nat.{ℕ, zero, suc, _+_, _*_, _≤_, _<_}
+use Prim.Native.Nat.{ℕ, zero, suc, _+_, _≤_, _<_}
 use native.Mathlib.Nat.{eq-or-lt-of-le}
 use native.Mathlib.Omega.{arith}
 use native.Mathlib.Numerals.{add-one}
-use mathlib.Core.Path.{_≡_, refl, sym, ap, _∙_}
+use mathlib.Core.Path.{_≡_, refl, _∙_}
 use mathlib.Core.Logic.{_⊎_, inl, inr, ⊎-elim}
 use mathlib.Core.Bool.{Bool, true, false, cond, not, _&&_, _||_}
 use mathlib.Core.List.{List, [], _∷_}
@@ -17,7 +17,7 @@ use Rattle.code.specs.Op.{LoadConst, LoadTrue, LoadFalse}
 use Rattle.lent.specs.Tables.{constantKept, within, constantsKept}
 use Rattle.lent.specs.Check.{constantRoom}
 use Rattle.lent.specs.Chunk.{chunkCount, opAt, folds}
-use Rattle.lent.proofs.Counting.{every-at}
+use Rattle.laws.proofs.Counting.{every-at}
 use Rattle.clear.proofs.Twice.{every-of}
 use Rattle.laws.specs.All.{every, many}
 use Rattle.laws.proofs.Branch.{and-true}

@@ -1,11 +1,10 @@
 -- What is left of the tables after a fold: counts that keep the table rules, buffers as long as lent, no more Phis, no operator that was dead.
 -- Assumes nothing.
 use Prim.Native.Nat.{ℕ, zero, suc, _+_, _-_, _*_, _%_, _/_, _≤_, _<_}
-use native.Mathlib.Nat.{eq-or-lt-of-le}
 use native.Mathlib.Omega.{arith}
 use mathlib.Core.Path.{_≡_, refl, sym, ap, _∙_}
-use mathlib.Core.Logic.{_⊎_, inl, inr, ⊎-elim}
-use mathlib.Core.Bool.{Bool, true, false, cond, _&&_, false≢true, and-true as and-yes, and-false}
+use mathlib.Core.Logic.{_⊎_, inl, inr}
+use mathlib.Core.Bool.{Bool, true, false, cond, _&&_, and-true as and-yes, and-false}
 use mathlib.Core.List.{List, [], _∷_, _++_}
 use lib.Dec.{eqb, ltb}
 use lib.ListN.{length, getD, take, replicate, length-append, length-replicate, List·getD-append, List·getD-eq-default}
@@ -25,8 +24,8 @@ use Rattle.compact.proofs.Left.{left-long}
 use Rattle.positions.specs.Moved.{pairAt, placed}
 use Rattle.phi_pass.specs.Phi.{paired, leftSource, rightSource, phiMarkAt as phiMark, marked, pairLeft, pairsLeft, indexed}
 use Rattle.phi_pass.proofs.Pairs.{marked-length, dead-stays}
-use Rattle.lent.proofs.Counting.{many-ext, every-at}
-use Rattle.finish.specs.Finish.{Tables, tables, sourcesAfter, mapCount, mapOf, sourcesOf, renewed, finished}
+use Rattle.laws.proofs.Counting.{many-ext, every-at}
+use Rattle.finish.specs.Finish.{Tables, tables, sourcesAfter, mapOf, sourcesOf, renewed, finished}
 use Rattle.finish.specs.Inner.{TableRoom}
 use Rattle.refold.proofs.Spent.{waiting}
 

@@ -1,12 +1,12 @@
 -- The sweeps over lent code, step by step. Assumes nothing.
 use mathlib.Core.Path.{_≡_, refl, sym, _∙_}
-use mathlib.Core.Bool.{Bool, true, false, not, cond, _&&_, _||_}
+use mathlib.Core.Bool.{Bool, true, false, not, _&&_, _||_}
 use mathlib.Core.List.{List}
-use Prim.Native.Nat.{ℕ, zero, suc, _+_, _-_, _^_, _≤_, _<_, zero-le}
+use Prim.Native.Nat.{ℕ, suc, _+_, _-_, _^_, _≤_, _<_, zero-le}
 use native.Mathlib.Omega.{arith}
 use borrow.Author.Tests.{not-true, not-false}
 use lib.ListN.{length, replicate, length-replicate}
-use Rattle.laws.specs.Walk.{first}
+use Rattle.laws.proofs.Walk.{first-le}
 use Rattle.code.specs.Ins.{insAt, count}
 use Rattle.code.specs.Inner.{Valid}
 use Rattle.code.specs.declared.Ins.{Ins}
@@ -37,15 +37,6 @@ put-same w regs k s rows out changed h p = record {
 }
 
 -- ---- the first level is at n at most
-
-first-le : (f : ℕ → Bool) (m k : ℕ) → first f k m ≤ k + m
-unfolding first
-first-le f zero k = omega arith
-first-le f (suc m) k = go (f k) (first-le f m (suc k))
-  where
-    go : (t : Bool) → first f (suc k) m ≤ suc k + m → cond t k (first f (suc k) m) ≤ k + suc m
-    go true h = omega arith
-    go false h = omega arith
 
 pub level-le : (w : List ℕ) → firstLevel w ≤ count w
 unfolding firstLevel

@@ -14,7 +14,7 @@ use Rattle.laws.proofs.Each.{each-word, each-at}
 use Rattle.code.specs.Op.{Phi}
 use Rattle.lent.specs.Chunk.{stride, chunkCount, opAt, isPhi, folds}
 use Rattle.lent.specs.declared.Counts.{Counts}
-use Rattle.lent.proofs.Counting.{every-at, zeros-at}
+use Rattle.laws.proofs.Counting.{every-at, zeros-at}
 use Rattle.fold.specs.Plan.{Chunk, chunk}
 use Rattle.fold.specs.Pass.{Bars, byScan, foldAll}
 use Rattle.fold.specs.Inner.{PassRoom}
@@ -23,11 +23,9 @@ use Rattle.positions.specs.Remap.{alive, live}
 use Rattle.compact.specs.Tables.{compacted}
 use Rattle.phi_pass.specs.Phi.{paired, noop, phiMarkAt, marked}
 use Rattle.finish.specs.Finish.{Tables, tables, mapOf, sourcesOf, renewed, finished}
-use Rattle.optimizer.specs.Fold.{Buffers, needed, foldPass, constantFold, joinedBuffers, foldLent, rejoined}
-use Rattle.optimizer.specs.Fold.{foldCall}
+use Rattle.optimizer.specs.Fold.{Buffers, needed, foldPass, constantFold, joinedBuffers, foldLent, rejoined, foldCall, Is}
 use Rattle.optimizer.specs.Inner.{Exact}
 use Rattle.optimizer.specs.declared.Folded.{Folded}
-use Rattle.optimizer.specs.Fold.{Is}
 use Rattle.optimizer.proofs.Answered.{answered}
 use Rattle.runs.specs.Kept.{Same}
 use Rattle.runs.specs.Inner.{RunsAs, Strict, Fresh}

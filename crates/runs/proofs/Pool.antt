@@ -1,5 +1,5 @@
 -- Where a result goes, and that a load of it gives it back. Assumes nothing.
-use Prim.Native.Nat.{ℕ, zero, suc, _+_, _-_, _^_, _≤_, _<_}
+use Prim.Native.Nat.{ℕ, _+_, _^_, _≤_, _<_}
 use native.Mathlib.Omega.{arith}
 use native.Mathlib.Nat.{le-refl}
 use mathlib.Core.Path.{_≡_, refl}
@@ -14,7 +14,7 @@ use lib.Ieee.Bits.{ofBits-toBits}
 use borrow.Author.Tests.{ltb-true, lt-ltb, eqb-true}
 use mir.Syntax.{w64}
 use mir.Val.{ofZ}
-use Rattle.laws.specs.Walk.{first}
+use Rattle.laws.proofs.Walk.{first-passes}
 use Rattle.laws.proofs.Branch.{and-true}
 use Rattle.code.specs.Op.{Jump, JumpIfFalse, LoadConst, LoadTrue, LoadFalse}
 use Rattle.values.proofs.Word.{back-ok}
@@ -33,17 +33,6 @@ use Rattle.lent.specs.Chunk.{folds}
 use Rattle.runs.specs.Machine.{Known, Push, pushOf, plain, read}
 use Rattle.runs.specs.Rule.{known}
 use Rattle.runs.proofs.Good.{Good}
-
--- the first that passes does
-first-passes : (f : ℕ → Bool) (m k : ℕ) → first f k m < k + m → f (first f k m) ≡ true
-unfolding first
-first-passes f zero k h = absurd (omega arith)
-first-passes f (suc m) k h = go (f k) refl h (first-passes f m (suc k))
-  where
-    go : (t : Bool) → f k ≡ t → cond t k (first f (suc k) m) < k + suc m → (first f (suc k) m < suc k + m → f (first f (suc k) m) ≡ true)
-        → f (cond t k (first f (suc k) m)) ≡ true
-    go true e h ih = e
-    go false e h ih = ih (omega arith)
 
 -- what a pool that kept (k, w) has
 pub record Placed (k w count : ℕ) (kinds words : List ℕ) (s : Stored) (i m : ℕ) : Type 0 where

@@ -1,18 +1,17 @@
 -- A trace is judged fine exactly where it is a recorded run. Assumes nothing.
-use mathlib.Core.Path.{_≡_, refl, sym, ap, ap₂, _∙_, subst}
-use mathlib.Core.Logic.{_≢_}
-use mathlib.Core.Bool.{Bool, true, false, cond, not, _&&_, _||_, false≢true}
+use mathlib.Core.Path.{_≡_, refl, sym, ap, _∙_, subst}
+use mathlib.Core.Bool.{Bool, true, false, cond, not, _&&_, false≢true}
 use mathlib.Core.List.{List}
 use Prim.Native.Nat.{ℕ, zero, suc, _+_, _-_, _*_, _/_, _%_, _≤_, _<_, zero-le}
 use native.Mathlib.Decide.{ℕ-discrete, decLt}
 use native.Mathlib.Omega.{arith}
-use borrow.Author.Tests.{ltb-false, leb-false, eqb-true, eqb-false, ne-eqb, eq-eqb, not-false, le-ltb, lt-leb}
+use borrow.Author.Tests.{ltb-false, leb-false, eqb-true, ne-eqb, eq-eqb, not-false, le-ltb, lt-leb}
 use lib.Dec.{eqb, ltb, leb}
-use lib.ListN.{length, getD}
-use Rattle.laws.specs.Walk.{first}
+use lib.ListN.{length}
+use Rattle.laws.proofs.Branch.{or-left, or-right}
 use Rattle.laws.specs.Some.{some}
 use Rattle.laws.proofs.Some.{passes-at}
-use Rattle.laws.proofs.Walk.{none-passed}
+use Rattle.laws.proofs.Walk.{none-passed, reaches}
 use Rattle.code.specs.Ins.{count}
 use Rattle.trace.specs.declared.Verdict.{Verdict}
 use Rattle.trace.specs.declared.Verdict.the-variants.{Fine, Check, Filler, Move}
@@ -46,14 +45,6 @@ module _ (w tries t : List ℕ) where
       go : Dec (b ≡ c) → Clean b × (verdictFrom w tries t (suc b) m ≡ Fine) → (verdictFrom w tries t (suc b) m ≡ Fine → suc b ≤ c → Clean c) → Clean c
       go (yes p) k rec = subst Clean p (k .0)
       go (no n) k rec = rec (k .1) (omega arith)
-
-  or-left : (a b : Bool) → a || b ≡ false → a ≡ false
-  or-left true b e = e
-  or-left false b e = refl
-
-  or-right : (a b : Bool) → a || b ≡ false → b ≡ false
-  or-right true b e = absurd (false≢true (sym e))
-  or-right false b e = e
 
   module _ (fine : verdictOf w tries t ≡ Fine) where
     at : (b : ℕ) → b < blocksOf t → Clean b
@@ -150,17 +141,6 @@ some-none : (f : ℕ → Bool) (n : ℕ) → ((j : ℕ) → j < n → f j ≡ fa
 unfolding some
 some-none f zero h = refl
 some-none f (suc n) h = rw (some-none f n (λ j l. h j (omega arith)), h n (omega arith))
-
-reaches : (f : ℕ → Bool) (m k : ℕ) → ((j : ℕ) → k ≤ j → j < k + m → f j ≡ false) → first f k m ≡ k + m
-unfolding first
-reaches f zero k h = omega arith
-reaches f (suc m) k h =
-    ap (λ (t : Bool). cond t k (first f (suc k) m)) (h k (omega arith) (omega arith))
-    ∙ reaches f m (suc k) (λ j a b. h j (omega arith) (omega arith))
-    ∙ sum k m
-  where
-    sum : (k m : ℕ) → suc k + m ≡ k + suc m
-    sum k m = omega arith
 
 module _ (w tries t : List ℕ) (r : Recorded w tries t) where
   no-follow-of : (s : ℕ) → s < 127 * (length t / 512) → follows t s ≡ false

@@ -1,4 +1,4 @@
--- Laws of `many` and `every` that folding needs besides those of `laws`, and a list of zeros. Assumes nothing.
+-- Laws of `many` and `every` whatever the loop, and a list of zeros. Assumes nothing.
 use Prim.Native.Nat.{ℕ, zero, suc, _+_, _-_, _≤_, _<_}
 use native.Mathlib.Nat.{eq-or-lt-of-le, le-of-suc-le-suc}
 use native.Mathlib.Omega.{arith}

@@ -1,16 +1,14 @@
 -- The single NaN: what is read as it, and what is kept of it. Assumes nothing.
 use mathlib.Core.Path.{_≡_, refl, sym, ap, _∙_}
 use mathlib.Core.Bool.{true, false≢true}
-use mathlib.Core.List.{List, [], _∷_}
+use mathlib.Core.List.{List}
 use Prim.Native.Nat.{ℕ, _%_, _^_, _<_}
 use lib.Ieee.{Float, nan, inf, fin, isNan, binary64, ofBits, toBits}
 use lib.Ieee.Bits.{nanBits-is, nanBits-above}
 use borrow.Author.Tests.{lt-ltb}
 use Rattle.values.specs.declared.Maybe.the-variants.{Is}
 use Rattle.values.specs.declared.Val.the-variants.{Float as Real}
-use Rattle.laws.specs.Walk.{first}
-use Rattle.chunk.specs.Pool.{toVal, stored, findOrPush, findOrPushConst}
-use Rattle.chunk.specs.declared.Kept.the-variants.{At}
+use Rattle.chunk.specs.Pool.{toVal, findOrPush, findOrPushConst}
 
 -- the bits of the single NaN
 pub the-nan : toBits binary64 nan ≡ 0x7ff8_0000_0000_0000

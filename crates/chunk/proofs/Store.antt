@@ -13,7 +13,7 @@ use mir.Syntax.{w64}
 use mir.Val.{toZ, ofZ}
 use borrow.Author.Tests.{lt-ltb, le-ltb, ltb-true}
 use Rattle.values.proofs.Word.{back-ok}
-use Rattle.values.specs.Folds.{SmallInt, inRange}
+use Rattle.values.specs.Folds.{inRange}
 use Rattle.values.specs.Inner.{SoundInt}
 use Rattle.values.specs.declared.Val.{Val}
 use Rattle.values.specs.declared.Val.the-variants.{Int, Float as Real, Bool as Truth}

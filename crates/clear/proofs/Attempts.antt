@@ -1,19 +1,18 @@
 -- An attempt to fold keeps two chunks alike that differ only in where their constants stand. Assumes nothing.
-use Prim.Native.Nat.{ℕ, _+_, _*_, _/_, _%_, _≤_, _<_}
+use Prim.Native.Nat.{ℕ, _/_, _%_, _≤_, _<_}
 use native.Mathlib.Omega.{arith}
 use mathlib.Core.Path.{_≡_, refl, sym, ap, _∙_}
 use mathlib.Core.Logic.{inl, inr, ⊎-elim}
 use mathlib.Core.Bool.{Bool, true, false, cond, false≢true}
 use mathlib.Core.List.{List}
 use lib.Dec.{eqb}
-use lib.ListN.{length, getD, set, length-set}
-use lib.Seq.{getD-set-same, getD-set-other}
+use lib.ListN.{length, getD, set}
 use mir.Syntax.{w64}
 use mir.Val.{ofZ}
 use lib.Ieee.{binary64, toBits}
 use borrow.Author.Tests.{eqb-true}
 use Rattle.code.specs.Op.{LoadConst, LoadTrue, LoadFalse, Phi}
-use Rattle.lent.specs.Chunk.{stride, chunkCount, markAt, operandAt, names}
+use Rattle.lent.specs.Chunk.{chunkCount, operandAt, names}
 use Rattle.values.specs.declared.Val.{Val}
 use Rattle.values.specs.declared.Val.the-variants.{Int, Float as Real, Bool as Truth}
 use Rattle.chunk.specs.Pool.{Stored, stored, findOrPush, findOrPushConst}

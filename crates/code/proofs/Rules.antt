@@ -1,10 +1,10 @@
 -- What an instruction of accepted code keeps, from `rules`. Assumes nothing.
-use mathlib.Core.Path.{_≡_, refl}
+use mathlib.Core.Path.{_≡_}
 use mathlib.Core.Bool.{Bool, true, false, not, _&&_, _||_, false≢true}
 use Prim.Native.Nat.{ℕ, _≤_}
-use lib.Dec.{leb, eqb}
-use borrow.Author.Tests.{leb-true, eqb-false, eqb-true, eq-eqb, ne-eqb, not-true}
-use Rattle.code.specs.Op.{last, PushRegs, UnpackR, ArgsR, WithEnter, WithExit}
+use lib.Dec.{leb}
+use borrow.Author.Tests.{leb-true, eqb-true}
+use Rattle.code.specs.Op.{last, ArgsR}
 use Rattle.code.specs.Ins.{isCall, wide}
 use Rattle.code.specs.Rules.{opKnown, marksFit, xFits, pushFits, unpackFits, argsFit, followed, enterFits, exitFits, rules}
 use Rattle.code.specs.declared.Ins.{Ins}

@@ -1,7 +1,7 @@
 -- What only the inside of `code` needs: contracts of inner functions and proofs cite it, no promise does. Assumes nothing.
 use Prim.Native.Nat.{ℕ, _%_, _/_, _<_, _≤_}
 use mathlib.Core.Path.{_≡_}
-use mathlib.Core.Bool.{true, not, Bool, _||_}
+use mathlib.Core.Bool.{true, Bool, _||_}
 use mathlib.Core.List.{List}
 use lib.ListN.{length}
 use Rattle.code.specs.Rules.{ruleAt}

@@ -1,7 +1,7 @@
 // Lent code: its instructions, its record rules, and the refusals in document 01's order of test.
 ghost use mathlib.Core.Path.{_≡_};
 ghost use mathlib.Core.Bool.{not};
-ghost use Prim.Native.Nat.{_+_, _*_, _%_, _/_, _<_, _≤_, min};
+ghost use Prim.Native.Nat.{_+_, _*_, _%_, _/_, _<_, min};
 ghost use lib.ListN.{length};
 ghost use Rattle.code.specs.Ins.{insAt, count, isCall, wide};
 ghost use Rattle.code.specs.Rules.{rules, ruleAt, tryKept};

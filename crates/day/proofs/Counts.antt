@@ -1,18 +1,16 @@
 -- Reads are counted step by step, each used register once. Assumes nothing.
 use mathlib.Core.Path.{_≡_, refl, sym, ap, ap₂, _∙_, subst}
-use mathlib.Core.Logic.{_≢_}
-use mathlib.Core.Bool.{Bool, true, false, cond, not, _&&_, _||_}
+use mathlib.Core.Bool.{Bool, true, false, not, _&&_, _||_}
 use mathlib.Core.List.{List, [], _∷_, _++_}
-use Prim.Native.Nat.{ℕ, zero, suc, _+_, _-_, _*_, _/_, _%_, _≤_, _<_, zero-le}
-use native.Mathlib.Nat.{add-zero, add-assoc}
+use Prim.Native.Nat.{ℕ, zero, suc, _+_, _/_, _%_, _≤_, _<_, zero-le}
+use native.Mathlib.Nat.{add-zero}
 use native.Mathlib.Decide.{ℕ-discrete}
 use native.Mathlib.Numerals.{add-one}
 use native.Mathlib.Omega.{arith}
 use mir.Syntax.{w64}
-use mir.Val.{Fits}
+use mir.Val.{Fits, boolByte}
 use borrow.Author.Tests.{eq-eqb, ne-eqb, not-true, not-false}
-use mir.Val.{boolByte}
-use lib.Dec.{eqb, ltb}
+use lib.Dec.{eqb}
 use lib.ListN.{length, getD, set, drop, replicate, length-set}
 use lib.Seq.{getD-set-same, getD-set-other, drop-set-lt}
 use Rattle.laws.specs.Table.{table, Held}
@@ -25,7 +23,6 @@ use Rattle.roles.specs.Kinds.{a, b, c, has}
 use Rattle.roles.specs.Sets.{only}
 use Rattle.steps.specs.Code.{usedAt}
 use Rattle.steps.specs.Level.{isLevel}
-use Rattle.steps.specs.Step.{named}
 use Rattle.steps.specs.Inner.{StepAt}
 use Rattle.steps.specs.declared.Step.{Step}
 use Rattle.blocks.specs.Blocks.{slotAt}

@@ -12,7 +12,6 @@ use Rattle.code.specs.declared.Refusal.{Refusal}
 use Rattle.blocks.specs.Blocks.{stepsOf}
 use Rattle.trace.specs.Trace.{verdictOf}
 use Rattle.day.specs.Count.{readsIn, levelsIn}
-use Rattle.trace.specs.declared.Verdict.{Verdict}
 use Rattle.trace.specs.declared.Verdict.the-variants as found
 use Rattle.day.specs.declared.DayAnswer.{DayAnswer}
 use Rattle.day.specs.declared.DayAnswer.the-variants.{Is, No, Check, Filler, Move}

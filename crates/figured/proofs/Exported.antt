@@ -1,20 +1,17 @@
 -- The promises of the figures at the exported calls, each in a sentence. Assumes nothing.
-use mathlib.Core.Path.{_≡_, refl, sym, ap, ap₂, _∙_, subst}
+use mathlib.Core.Path.{_≡_, refl, sym, ap, ap₂, _∙_}
 use mathlib.Core.Logic.{_≢_}
-use mathlib.Core.Bool.{Bool, true, false, cond, not, _&&_, _||_}
+use mathlib.Core.Bool.{Bool, true, false, not}
 use mathlib.Core.List.{List, [], _∷_, _++_}
-use Prim.Native.Nat.{ℕ, zero, suc, _+_, _-_, _≤_, _<_}
+use Prim.Native.Nat.{ℕ}
 use native.Mathlib.Omega.{arith}
 use mir.Val.{boolByte}
-use lib.Dec.{eqb, ltb}
-use lib.ListN.{length, getD, drop, replicate}
-use lib.Seq.{sets, sets-eq, length-sets}
-use Rattle.code.specs.Ins.{insAt, count}
-use Rattle.code.specs.Answers.{answerOf, refusalOf, refusedOf}
+use lib.Dec.{eqb}
+use lib.ListN.{length, replicate}
+use lib.Seq.{sets-eq, length-sets}
+use Rattle.code.specs.Answers.{answerOf}
 use Rattle.code.specs.declared.Answer.{Answer}
 use Rattle.groups.specs.Groups.{figuresOf, longestOf, sumOf, firstAt, sumsOf}
-use Rattle.offsets.specs.Offsets.{wrong, firstWrong}
-use Rattle.offsets.specs.Inner.{Right}
 use Rattle.figures.specs.Figures.{bodyOf, bodyFigures}
 use Rattle.figures.specs.Answers.{figuresIn, reportWords, reportWritten, Reports, reports, reportedOf, addedOf, addCall, joinCall}
 use Rattle.figures.specs.Month.{Body, metFrom, reportOf, HoldsReport}

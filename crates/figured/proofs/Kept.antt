@@ -1,9 +1,9 @@
 -- A body with its answer from the kept-register call is never refused with 15. Assumes nothing.
-use mathlib.Core.Path.{_≡_, refl, sym, ap, ap₂, _∙_, subst}
-use mathlib.Core.Logic.{_≢_, _⊎_, inl, inr}
+use mathlib.Core.Path.{_≡_, refl, sym, ap, _∙_, subst}
+use mathlib.Core.Logic.{_⊎_, inl, inr}
 use mathlib.Core.Bool.{Bool, true, false, cond}
-use mathlib.Core.List.{List, [], _∷_, _++_}
-use Prim.Native.Nat.{ℕ, zero, suc, _+_, _-_, _≤_, _<_, zero-le}
+use mathlib.Core.List.{List, []}
+use Prim.Native.Nat.{ℕ, suc, _+_, _-_, _≤_, zero-le}
 use native.Mathlib.Numerals.{add-one}
 use native.Mathlib.Omega.{arith}
 use borrow.Author.Tests.{le-ltb}
@@ -13,7 +13,6 @@ use Rattle.code.specs.Ins.{insAt, count}
 use Rattle.code.specs.Check.{checkOf, registersOf, triedOf, roomOf}
 use Rattle.code.specs.Inner.{Valid}
 use Rattle.code.specs.declared.Answer.{Answer}
-use Rattle.code.specs.declared.Refusal.{Refusal}
 use Rattle.code.specs.declared.Checked.the-variants as stage
 use Rattle.code.proofs.Checks.{checked}
 use Rattle.code.proofs.Stages.{regs-before, tries-before, room-before}

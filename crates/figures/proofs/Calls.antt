@@ -10,7 +10,6 @@ use borrow.Author.Tests.{lt-ltb, le-ltb, eq-eqb}
 use mir.Syntax.{w64}
 use mir.Val.{Fits}
 use lib.ListN.{length, getD, length-append}
-use Rattle.laws.specs.Walk.{first}
 use Rattle.code.specs.Ins.{insAt, count}
 use Rattle.code.specs.Check.{checkOf}
 use Rattle.code.specs.declared.Ins.{Ins}

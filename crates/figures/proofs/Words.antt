@@ -7,7 +7,7 @@ use Rattle.code.specs.declared.Answer.{Answer}
 use Rattle.code.specs.declared.Refusal.{Refusal}
 use Rattle.groups.specs.Groups.{sumsOf}
 use Rattle.figures.specs.Figures.{bodyOf}
-use Rattle.figures.specs.Answers.{figuresIn, reportWritten, Reports, reports, reportedOf, addedOf, addCall, joinCall}
+use Rattle.figures.specs.Answers.{figuresIn, reportWritten, reports, reportedOf, addedOf, addCall, joinCall}
 use Rattle.groups.specs.declared.Figures.{Figures}
 use Rattle.groups.specs.declared.FiguresAnswer.{FiguresAnswer}
 use Rattle.groups.specs.declared.FiguresAnswer.the-variants.{Is, No, Offsets, Over}

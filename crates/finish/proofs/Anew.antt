@@ -1,8 +1,8 @@
 -- Laws of `renewed` and `finished`, from what the parts ensure. Assumes nothing.
 use Prim.Native.Nat.{ℕ, _-_, _*_, _≤_}
 use native.Mathlib.Omega.{arith}
-use mathlib.Core.Path.{_≡_, refl, sym, ap, _∙_}
-use mathlib.Core.Bool.{Bool, true, false, cond}
+use mathlib.Core.Path.{_≡_, sym, ap, _∙_}
+use mathlib.Core.Bool.{Bool, true, false}
 use mathlib.Core.List.{List, _++_}
 use lib.ListN.{length, take, replicate}
 use lib.Seq.{length-take-le}
@@ -13,7 +13,7 @@ use Rattle.compact.specs.Inner.{Compacted}
 use Rattle.phi_pass.specs.Phi.{marked, pairsLeft, indexed}
 use Rattle.phi_pass.specs.Inner.{spread}
 use Rattle.phi_pass.proofs.Pairs.{spread-length, marked-length}
-use Rattle.finish.specs.Finish.{Tables, tables, sourcesAfter, mapCount, mapOf, sourcesOf, renewed, finished}
+use Rattle.finish.specs.Finish.{Tables, tables, sourcesAfter, mapCount, renewed, finished}
 use Rattle.finish.specs.Inner.{TableRoom}
 use Rattle.finish.specs.declared.Left.{Left}
 

@@ -4,7 +4,7 @@ use mathlib.Core.Path.{_≡_}
 use lib.ListN.{length}
 use Rattle.laws.specs.All.{many}
 use Rattle.lent.specs.Chunk.{stride, isPhi}
-use Rattle.finish.specs.Finish.{Tables, tables}
+use Rattle.finish.specs.Finish.{Tables}
 
 -- the tables are there, with the room that folding needs
 pub record TableRoom (t : Tables) : Type 0 where

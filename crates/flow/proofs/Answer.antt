@@ -11,7 +11,7 @@ use lib.Dec.{ltb, eqb}
 use lib.Pow.{pow-pos}
 use Rattle.flow.specs.Set.{bit}
 use Rattle.flow.specs.Flow.{Flow, reach, Least, Closed}
-use Rattle.flow.specs.Sweep.{row, empty, swept, backs, strays, below, Again, Sweeps, done, more, startOf, abandonedOf, Found}
+use Rattle.flow.specs.Sweep.{row, empty, swept, backs, strays, below, Again, Sweeps, done, more, startOf, Found}
 use Rattle.flow.specs.Kept.{Level, handlersOf, kept}
 use Rattle.flow.specs.Demand.{Keeps}
 use Rattle.flow.proofs.Bits.{bit-zero, bit-ext}

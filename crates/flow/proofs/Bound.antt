@@ -1,11 +1,11 @@
 -- How many sweeps there are: they end, after at most one for each jump to its own position or back and two more. Assumes nothing.
 -- A bit that sweep i + 1 adds is traced forward to a jump back whose own row it adds there, from a bit that sweep i added; so a bit of
 -- sweep i + 1 has i jumps back behind it, each in a row of its own.
-use mathlib.Core.Path.{_≡_, refl, ap, ap₂, _∙_}
+use mathlib.Core.Path.{_≡_, refl, ap, ap₂}
 use mathlib.Core.Logic.{_⊎_, inl, inr, _≢_}
 use mathlib.Core.List.{List, [], _∷_, List-discrete}
 use mathlib.Core.Bool.{Bool, true, false, cond, _&&_}
-use Prim.Native.Nat.{ℕ, zero, suc, _+_, _-_, _≤_, _<_, max}
+use Prim.Native.Nat.{ℕ, zero, suc, _+_, _-_, _≤_, _<_}
 use native.Mathlib.Nat.{le-refl, le-add-left, le-add-right}
 use native.Mathlib.Decide.{ℕ-discrete, decLe, decLt}
 use native.Mathlib.Omega.{arith}

@@ -7,7 +7,7 @@ use native.Mathlib.Numerals.{add-one}
 use native.Mathlib.Omega.{arith}
 use lib.Arith.{lt-one}
 use lib.Bits.{bitAnd, and-step, and-self, and-le-l, and-le-r, block-half, block-odd}
-use lib.Count.{trailingZeros, under, ones, ones-step, ones-cat}
+use lib.Count.{trailingZeros, under, ones, ones-step}
 use lib.ListN.{length, getD, drop}
 use lib.Seq.{drop-cons}
 use Rattle.flow.specs.Listed.{listed, keep}

@@ -17,7 +17,7 @@ use Rattle.flow.specs.Run.{fileAfter, chosen}
 use Rattle.flow.specs.Demand.{TellsApart}
 use Rattle.flow.proofs.Bits.{bit-lt, bit-zero, bit-ext}
 use Rattle.flow.proofs.Tally.{tally-more, tally-le}
-use Rattle.flow.proofs.Rows.{In, rowAt-bit, rowAt-mono, rowAt-from}
+use Rattle.flow.proofs.Rows.{In, rowAt-mono, rowAt-from}
 use Rattle.flow.proofs.Members.{listed-in}
 use Rattle.flow.proofs.Steps.{reads-step, values-tell, wrote-kept, leave-for, go-to}
 

@@ -11,7 +11,7 @@ use borrow.Author.Tests.{lt-ltb, le-ltb}
 use lib.Dec.{ltb}
 use lib.ListN.{length, getD, drop}
 use Rattle.flow.specs.Set.{bit}
-use Rattle.flow.specs.Flow.{Flow, reach}
+use Rattle.flow.specs.Flow.{Flow}
 use Rattle.flow.specs.Listed.{listed}
 use Rattle.flow.specs.Run.{run, reads, valuesOf, wrote, rewritten, fileAfter, chosen}
 use Rattle.flow.specs.Demand.{Agree}

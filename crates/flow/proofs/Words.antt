@@ -8,9 +8,9 @@ use native.Mathlib.Nat.{mod-lt, div-add-mod', one-mul, div-eq-of-lt, mod-eq-of-l
 use native.Mathlib.Decide.{ℕ-discrete, decLt}
 use native.Mathlib.Numerals.{add-one}
 use native.Mathlib.Omega.{arith}
-use borrow.Author.Tests.{lt-ltb, le-ltb}
+use borrow.Author.Tests.{lt-ltb}
 use lib.Arith.{digits-div, digits-mod}
-use lib.Bits.{bitOr, or-shifted, or-lt, or-zero-r}
+use lib.Bits.{bitOr, or-shifted, or-lt}
 use lib.ListN.{length, getD, set, replicate}
 use lib.Pow.{pow-lt, pow-pos}
 use lib.Seq.{getD-set-same, getD-set-other}

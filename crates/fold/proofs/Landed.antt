@@ -1,23 +1,22 @@
 -- A table of landings stays true after every fold, and the folds that it allows are those of the scan. Assumes nothing.
-use Prim.Native.Nat.{ℕ, zero, suc, _+_, _*_, _%_, _≤_, _<_}
+use Prim.Native.Nat.{ℕ, zero, suc, _≤_, _<_}
 use native.Mathlib.Omega.{arith}
 use mathlib.Core.Path.{_≡_, refl, sym, ap, fun-ext, _∙_}
 use mathlib.Core.Bool.{Bool, true, false, cond}
 use mathlib.Core.List.{List}
 use lib.Dec.{eqb}
-use lib.ListN.{length, getD, set, length-set}
-use lib.Seq.{getD-set-same, getD-set-other}
+use lib.ListN.{getD}
 use mir.Val.{boolByte}
 use borrow.Author.Tests.{eqb-true, eqb-false}
-use Rattle.code.specs.Op.{LoadConst, LoadTrue, LoadFalse}
-use Rattle.lent.specs.Chunk.{stride, chunkCount, opAt, markAt, operandAt, marksJump}
-use Rattle.landings.specs.Landings.{landingsOf, barred, Unmarked}
+use Rattle.code.specs.Op.{LoadConst}
+use Rattle.lent.specs.Chunk.{chunkCount, opAt, marksJump}
+use Rattle.landings.specs.Landings.{landingsOf, Unmarked}
 use Rattle.landings.specs.Latest.{latest, isLanding}
 use Rattle.landings.proofs.Asked.{same-test}
 use Rattle.landings.proofs.Kept.{SameJumps, landings-same, same-refl, same-twice}
 use Rattle.values.specs.declared.Val.{Val}
 use Rattle.fold.specs.Plan.{Chunk, after, planAt}
-use Rattle.fold.specs.Pass.{Loading, constLoad, markOf, put, landed, applied, tryFold, Bars, byScan, byTable, folded, foldAll}
+use Rattle.fold.specs.Pass.{Loading, constLoad, put, landed, applied, tryFold, Bars, byScan, byTable, folded, foldAll}
 use Rattle.fold.specs.declared.Loaded.{Loaded}
 use Rattle.fold.specs.declared.Loaded.the-variants.{As, No}
 use Rattle.fold.specs.declared.Plan.{Plan}

@@ -1,7 +1,7 @@
 -- What the told tests leave, and what the folding call then tells. Assumes nothing.
 use Prim.Native.Nat.{ℕ, _+_, _≤_, _<_}
 use native.Mathlib.Omega.{arith}
-use mathlib.Core.Path.{_≡_, refl, sym, ap, _∙_}
+use mathlib.Core.Path.{_≡_, refl, ap, _∙_}
 use mathlib.Core.Logic.{_≢_}
 use mathlib.Core.Bool.{Bool}
 use mathlib.Core.List.{List, _++_}
@@ -16,10 +16,9 @@ use Rattle.lent.specs.Chunk.{chunkCount}
 use Rattle.lent.specs.Check.{sourceRoom, tallyOf, readyOf}
 use Rattle.lent.specs.declared.Counts.{Counts}
 use Rattle.lent.specs.declared.Lens.{Lens}
-use Rattle.optimizer.specs.Fold.{buffers, lensOf, foldOutcome, settled, foldLent, called}
+use Rattle.optimizer.specs.Fold.{buffers, lensOf, foldOutcome, settled, foldLent, Is, No}
 use Rattle.optimizer.specs.Inner.{FoldRoom}
 use Rattle.optimizer.specs.declared.Folded.{Folded}
-use Rattle.optimizer.specs.Fold.{Is, No}
 use Rattle.optimizer.proofs.Tested.{held-of, table-there}
 use Rattle.optimizer.proofs.Whole.{joins, refused-by, told-by}
 use Rattle.folding.specs.Answers.{foldedTold, FoldTold}

@@ -6,10 +6,8 @@ use mathlib.Core.List.{List}
 use Rattle.code.specs.Answers.{answerOf, refusedOf}
 use Rattle.code.specs.declared.Answer.{Answer}
 use Rattle.lent.specs.declared.Counts.{Counts}
-use Rattle.optimizer.specs.Fold.{Buffers, foldOutcome, called, foldCall}
+use Rattle.optimizer.specs.Fold.{Buffers, foldOutcome, called, foldCall, FoldAnswer, Is, No}
 use Rattle.optimizer.specs.declared.Folded.{Folded}
-use Rattle.optimizer.specs.Fold.{FoldAnswer}
-use Rattle.optimizer.specs.Fold.{Is, No}
 
 -- instructions, constants, phi_map count, phi_sources count
 abbrev pub foldedTold : Folded → Answer

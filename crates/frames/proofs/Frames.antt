@@ -1,26 +1,20 @@
 -- Nested frames: after matched entries and leavings the same room is in use, and a leaving finds what its entry put aside. Assumes nothing.
 use mathlib.Core.Path.{_≡_, refl, sym, ap, ap₂, _∙_, subst}
-use mathlib.Core.Logic.{⊎-elim, _≢_}
-use mathlib.Core.Bool.{Bool, true, false, cond, _||_}
+use mathlib.Core.Bool.{Bool, true, false, cond}
 use mathlib.Core.List.{List, [], _∷_, _++_, append-assoc}
-use Prim.Native.Nat.{ℕ, zero, suc, _+_, _-_, _*_, _/_, _≤_, _<_, zero-le}
+use Prim.Native.Nat.{ℕ, _+_, _-_, _*_, _/_, _≤_}
 use native.Mathlib.Omega.{arith}
-use borrow.Author.Tests.{lt-ltb, le-ltb, ltb-true, ltb-false}
+use borrow.Author.Tests.{le-ltb, ltb-false}
 use lib.Dec.{ltb}
 use lib.ListN.{length, getD, take, drop, set, length-set, length-append, take-append-drop}
-use lib.Seq.{sets, sets-eq, length-sets, getD-set-same, getD-set-other, getD-at, take-at, take-take, length-take-le}
-use Rattle.area.specs.Area.{freeOf, needOf}
-use Rattle.saver.specs.Saver.{Saver, saver, Ends, ends, regsOf, inUse}
-use Rattle.leaves.specs.Leaving.{Back}
+use lib.Seq.{sets-eq, length-sets, getD-set-same, getD-set-other, getD-at, take-at, take-take, length-take-le}
+use Rattle.area.specs.Area.{freeOf, needOf, pairsOf, entryOf, putBack, topOf}
+use Rattle.saver.specs.Saver.{Saver, saver, Ends, ends, regsOf, inUse, entered, enterOf}
+use Rattle.leaves.specs.Leaving.{Back, resultWritten, leftBy, leaveOf}
 use Rattle.taken.specs.Lists.{firstStrange}
-use Rattle.area.specs.Area.{pairsOf, entryOf, putBack, topOf}
-use Rattle.saver.specs.Saver.{entered, enterOf}
-use Rattle.leaves.specs.Leaving.{resultWritten, leftBy, leaveOf}
 use Rattle.frames.specs.Frames.{Sound, CallEvent, enters, writes, leaves, Matched, none, over, frame}
 use Rattle.frames.specs.Inner.{restored, Play, done, enter, write, leave, SameRoom}
-use Rattle.saver.specs.declared.SaverAnswer.{SaverAnswer}
 use Rattle.saver.specs.declared.SaverAnswer.the-variants.{Used, Registers, Listed, Full}
-use Rattle.area.specs.declared.Top.{Top}
 use Rattle.area.specs.declared.Top.the-variants.{Entry, Bare}
 use Rattle.frames.proofs.Words.{pairs-length, entry-length, back-length, back-is, written-length}
 

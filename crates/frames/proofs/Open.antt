@@ -1,24 +1,18 @@
 -- Refusal 9 is given exactly where no call is open, whatever happened before. Assumes nothing.
-use mathlib.Core.Path.{_≡_, refl, sym, ap, ap₂, _∙_, subst}
-use mathlib.Core.List.{List, [], _∷_, _++_}
-use Prim.Native.Nat.{ℕ, zero, suc, _+_, _-_, _*_, _≤_, _<_}
+use mathlib.Core.Path.{_≡_, refl, sym, ap, _∙_, subst}
+use mathlib.Core.List.{List, _++_}
+use Prim.Native.Nat.{ℕ, zero, suc, _+_, _≤_}
 use native.Mathlib.Omega.{arith}
 use borrow.Author.Tests.{le-ltb}
-use lib.Dec.{ltb}
 use lib.ListN.{length, getD, take, set, length-set}
 use lib.Seq.{take-take, getD-set-same, getD-set-other}
-use Rattle.area.specs.Area.{needOf}
-use Rattle.saver.specs.Saver.{Saver, saver, Ends, ends, regsOf, inUse}
-use Rattle.leaves.specs.Leaving.{Back}
-use Rattle.area.specs.Area.{entryOf, putIn, putBack, topOf}
-use Rattle.saver.specs.Saver.{madeHead, enterOf}
-use Rattle.leaves.specs.Leaving.{resultWritten, leftBy, leaveOf}
+use Rattle.area.specs.Area.{needOf, entryOf, putIn, putBack, topOf}
+use Rattle.saver.specs.Saver.{Saver, saver, Ends, ends, regsOf, inUse, madeHead, enterOf}
+use Rattle.leaves.specs.Leaving.{Back, resultWritten, leftBy, leaveOf}
 use Rattle.frames.specs.Frames.{Sound, Open, made, entered, overwritten, left}
 use Rattle.saver.specs.declared.SaverAnswer.the-variants.{Used, Nothing}
-use Rattle.area.specs.declared.Top.{Top}
-use Rattle.area.specs.declared.Top.the-variants.{Entry, Bare}
 use Rattle.frames.proofs.Words.{in-length, written-length}
-use Rattle.frames.proofs.Frames.{Accepted, accepted, entered-sound, entry-found, used₁, fits, stands₁, below₁}
+use Rattle.frames.proofs.Frames.{accepted, entered-sound, entry-found, used₁, fits, stands₁, below₁}
 
 -- the first w words are n entries, one upon the other
 data Tower (area : List ℕ) : ℕ → ℕ → Type 0 where

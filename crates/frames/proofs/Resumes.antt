@@ -1,10 +1,10 @@
 -- A frame's end: every kept register holds what it held, save the result register after a return, and a run goes on as if nobody had touched
 -- a register. Assumes nothing.
-use mathlib.Core.Path.{_≡_, refl, sym, ap, ap₂, _∙_, subst}
+use mathlib.Core.Path.{_≡_, refl, sym, ap, _∙_, subst}
 use mathlib.Core.Logic.{_≢_}
 use mathlib.Core.Bool.{Bool, true, false, cond}
-use mathlib.Core.List.{List, [], _∷_, List·Memᴰ}
-use Prim.Native.Nat.{ℕ, _+_, _-_, _*_, _^_, _≤_, _<_}
+use mathlib.Core.List.{List, List·Memᴰ}
+use Prim.Native.Nat.{ℕ, _^_, _≤_, _<_}
 use native.Mathlib.Decide.{ℕ-discrete}
 use native.Mathlib.Omega.{arith}
 use borrow.Author.Tests.{ltb-true}
@@ -22,7 +22,7 @@ use Rattle.leaves.specs.Leaving.{Back, returned, thrown, resultWritten, leaveOf
 use Rattle.frames.specs.Frames.{fileOf, Sound, CallEvent, Matched}
 use Rattle.frames.specs.Inner.{restored, Play, SameRoom}
 use Rattle.saver.specs.declared.SaverAnswer.the-variants.{Used}
-use Rattle.frames.proofs.Words.{in-length, in-same, in-other, back-length, back-kept, written-length}
+use Rattle.frames.proofs.Words.{in-same, in-other, back-length, back-kept}
 use Rattle.frames.proofs.Frames.{Accepted, accepted, entered-sound, leaving, left-same, matched}
 use Rattle.frames.proofs.Listed.{fine-in}
 

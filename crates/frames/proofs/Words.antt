@@ -3,12 +3,12 @@ use mathlib.Core.Path.{_≡_, refl, sym, ap, ap₂, _∙_, subst}
 use mathlib.Core.Logic.{⊎-elim, _≢_}
 use mathlib.Core.Bool.{Bool, true, false, cond}
 use mathlib.Core.List.{List, [], _∷_, _++_, append-assoc, List·Memᴰ, List·Memᴰ·cases-cons, List·Memᴰ·not-nil}
-use Prim.Native.Nat.{ℕ, zero, suc, _+_, _-_, _*_, _/_, _≤_, _<_, zero-le}
+use Prim.Native.Nat.{ℕ, suc, _+_, _*_, _≤_, _<_}
 use native.Mathlib.Decide.{ℕ-discrete}
 use native.Mathlib.Omega.{arith}
-use borrow.Author.Tests.{lt-ltb, le-ltb, ltb-true, ltb-false}
+use borrow.Author.Tests.{lt-ltb}
 use lib.Dec.{ltb}
-use lib.ListN.{length, getD, take, drop, set, length-set, length-append}
+use lib.ListN.{length, getD, set, length-set, length-append}
 use lib.Seq.{getD-set-same, getD-set-other, getD-at}
 use Rattle.area.specs.Area.{pairsOf, entryOf, putIn, putBack}
 use Rattle.leaves.specs.Leaving.{Back, returned, thrown, resultWritten}

@@ -7,7 +7,6 @@ use lib.Dec.{ltb, leb}
 use lib.ListN.{length, getD}
 use mir.Val.{boolByte}
 use Rattle.laws.specs.Table.{Held}
-use Rattle.code.specs.Ins.{count}
 use Rattle.code.specs.Inner.{Whole}
 use Rattle.loops.specs.Loops.{depth}
 

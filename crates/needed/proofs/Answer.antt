@@ -1,25 +1,23 @@
 -- What the search says is the bit in the finished rows from start 0. Assumes nothing.
 use mathlib.Core.Path.{_≡_, refl, sym, ap, _∙_, subst}
-use mathlib.Core.Logic.{_≢_, ⊎-elim}
-use mathlib.Core.Bool.{Bool, true, false, cond, _||_, true≢false, false≢true}
-use mathlib.Core.List.{List, [], _∷_, List·Memᴰ}
-use Prim.Native.Nat.{ℕ, zero, suc, _+_, _^_, _≤_, _<_, max, zero-le}
+use mathlib.Core.Bool.{Bool, true, false, cond, _||_}
+use mathlib.Core.List.{List, [], _∷_}
+use Prim.Native.Nat.{ℕ, _^_, _≤_, _<_, max, zero-le}
 use native.Mathlib.Decide.{ℕ-discrete, decLt}
 use native.Mathlib.Omega.{arith}
 use borrow.Author.Tests.{eq-eqb, ne-eqb, lt-ltb, le-ltb}
-use lib.Bits.{bitOr}
 use lib.Dec.{eqb, ltb}
 use Rattle.laws.specs.Page.{among}
 use Rattle.code.specs.Ins.{count}
 use Rattle.flow.specs.Set.{bit, alone}
 use Rattle.flow.specs.Flow.{Flow, joined, Least}
-use Rattle.flow.specs.Sweep.{row, startOf, strays, Found}
+use Rattle.flow.specs.Sweep.{row, strays, Found}
 use Rattle.flow.proofs.Bits.{bit-lt, bit-zero, or-bit, pow-here, pow-other}
 use Rattle.flow.proofs.Answer.{found-least}
-use Rattle.steps.specs.Code.{usedAt, givenAt, afterAt, setOf, flow}
+use Rattle.steps.specs.Code.{usedAt, givenAt, setOf, flow}
 use Rattle.needed.specs.Path.{Needs}
 use Rattle.needed.specs.Path as path
-use Rattle.paths.specs.Search.{Reach, here, later, Says}
+use Rattle.paths.specs.Search.{here, later, Says}
 use Rattle.seek.specs.Inner.{usesAt, givesAt, Asked}
 use Rattle.seek.proofs.Within.{next-after, after-next}
 use Rattle.needed.proofs.Rows.{row-needs, needs-row}

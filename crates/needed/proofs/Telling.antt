@@ -1,6 +1,6 @@
 -- The call tells by its tests, and its answer is settled. Assumes nothing.
 use mathlib.Core.Path.{_≡_, refl, sym, ap, _∙_}
-use mathlib.Core.Bool.{Bool, true, false, cond, _&&_}
+use mathlib.Core.Bool.{Bool, true, false, _&&_}
 use mathlib.Core.List.{List}
 use Prim.Native.Nat.{ℕ, _+_, _/_, _<_, _≤_}
 use native.Mathlib.Omega.{arith}
@@ -10,7 +10,6 @@ use lib.ListN.{length}
 use Rattle.laws.specs.Table.{clearedTo}
 use Rattle.laws.proofs.Table.{cleared-length}
 use Rattle.code.specs.Check.{checkOf, registersOf, roomOf}
-use Rattle.code.specs.Inner.{Valid}
 use Rattle.code.specs.declared.Refusal.{Refusal}
 use Rattle.code.specs.declared.Refusal.the-variants.{Position}
 use Rattle.code.specs.declared.Checked.{Checked}

@@ -2,13 +2,13 @@
 use mathlib.Core.Path.{_≡_, refl, sym, ap, _∙_, subst}
 use mathlib.Core.Logic.{⊎-elim, _⊎_, inl, inr, _≢_}
 use mathlib.Core.Bool.{Bool, true, false, cond, _||_, false≢true}
-use mathlib.Core.List.{List, [], _∷_, map, List·Memᴰ, List·Memᴰ·head, List·Memᴰ·tail, List·Memᴰ·cases-cons, List·Memᴰ·not-nil, tail-eq-of-cons-eq}
-use Prim.Native.Nat.{ℕ, _^_, _≤_, _<_}
+use mathlib.Core.List.{List, [], _∷_, map, List·Memᴰ·head, List·Memᴰ·tail, List·Memᴰ·cases-cons, List·Memᴰ·not-nil, tail-eq-of-cons-eq}
+use Prim.Native.Nat.{ℕ, _^_, _<_}
 use native.Mathlib.Decide.{ℕ-discrete}
 use native.Mathlib.Omega.{arith}
 use borrow.Author.Tests.{eqb-true, eq-eqb, lt-ltb}
 use lib.Dec.{eqb, ltb}
-use lib.ListN.{length, getD, set, replicate, length-replicate, getD-replicate}
+use lib.ListN.{getD, set, replicate, length-replicate, getD-replicate}
 use lib.Seq.{getD-set-same}
 use Rattle.laws.specs.Page.{among}
 use Rattle.flow.specs.Set.{bit}
@@ -17,7 +17,7 @@ use Rattle.flow.specs.Demand.{TellsApart, Entry}
 use Rattle.flow.proofs.Bits.{bit-zero, pow-here, pow-other}
 use Rattle.flow.proofs.Rows.{In}
 use Rattle.flow.proofs.Steps.{wrote-kept, wrote-new, pick-of}
-use Rattle.nested.specs.Machine.{Frame, Event, step, back, thrown, readAt, nextAt, fileAt, nested, undisturbed, Spares, Sheltered}
+use Rattle.nested.specs.Machine.{Frame, Event, step, back, thrown, nextAt, fileAt, nested, undisturbed, Spares, Sheltered}
 use Rattle.nested.specs.Exposed.{exposed, ToldApart}
 
 among-in : (r : ℕ) (l : List ℕ) → among r l ≡ true → In r l

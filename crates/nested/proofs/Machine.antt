@@ -2,10 +2,10 @@
 use mathlib.Core.Path.{_≡_, refl, sym, ap, ap₂, _∙_}
 use mathlib.Core.Logic.{⊎-elim, _⊎_}
 use mathlib.Core.Bool.{Bool, true, false, cond}
-use mathlib.Core.List.{List, [], _∷_, List·Memᴰ}
+use mathlib.Core.List.{List, [], _∷_}
 use Prim.Native.Nat.{ℕ, _≤_, _<_}
 use native.Mathlib.Nat.{le-refl}
-use native.Mathlib.Decide.{decLe, decLt}
+use native.Mathlib.Decide.{decLt}
 use native.Mathlib.Omega.{arith}
 use borrow.Author.Tests.{lt-ltb, le-ltb}
 use lib.Dec.{ltb}
@@ -13,7 +13,7 @@ use lib.ListN.{getD}
 use Rattle.flow.specs.Set.{bit}
 use Rattle.flow.specs.Flow.{reach, rowAt}
 use Rattle.flow.specs.Run.{valuesOf, wrote, rewritten, fileAfter, chosen}
-use Rattle.flow.specs.Kept.{Level, kept}
+use Rattle.flow.specs.Kept.{kept}
 use Rattle.nested.specs.Machine.{Frame, Event, step, back, thrown, readAt, nextAt, fileAt, nested, undisturbed, Spares, Sheltered}
 use Rattle.nested.specs.Inner.{Shelters}
 use Rattle.flow.proofs.Bits.{bit-zero}

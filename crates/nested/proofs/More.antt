@@ -1,8 +1,8 @@
 -- With handlers joined rows only grow, and so do kept lists. Assumes nothing.
-use mathlib.Core.Path.{_≡_, refl, sym, ap, _∙_}
+use mathlib.Core.Path.{ap}
 use mathlib.Core.Logic.{⊎-elim}
-use mathlib.Core.Bool.{Bool, true, false, cond}
-use mathlib.Core.List.{List, []}
+use mathlib.Core.Bool.{Bool, cond}
+use mathlib.Core.List.{List}
 use Prim.Native.Nat.{ℕ, zero, suc, _≤_, _<_}
 use native.Mathlib.Decide.{decLt}
 use native.Mathlib.Omega.{arith}
@@ -10,10 +10,10 @@ use borrow.Author.Tests.{lt-ltb, le-ltb}
 use lib.Dec.{ltb}
 use Rattle.code.specs.Ins.{count}
 use Rattle.flow.specs.Set.{bit, _⊑_}
-use Rattle.flow.specs.Flow.{Flow, joined, rowAt, Solution, Least, Closed}
+use Rattle.flow.specs.Flow.{Flow, joined, rowAt, Solution, Closed}
 use Rattle.flow.specs.Sweep.{row, startOf, Found}
 use Rattle.flow.specs.Kept.{Level, kept}
-use Rattle.flow.proofs.Bits.{bit-zero, minus-bit}
+use Rattle.flow.proofs.Bits.{bit-zero}
 use Rattle.flow.proofs.Rows.{In, rowAt-bit, rowAt-mono, by-step}
 use Rattle.flow.proofs.Needed.{soon, soon-solves}
 use Rattle.flow.proofs.Kept.{kept-resume, kept-handler, kept-only}

@@ -1,8 +1,8 @@
 -- The row equations of lent code in which what stands inside a try may raise and go on in its handler. Assumes nothing.
 use Prim.Native.Nat.{ℕ, _+_, _<_}
 use mathlib.Core.Path.{_≡_}
-use mathlib.Core.Bool.{Bool, true, false, cond, _&&_, _||_}
-use mathlib.Core.List.{List, [], _∷_, _++_}
+use mathlib.Core.Bool.{Bool, false, cond, _&&_, _||_}
+use mathlib.Core.List.{List, [], _++_}
 use lib.Bits.{bitOr}
 use lib.Dec.{eqb}
 use Rattle.code.specs.Op.{ReturnR, Jump, UnpackR, WithEnter, WithExit}

@@ -14,10 +14,9 @@ use Rattle.lent.specs.Chunk.{chunkCount}
 use Rattle.lent.specs.Check.{readyOf}
 use Rattle.lent.specs.declared.Counts.{Counts}
 use Rattle.fold.specs.Pass.{byScan}
-use Rattle.optimizer.specs.Fold.{Buffers, lensOf, needed, foldOutcome, constantFold, joinedBuffers, foldLent, called, rejoined, foldCall}
+use Rattle.optimizer.specs.Fold.{Buffers, lensOf, needed, foldOutcome, constantFold, joinedBuffers, foldLent, called, rejoined, foldCall, Is, No}
 use Rattle.optimizer.specs.Inner.{FoldRoom, Exact}
 use Rattle.optimizer.specs.declared.Folded.{Folded}
-use Rattle.optimizer.specs.Fold.{Is, No}
 use Rattle.optimizer.proofs.Tested.{held-of, table-there, tries-there}
 use Rattle.optimizer.proofs.Whole.{exact-of, told-by}
 

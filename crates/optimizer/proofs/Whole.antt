@@ -1,25 +1,20 @@
 -- Laws of `constantFold`, `joinedBuffers` and `foldCall`, from what the parts ensure. Assumes nothing.
-use Prim.Native.Nat.{ℕ, zero, suc, _+_, _-_, _*_, _%_, _^_, _≤_, _<_, max}
+use Prim.Native.Nat.{ℕ, _+_, _-_, _^_, _≤_, _<_}
 use native.Mathlib.Omega.{arith}
 use mathlib.Core.Path.{_≡_, refl, sym, ap, _∙_, subst}
 use mathlib.Core.Bool.{Bool, true, false, cond}
-use mathlib.Core.List.{List, [], _∷_, _++_}
-use lib.Dec.{leb}
-use lib.ListN.{length, getD, take, drop, replicate, length-replicate}
-use lib.Seq.{length-take-le, ext-getD}
+use mathlib.Core.List.{List, _++_}
+use lib.ListN.{length, take, drop, replicate, length-replicate}
+use lib.Seq.{length-take-le}
 use mir.Val.{boolByte}
-use borrow.Author.Tests.{leb-true}
-use Rattle.laws.specs.All.{every, many}
-use Rattle.laws.specs.Each.{each}
-use Rattle.laws.proofs.Branch.{and-true}
-use Rattle.laws.proofs.Each.{each-word, each-at}
+use Rattle.laws.specs.All.{every}
 use Rattle.laws.proofs.Many.{many-few, many-fewer}
 use Rattle.code.specs.declared.Refusal.{Refusal}
 use Rattle.code.specs.declared.Checked.{Checked}
 use Rattle.code.specs.declared.Checked.the-variants.{Count, No as Refused}
 use Rattle.code.proofs.Answers.{refused, told}
-use Rattle.lent.specs.Chunk.{stride, chunkCount, opAt, folds, isPhi}
-use Rattle.lent.specs.Check.{constantRoom, sourceRoom, tallyOf, readyOf}
+use Rattle.lent.specs.Chunk.{chunkCount, isPhi}
+use Rattle.lent.specs.Check.{sourceRoom, tallyOf, readyOf}
 use Rattle.lent.specs.declared.Counts.{Counts}
 use Rattle.lent.specs.declared.Tally.{Tally}
 use Rattle.fold.specs.Plan.{Chunk, chunk}
@@ -27,7 +22,7 @@ use Rattle.landings.specs.Landings.{landingsOf, Unmarked}
 use Rattle.fold.specs.Pass.{Bars, byScan, byTable, foldAll}
 use Rattle.fold.specs.Inner.{PassRoom}
 use Rattle.fold.proofs.Landed.{same-folds}
-use Rattle.positions.specs.Remap.{alive, live, mapped}
+use Rattle.positions.specs.Remap.{alive}
 use Rattle.positions.specs.Inner.{Remap}
 use Rattle.positions.specs.Moved.{movedAll}
 use Rattle.positions.proofs.Moves.{remap-of}
@@ -36,11 +31,10 @@ use Rattle.phi_pass.specs.Phi.{marked}
 use Rattle.fold.proofs.Passed.{Passed, all-passed}
 use Rattle.finish.specs.Finish.{Tables, tables, mapOf, sourcesOf, renewed, finished}
 use Rattle.finish.specs.Inner.{TableRoom}
-use Rattle.optimizer.specs.Fold.{Buffers, buffers, lensOf, needed, sourcesNeeded, FoldOutcome, foldOutcome, constantFold, foldPass, joinedBuffers, Settled, settled, foldLent, Called, called, rejoined, foldCall}
+use Rattle.optimizer.specs.Fold.{Buffers, buffers, lensOf, needed, sourcesNeeded, foldOutcome, constantFold, foldPass, joinedBuffers, settled, foldLent, Called, called, rejoined, foldCall}
 use Rattle.optimizer.specs.Inner.{FoldRoom, Exact, Mapped}
 use Rattle.finish.specs.declared.Left.{Left}
 use Rattle.optimizer.specs.declared.Folded.{Folded}
-use Rattle.optimizer.specs.Fold.{FoldAnswer}
 use Rattle.optimizer.specs.Fold.{Is, No}
 
 pub cleared : (xs old : List ℕ) → xs ≡ take 0 old ++ replicate (length old - 0) 0 → xs ≡ replicate (length old) 0

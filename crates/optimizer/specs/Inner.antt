@@ -10,7 +10,7 @@ use Rattle.lent.specs.Check.{constantRoom, tallyOf}
 use Rattle.lent.specs.declared.Counts.{Counts}
 use Rattle.landings.specs.Landings.{Unmarked}
 use Rattle.positions.specs.Remap.{alive, remapOf}
-use Rattle.optimizer.specs.Fold.{Buffers, buffers, sourcesNeeded, needed}
+use Rattle.optimizer.specs.Fold.{Buffers, sourcesNeeded}
 
 -- what the tests leave of the buffers
 pub record FoldRoom (b : Buffers) (c : Counts) : Type 0 where

@@ -11,10 +11,10 @@ use lib.Seq.{drop-set-lt}
 use mir.Val.{boolByte}
 use Rattle.laws.specs.Table.{Held}
 use Rattle.laws.proofs.Byte.{byte-small}
-use Rattle.paths.specs.Search.{Reach, ways, left, taken}
+use Rattle.paths.specs.Search.{Reach, ways, taken}
 use Rattle.paths.specs.Inner.{pushed, SearchRoom, Searched, owed}
 use Rattle.paths.proofs.Marks.{marked, few-marked}
-use Rattle.paths.proofs.Depth.{State, Waits, starts, skips, found, one-more, below, turns, never, push-keeps, push-adds, push-only}
+use Rattle.paths.proofs.Depth.{State, Waits, starts, skips, found, below, turns, never, push-keeps, push-adds, push-only}
 use Rattle.paths.proofs.Turns.{falls}
 
 -- ---- words past the buffers' need

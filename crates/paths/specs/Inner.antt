@@ -5,7 +5,7 @@ use mathlib.Core.List.{List}
 use lib.Dec.{eqb}
 use lib.ListN.{length, getD, set}
 use Rattle.laws.specs.Table.{Held}
-use Rattle.paths.specs.Search.{ways, Says}
+use Rattle.paths.specs.Search.{Says}
 
 -- t waits on top of the stack, if y
 unfoldable pub pushed : List ℕ → ℕ → ℕ → Bool → List ℕ

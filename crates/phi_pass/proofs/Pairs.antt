@@ -8,8 +8,8 @@ use mathlib.Core.Path.{_≡_, refl, sym, ap, _∙_}
 use mathlib.Core.Bool.{Bool, true, false, cond, _&&_}
 use mathlib.Core.List.{List, [], _∷_, _++_, append-nil}
 use lib.Dec.{eqb, ltb}
-use lib.ListN.{length, getD, set, take, drop, replicate, length-set, length-append}
-use lib.Seq.{take-suc, take-suc-set, length-take-le, set-getD}
+use lib.ListN.{length, getD, set, take, replicate}
+use lib.Seq.{take-suc, take-suc-set, set-getD}
 use borrow.Author.Tests.{eq-eqb, ne-eqb, lt-ltb, le-ltb, ltb-true, eqb-true}
 use mir.Val.{boolByte}
 use Rattle.laws.specs.All.{many}
@@ -17,9 +17,8 @@ use Rattle.laws.specs.Each.{each}
 use Rattle.laws.proofs.Branch.{and-true}
 use Rattle.laws.proofs.Many.{many-more, many-few, counted-on}
 use Rattle.laws.proofs.Each.{each-more, each-word}
-use Rattle.laws.proofs.InPlace.{Walked, walk-none, walk-read, walk-two, walk-at, walk-as, walk-count, walk-whole, word-put}
+use Rattle.laws.proofs.InPlace.{Walked, walk-none, walk-read, walk-two, walk-at, walk-as, walk-whole, word-put}
 use Rattle.lent.specs.Chunk.{chunkCount, opAt, operandAt, isPhi}
-use Rattle.positions.specs.Remap.{alive}
 use Rattle.code.specs.Op.{Phi}
 use Rattle.phi_pass.specs.Phi.{paired, leftSource, rightSource, noop, phiMarkAt, marked, pairLeft, pairsLeft, phiEntry, indexed}
 use Rattle.phi_pass.specs.Inner.{spread}

@@ -1,17 +1,16 @@
 -- Fold, clear, fold: what each call leaves is accepted by the next, the code cut at the answered count. Assumes nothing.
 use Prim.Native.Nat.{ℕ, _≤_}
-use mathlib.Core.Path.{_≡_, refl, sym, ap, _∙_}
+use mathlib.Core.Path.{_≡_, refl, sym}
 use mathlib.Core.Bool.{Bool}
 use mathlib.Core.List.{List}
 use lib.ListN.{length}
 use borrow.Author.Tests.{le-ltb}
 use Rattle.code.specs.declared.Checked.the-variants.{Count}
 use Rattle.lent.specs.declared.Counts.{Counts}
-use Rattle.lent.specs.declared.Lens.{Lens}
 use Rattle.optimizer.specs.Fold.{lensOf}
 use Rattle.optimizer.specs.declared.Folded.{Folded}
 use Rattle.clear.specs.Clear as clearing
-use Rattle.named.specs.Unused.{constantNamed, before, pooled}
+use Rattle.named.specs.Unused.{constantNamed, before}
 use Rattle.clear.proofs.Answers.{answered-call, answered}
 use Rattle.clear.proofs.Accepts.{accepted-after}
 use Rattle.clear.proofs.Kept.{pooled-length}

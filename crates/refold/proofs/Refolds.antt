@@ -3,14 +3,14 @@ use Prim.Native.Nat.{ℕ, _+_, _≤_, _<_}
 use native.Mathlib.Omega.{arith}
 use mathlib.Core.Path.{_≡_, refl, sym, ap, _∙_}
 use mathlib.Core.Logic.{⊎-elim}
-use mathlib.Core.Bool.{Bool, true}
+use mathlib.Core.Bool.{Bool}
 use mathlib.Core.List.{List, [], _∷_, _++_}
-use lib.ListN.{length, getD, take, drop, replicate}
+use lib.ListN.{length, getD, drop}
 use borrow.Author.Tests.{lt-ltb, le-ltb}
 use Rattle.code.specs.declared.Checked.the-variants.{Count}
 use Rattle.lent.specs.Chunk.{chunkCount, operandAt}
 use Rattle.lent.specs.Tables.{constantKept, within}
-use Rattle.lent.specs.Check.{sourceRoom, tallyOf}
+use Rattle.lent.specs.Check.{sourceRoom}
 use Rattle.lent.proofs.Kept.{kinds-there, words-there}
 use Rattle.laws.specs.All.{every}
 use Rattle.laws.proofs.Branch.{and-true}
@@ -20,7 +20,7 @@ use Rattle.fold.specs.Plan.{Chunk}
 use Rattle.landings.specs.Landings.{landingsOf}
 use Rattle.fold.specs.Pass.{byScan, foldAll}
 use Rattle.positions.specs.Moved.{movedAll}
-use Rattle.finish.specs.Finish.{Tables, tables, finished}
+use Rattle.finish.specs.Finish.{Tables, tables}
 use Rattle.optimizer.specs.Fold.{Buffers, buffers, lensOf, needed, sourcesNeeded, foldPass, constantFold, joinedBuffers}
 use Rattle.optimizer.specs.declared.Folded.{Folded}
 use Rattle.named.specs.Unused.{AllNear, constantNamed, before as number, pooled, recoded, loaded}

@@ -13,7 +13,7 @@ use mir.Val.{boolByte}
 use borrow.Author.Tests.{eqb-true, eqb-false}
 use Rattle.laws.specs.All.{many}
 use Rattle.laws.proofs.Branch.{and-true}
-use Rattle.laws.proofs.Many.{bit-small, many-fewer}
+use Rattle.laws.proofs.Many.{many-fewer}
 use Rattle.code.specs.Op.{LoadConst, LoadTrue, LoadFalse}
 use Rattle.lent.specs.Chunk.{chunkCount, opAt, folds}
 use Rattle.positions.specs.Remap.{alive}
@@ -24,8 +24,7 @@ use Rattle.chunk.specs.declared.Kept.{Kept}
 use Rattle.chunk.specs.declared.Kept.the-variants.{At, Full}
 use Rattle.chunk.proofs.Store.{kept-few}
 use Rattle.fold.specs.Plan.{Chunk, planAt}
-use Rattle.fold.specs.Pass.{Loading, loadOf, constLoad, put, landed, applied, tryFold, Bars, folded, foldAll}
-use Rattle.fold.specs.Inner.{PassRoom}
+use Rattle.fold.specs.Pass.{loadOf, constLoad, put, landed, applied, tryFold, Bars, folded, foldAll}
 use Rattle.fold.specs.declared.Loaded.{Loaded}
 use Rattle.fold.specs.declared.Loaded.the-variants.{As, No}
 use Rattle.fold.specs.declared.Plan.{Plan}

@@ -16,9 +16,8 @@ use Rattle.positions.specs.Remap.{alive}
 use Rattle.positions.specs.Moved.{movedAll}
 use Rattle.fold.specs.declared.Kind.{Kind}
 use Rattle.fold.specs.declared.Kind.the-variants.{Binop, Not, Minus, Other}
-use Rattle.optimizer.specs.Fold.{Buffers, buffers, sourcesNeeded, Called}
+use Rattle.optimizer.specs.Fold.{Buffers, buffers, sourcesNeeded, Called, Is}
 use Rattle.optimizer.specs.declared.Folded.{Folded}
-use Rattle.optimizer.specs.Fold.{Is}
 use Rattle.refold.specs.Lending.{Lending, lending, foldLeaving}
 
 -- a fold that answers f only pushes: constants below the old count stay, and so do entries past the new one and both lengths

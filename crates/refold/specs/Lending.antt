@@ -5,8 +5,7 @@ use lib.ListN.{length}
 use Rattle.code.specs.declared.Checked.{Checked}
 use Rattle.lent.specs.Check.{readyOf}
 use Rattle.lent.specs.declared.Counts.{Counts}
-use Rattle.optimizer.specs.Fold.{Buffers, lensOf, foldOutcome, Called, called}
-use Rattle.optimizer.specs.Fold.{FoldAnswer}
+use Rattle.optimizer.specs.Fold.{Buffers, lensOf, foldOutcome, Called, called, FoldAnswer}
 
 pub record Lending : Type 0 where
   pub buffers : Buffers

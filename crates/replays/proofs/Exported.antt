@@ -1,30 +1,25 @@
 -- The promises of the replay at the exported call, each in a sentence. Assumes nothing.
-use mathlib.Core.Path.{_≡_, refl, sym, ap, ap₂, _∙_, subst}
+use mathlib.Core.Path.{_≡_, refl, sym, ap, _∙_, subst}
 use mathlib.Core.Logic.{_≢_}
-use mathlib.Core.Bool.{Bool, true, false}
+use mathlib.Core.Bool.{true}
 use mathlib.Core.List.{List}
-use Prim.Native.Nat.{ℕ, zero, suc, _+_, _≤_, _<_}
+use Prim.Native.Nat.{ℕ, suc, _+_, _≤_, _<_}
 use native.Mathlib.Omega.{arith}
-use lib.ListN.{length, getD}
+use lib.ListN.{length}
 use Rattle.laws.specs.Page.{among}
 use Rattle.laws.specs.Table.{filledTo}
 use Rattle.code.specs.Ins.{count}
-use Rattle.code.specs.Answers.{answerOf, refusedOf}
+use Rattle.code.specs.Answers.{answerOf}
 use Rattle.code.specs.declared.Answer.{Answer}
-use Rattle.code.specs.declared.Refusal.{Refusal}
-use Rattle.code.specs.declared.Checked.{Checked}
 use Rattle.code.specs.declared.Checked.the-variants as stage
-use Rattle.flow.specs.Flow.{Flow}
 use Rattle.steps.specs.Code.{afterAt, flow}
 use Rattle.blocks.specs.Blocks.{slotAt, stepsOf}
 use Rattle.trace.specs.Trace.{verdictOf, Recorded}
 use Rattle.day.specs.Count.{readsIn, levelsIn}
 use Rattle.day.specs.Day.{replayStages, Day, refused, check, filler, move, told}
 use Rattle.day.specs.Answers.{dayTold}
-use Rattle.trace.specs.declared.Verdict.{Verdict}
 use Rattle.trace.specs.declared.Verdict.the-variants as found
 use Rattle.day.specs.declared.DayAnswer.{DayAnswer}
-use Rattle.day.specs.declared.DayAnswer.the-variants.{Is, No, Check, Filler, Move}
 use Rattle.trace.proofs.Runs.{fine-recorded, recorded-fine}
 use Rattle.day.proofs.Days.{steps-below}
 use Rattle.answers.specs.Answers.{ReplayTold}

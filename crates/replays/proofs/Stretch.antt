@@ -1,15 +1,14 @@
 -- A stretch of a trace whose moves are all named by "after" is a run of demand 3's machine. Assumes nothing.
-use mathlib.Core.Path.{_≡_, refl, sym, ap, ap₂, _∙_, subst}
+use mathlib.Core.Path.{_≡_, refl, sym, ap, _∙_, subst}
 use mathlib.Core.Bool.{Bool, true, false, cond, _||_, false≢true}
 use mathlib.Core.List.{List, [], _∷_, map}
 use Prim.Native.Nat.{ℕ, zero, suc, _+_, _≤_, _<_}
 use native.Mathlib.Omega.{arith}
 use borrow.Author.Tests.{lt-ltb, eqb-true}
-use lib.Dec.{eqb, ltb}
+use lib.Dec.{eqb}
 use lib.ListN.{getD, drop}
 use Rattle.laws.specs.Page.{among}
 use Rattle.code.specs.Ins.{count}
-use Rattle.flow.specs.Flow.{Flow}
 use Rattle.flow.specs.Run.{run, valuesOf, chosen, fileAfter}
 use Rattle.steps.specs.Code.{afterAt, flow}
 use Rattle.blocks.specs.Blocks.{slotAt}

@@ -1,5 +1,5 @@
 -- The stack machine of a chunk: document 02, wish 14. Assumes nothing.
-use Prim.Native.Nat.{ℕ, zero, suc, _≤_, _<_}
+use Prim.Native.Nat.{ℕ, suc, _≤_, _<_}
 use mathlib.Core.Path.{_≡_}
 use mathlib.Core.Bool.{Bool, true, false, not, cond, _||_}
 use mathlib.Core.List.{List, [], _∷_}
@@ -7,7 +7,7 @@ use lib.Dec.{eqb}
 use lib.IntN.{pos}
 use lib.ListN.{getD}
 use Rattle.code.specs.Op as op
-use Rattle.lent.specs.Chunk.{opAt, operandAt, marksJump, folds}
+use Rattle.lent.specs.Chunk.{opAt, operandAt, marksJump}
 use Rattle.values.specs.Python.{eqZ}
 use Rattle.values.specs.Folds.{foldBinop, foldNeg, isZero}
 use Rattle.values.specs.declared.Val.{Val}

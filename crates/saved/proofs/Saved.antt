@@ -1,12 +1,9 @@
 -- Demand 3 through the saver, from what the kept-register call answered and left. Assumes nothing.
-use mathlib.Core.Path.{_≡_, refl, sym, ap, _∙_, subst}
-use mathlib.Core.Logic.{_⊎_, inl, inr}
-use mathlib.Core.Bool.{Bool, true, false, cond}
+use mathlib.Core.Path.{_≡_, sym, ap, subst}
+use mathlib.Core.Bool.{Bool, true}
 use mathlib.Core.List.{List, List·Memᴰ}
 use Prim.Native.Nat.{ℕ, _+_, _*_, _≤_, _<_}
 use borrow.Author.Tests.{lt-ltb, le-ltb}
-use native.Mathlib.Decide.{decLt}
-use native.Mathlib.Omega.{arith}
 use lib.ListN.{length}
 use Rattle.code.specs.Ins.{insAt, count}
 use Rattle.flow.specs.Set.{alone}

@@ -8,7 +8,7 @@ use Rattle.roles.specs.Sets.{from}
 use Rattle.touch.proofs.Sets.{among-from}
 use Rattle.touch.proofs.Written.{among-append}
 use Rattle.steps.specs.Step.{named}
-use Rattle.steps.specs.Inner.{usedOf, givenOf}
+use Rattle.steps.specs.Inner.{givenOf}
 use Rattle.steps.specs.declared.Step.{Step}
 
 pub given-is : (s : Step) (r : ℕ) (t : Bool) → t ≡ among r (named (s .given) (s .a) (s .b) (s .c))

@@ -1,23 +1,21 @@
 -- The search's loop over steps: what its turns are in the laws of a search. Assumes nothing.
 use mathlib.Core.Path.{_≡_, refl, sym, _∙_, ap}
-use mathlib.Core.Logic.{_⊎_, inl, inr, ⊎-elim}
+use mathlib.Core.Logic.{⊎-elim}
 use mathlib.Core.Bool.{Bool, true, false, _&&_, false≢true}
 use mathlib.Core.List.{List}
 use Prim.Native.Nat.{ℕ, _+_, _-_, _/_, _<_, _≤_}
-use native.Mathlib.Nat.{eq-or-lt-of-le}
 use native.Mathlib.Omega.{arith}
 use borrow.Author.Tests.{ltb-true}
 use lib.Dec.{ltb}
 use lib.ListN.{length, getD, set}
-use lib.Seq.{getD-set-same, getD-set-other}
+use lib.Seq.{getD-set-same}
 use mir.Val.{boolByte}
 use Rattle.laws.specs.Page.{among}
 use Rattle.laws.proofs.Byte.{byte-small}
 use Rattle.code.specs.Ins.{count}
-use Rattle.steps.specs.Code.{afterAt}
 use Rattle.steps.specs.Inner.{usedOf, givenOf, StepAt}
 use Rattle.steps.specs.declared.Step.{Step}
-use Rattle.paths.specs.Search.{Reach, here, later, ways}
+use Rattle.paths.specs.Search.{here, later, ways}
 use Rattle.paths.specs.Inner.{pushed, Searched, owed}
 use Rattle.paths.proofs.Depth.{push-only, pushed-long}
 use Rattle.paths.proofs.Loop as path

@@ -1,9 +1,9 @@
 -- The instructions that come after one: which they are, and how many. Assumes nothing.
-use mathlib.Core.Path.{_≡_, refl, sym, _∙_, ap}
+use mathlib.Core.Path.{_≡_, refl, sym, _∙_}
 use mathlib.Core.Logic.{⊎-elim}
 use mathlib.Core.Bool.{Bool, true, false, cond, _&&_, true≢false}
-use mathlib.Core.List.{List, [], _∷_, List·Memᴰ, List·Memᴰ·head, List·Memᴰ·tail, List·Memᴰ·cases-cons, List·Memᴰ·not-nil}
-use Prim.Native.Nat.{ℕ, zero, suc, _+_, _<_, _≤_, min}
+use mathlib.Core.List.{List, [], _∷_, List·Memᴰ, List·Memᴰ·head, List·Memᴰ·tail, List·Memᴰ·cases-cons}
+use Prim.Native.Nat.{ℕ, suc, _+_, _<_, _≤_, min}
 use native.Mathlib.Omega.{arith}
 use borrow.Author.Tests.{lt-ltb, le-ltb, ltb-true, eqb-true}
 use lib.Dec.{eqb, ltb}
@@ -16,8 +16,7 @@ use Rattle.roles.specs.Kinds.{page, ruleOf, kindsOf, isJump}
 use Rattle.steps.specs.Code.{afterAt}
 use Rattle.paths.specs.Search.{ways, Turns}
 use Rattle.paths.specs.Inner.{owed}
-use Rattle.paths.proofs.Turns.{owed-most, owed-first}
-use Rattle.paths.proofs.Turns.{few-turns as turns-owed}
+use Rattle.paths.proofs.Turns.{owed-most, owed-first, few-turns as turns-owed}
 use Rattle.seek.specs.Asked.{seekWithin, seekNext, jumpsIn}
 
 -- ---- which

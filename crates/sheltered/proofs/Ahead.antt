@@ -8,7 +8,7 @@ use Rattle.code.specs.Ins.{count}
 use Rattle.flow.specs.Flow.{reach}
 use Rattle.flow.specs.Sweep.{tally, below, backs, startOf, Found}
 use Rattle.flow.proofs.Answer.{found-few, found-lost, start-le}
-use Rattle.steps.specs.Code.{flow, jumpsBack}
+use Rattle.steps.specs.Code.{jumpsBack}
 use Rattle.kept.proofs.Counts.{jumps-back}
 use Rattle.kept.proofs.Demand.{inside}
 use Rattle.nested.specs.Raising.{raising, mays, beginsAt}

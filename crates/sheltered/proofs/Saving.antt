@@ -1,26 +1,24 @@
 -- Calls that go through the exported frame saver are calls of the machine of nested frames, so their runs are sheltered too. Assumes nothing.
-use mathlib.Core.Path.{_≡_, refl, sym, ap, ap₂, _∙_, subst}
-use mathlib.Core.Logic.{_≢_, ⊎-elim}
+use mathlib.Core.Path.{_≡_, refl, sym, ap, _∙_, subst}
+use mathlib.Core.Logic.{⊎-elim}
 use mathlib.Core.Bool.{Bool, true, false, cond}
-use mathlib.Core.List.{List, [], _∷_, _++_, List·Memᴰ·head, List·Memᴰ·tail}
-use Prim.Native.Nat.{ℕ, zero, suc, _+_, _^_, _≤_, _<_}
+use mathlib.Core.List.{List, [], _∷_, List·Memᴰ·head, List·Memᴰ·tail}
+use Prim.Native.Nat.{ℕ, zero, suc, _^_, _≤_, _<_}
 use native.Mathlib.Decide.{decLt, ℕ-discrete}
 use native.Mathlib.Omega.{arith}
 use borrow.Author.Tests.{lt-ltb, le-ltb}
 use lib.Dec.{ltb}
-use lib.ListN.{length, getD, take, replicate}
+use lib.ListN.{length, getD}
 use lib.Seq.{ext-getD, length-take-le}
-use Rattle.code.specs.Ins.{insAt, count}
+use Rattle.code.specs.Ins.{count}
 use Rattle.code.specs.declared.Answer.{Answer}
 use Rattle.flow.specs.Set.{bit, alone}
-use Rattle.flow.specs.Flow.{joined}
-use Rattle.flow.specs.Run.{valuesOf, wrote, fileAfter, chosen}
+use Rattle.flow.specs.Run.{valuesOf, wrote, chosen}
 use Rattle.flow.specs.Kept.{handlersOf}
 use Rattle.flow.proofs.Bits.{bit-zero, pow-here, pow-other}
 use Rattle.flow.proofs.Rows.{In, joined-in, joined-has}
 use Rattle.flow.proofs.Steps.{wrote-kept, wrote-new}
 use Rattle.steps.specs.Code.{setOf}
-use Rattle.steps.specs.Level.{isLevel}
 use Rattle.kept.specs.Level.{resumeOf, resultAt}
 use Rattle.saver.specs.Saver.{Saver, regsOf, enterOf}
 use Rattle.leaves.specs.Leaving.{Back, returned, leaveOf}
@@ -35,7 +33,7 @@ use Rattle.saved.proofs.Exported.{by-call, left-is, played}
 use Rattle.answers.specs.Answers.{LeaveTold}
 use Rattle.exported.specs.Calls.{Lists}
 use Rattle.exported.specs.Told.{listLeft}
-use Rattle.nested.specs.Machine.{Event, step, back, thrown, nested, undisturbed, Spares}
+use Rattle.nested.specs.Machine.{Event, thrown, nested, undisturbed, Spares}
 use Rattle.nested.specs.Raising.{raising, levels, mays, argsAt, frame}
 use Rattle.nested.specs.Exposed.{exposed}
 use Rattle.nested.proofs.Exposed.{exposed-only, exposed-or}

@@ -8,8 +8,8 @@ use native.Mathlib.Decide.{decLt}
 use native.Mathlib.Omega.{arith}
 use borrow.Author.Tests.{ne-eqb, lt-ltb, le-ltb}
 use lib.Dec.{eqb, ltb}
-use lib.ListN.{length, getD, List·getD-eq-default}
-use Rattle.code.specs.Op.{JumpIfFalseR, Call, ArgsR}
+use lib.ListN.{List·getD-eq-default}
+use Rattle.code.specs.Op.{JumpIfFalseR, Call}
 use Rattle.code.specs.Ins.{insAt, count, isCall, wide}
 use Rattle.code.specs.Inner.{Valid}
 use Rattle.code.specs.declared.Ins.{Ins}

@@ -2,12 +2,11 @@
 use mathlib.Core.Path.{_≡_, refl, sym, ap, _∙_}
 use mathlib.Core.Bool.{Bool, true, false, not, cond, _&&_}
 use mathlib.Core.List.{List, [], _∷_}
-use Prim.Native.Nat.{ℕ, zero, suc, _+_, _*_, _/_, _%_, _^_, _≤_, _<_, min}
+use Prim.Native.Nat.{ℕ, zero, suc, _*_, _/_, _%_, _^_, _≤_, _<_, min}
 use native.Mathlib.Omega.{arith}
 use types.Run.{OneOf}
 use borrow.Author.Tests.{eqb-true, ltb-true, ltb-false}
 use lib.Dec.{eqb, ltb}
-use lib.ListN.{getD}
 use Rattle.laws.specs.Page.{Row, among, look}
 use Rattle.laws.proofs.Branch.{and-true}
 use Rattle.laws.proofs.Keys.{sorted, row, apart, named, unnamed, Rest}

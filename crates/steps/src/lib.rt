@@ -1,7 +1,6 @@
 // What a sweep sees of lent code: levels, the registers that a position uses and gives up, and what comes after it (block.rs: `level_at`, `live_rows`).
 ghost use mathlib.Core.Path.{_≡_};
-ghost use Prim.Native.Nat.{_+_, _-_, _*_, _/_, _%_, _<_, _≤_, min};
-ghost use lib.ListN.{length};
+ghost use Prim.Native.Nat.{_+_, _-_, _*_, _/_, _%_, _<_, min};
 ghost use Rattle.code.specs.Ins.{insAt, count};
 ghost use Rattle.code.specs.Inner.{Whole, Valid};
 ghost use Rattle.roles.specs.Kinds.{kindsOf};

@@ -9,7 +9,7 @@ use lib.ListN.{take}
 use lib.Seq.{take-nil}
 use Rattle.code.specs.declared.Ins.{Ins}
 use Rattle.roles.specs.Kinds.{a, b, c, dest, none, has, abc, total, firstOf, hasRole, kindsOf}
-use Rattle.roles.specs.Sets.{only, from, inARow, caseOf, used, given, written, usedBy, givenBy}
+use Rattle.roles.specs.Sets.{only, from, caseOf, used, given, written, usedBy, givenBy}
 use Rattle.roles.specs.declared.Case.{Case}
 use Rattle.roles.specs.declared.Case.the-variants.{Store, Unpack, Enter, Exit, Judge, Step, Plain}
 use Rattle.touch.specs.Touch.{named, touch, touchBy, touchOf, writtenBy, plainOf}

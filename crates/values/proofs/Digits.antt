@@ -1,6 +1,6 @@
 -- The bitwise operators. The formulas of specs/Python.antt satisfy the law `Digitwise` (`and-law`, `or-law`, `xor-law`), and two numbers that satisfy it
 -- are equal (`one-digits`), since two numbers with equal digits are (`same-digits`). Assumes nothing.
-use Prim.Native.Nat.{ℕ, zero, suc, _+_, _-_, _*_, _/_, _%_, _^_, _<_}
+use Prim.Native.Nat.{ℕ, zero, suc, _+_, _*_, _/_, _%_, _^_, _<_}
 use native.Mathlib.Nat.{pow-suc}
 use native.Mathlib.Omega.{arith}
 use mathlib.Core.Path.{_≡_, sym, ap, _∙_}

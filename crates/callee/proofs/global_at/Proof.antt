@@ -27,23 +27,7 @@ module _ (w : List ℕ) (j : ℕ) (i : Ins) (e : i ≡ insAt w j) where
     unfolding globalOf
     no-call o = rw (ne-eqb (insAt w j .op) CallGlobalR (rw e at n), ne-eqb (insAt w j .op) CallR (rw e at o))
 
-ins-at-requires : tie.Need-ins-at-requires
-ins-at-requires c κs = search needs
-
-returns : tie.Need-returns
-returns c = search (by-name, by-trace, no-call)
-
-table-requires : tie.Need-table-requires
-table-requires c κs = search needs
-
-trace-requires : tie.Need-trace-requires
-trace-requires c κs = search needs
-
-returns-2 : tie.Need-returns-2
-returns-2 c = search (by-name, by-trace, no-call)
-
-returns-3 : tie.Need-returns-3
-returns-3 c = search (by-name, by-trace, no-call)
-
 pub global-at-spec : {M : Type 1} → statement M
-global-at-spec = tie.close (tie.spec ins-at-requires returns table-requires trace-requires returns-2 returns-3)
+global-at-spec =
+    tie.close (tie.spec (λ c κs. search needs) (λ c. search (by-name, by-trace, no-call)) (λ c κs. search needs) (λ c κs. search needs)
+    (λ c. search (by-name, by-trace, no-call)) (λ c. search (by-name, by-trace, no-call)))

@@ -22,39 +22,6 @@ module _ (w : List ℕ) (k : ℕ) (v : Callee) (h : v ≡ globalOf w k) (a : Ans
   nothing : v ≡ Unknown → a ≡ answerOf 0 0 0 0 → a ≡ globalTold (globalOf w k)
   nothing t z = rw (← h, t) z
 
-check-requires : tie.Need-check-requires
-check-requires c κs = search needs
-
-inside-requires : tie.Need-inside-requires
-inside-requires c κs = search needs
-
-enum-known-r : tie.Need-enum-known-r
-enum-known-r c = search needs
-
-refused-requires : tie.Need-refused-requires
-refused-requires c κs = search needs
-
-enum-told : tie.Need-enum-told
-enum-told c = search needs
-
-global-at-requires : tie.Need-global-at-requires
-global-at-requires c κs = search (passing, at-in)
-
-enum-known-b : tie.Need-enum-known-b
-enum-known-b c = search needs
-
-cast-tell : tie.Need-cast-tell
-cast-tell c = search needs
-
-tell-requires : tie.Need-tell-requires
-tell-requires c κs = search needs
-
-enum-told-2 : tie.Need-enum-told-2
-enum-told-2 c = search needs
-
-tell-requires-2 : tie.Need-tell-requires-2
-tell-requires-2 c κs = search needs
-
 returns : tie.Need-returns
 unfolding globalAnswer
 returns c = search (refused, told, is, nothing, onward)
@@ -69,19 +36,6 @@ returns-3 c = search (refused, told, is, nothing, onward)
 
 pub global-of-spec : {M : Type 1} → statement M
 global-of-spec =
-    tie.close
-    (tie.spec
-    check-requires
-    inside-requires
-    enum-known-r
-    refused-requires
-    enum-told
-    global-at-requires
-    enum-known-b
-    cast-tell
-    tell-requires
-    enum-told-2
-    tell-requires-2
-    returns
-    returns-2
-    returns-3)
+    tie.close (tie.spec (λ c κs. search needs) (λ c κs. search needs) (λ c. search needs) (λ c κs. search needs) (λ c. search needs)
+    (λ c κs. search (passing, at-in)) (λ c. search needs) (λ c. search needs) (λ c κs. search needs) (λ c. search needs) (λ c κs. search needs)
+    returns returns-2 returns-3)

@@ -15,11 +15,5 @@ is : (i : Ins) (b : Bool) → b ≡ hasRole i
 unfolding passesBy
 is i b e = rw e
 
-has-role-in-requires : tie.Need-has-role-in-requires
-has-role-in-requires c κs = search needs
-
-returns : tie.Need-returns
-returns c = search is
-
 pub passes-by-spec : {M : Type 1} → statement M
-passes-by-spec = tie.close (tie.spec has-role-in-requires returns)
+passes-by-spec = tie.close (tie.spec (λ c κs. search needs) (λ c. search is))

@@ -15,11 +15,5 @@ is : (i : Ins) (a : ℕ) (b : Bool) → b ≡ writes i a → b && not (eqb (i .o
 unfolding setsIt
 is i a b e = rw e
 
-writes-in-requires : tie.Need-writes-in-requires
-writes-in-requires c κs = search needs
-
-returns : tie.Need-returns
-returns c = search is
-
 pub sets-it-spec : {M : Type 1} → statement M
-sets-it-spec = tie.close (tie.spec writes-in-requires returns)
+sets-it-spec = tie.close (tie.spec (λ c κs. search needs) (λ c. search is))

@@ -58,59 +58,10 @@ module _ (w : List ℕ) (d a : ℕ) (i : Ins) (e : i ≡ insAt w d) (b : Bool) (
 fits : (w : List ℕ) (d a p : ℕ) (v : Place) → Valid w → d < count w → v ≡ pushedBack w d a → v ≡ At p → p < 65536
 fits w d a p v k l g h = let few : count w ≤ 65535 = k .few in omega (arith, pushed-falls w d a p (sym h ∙ g))
 
-ins-at-requires : tie.Need-ins-at-requires
-ins-at-requires c κs = search needs
-
-sets-it-requires : tie.Need-sets-it-requires
-sets-it-requires c κs = search needs
-
-pushed-back-of-requires : tie.Need-pushed-back-of-requires
-pushed-back-of-requires c κs = search needs
-
-enum-known-p : tie.Need-enum-known-p
-enum-known-p c = search needs
-
-cast-t10 : tie.Need-cast-t10
-cast-t10 c = search (needs, fits)
-
-returns : tie.Need-returns
-returns c = search (to-push, to-none, loaded, written, passes, lost)
-
-enum-told : tie.Need-enum-told
-enum-told c = search needs
-
-returns-2 : tie.Need-returns-2
-returns-2 c = search (to-push, to-none, loaded, written, passes, lost)
-
-returns-3 : tie.Need-returns-3
-returns-3 c = search (to-push, to-none, loaded, written, passes, lost)
-
-returns-4 : tie.Need-returns-4
-returns-4 c = search (to-push, to-none, loaded, written, passes, lost)
-
-passes-by-requires : tie.Need-passes-by-requires
-passes-by-requires c κs = search needs
-
-returns-5 : tie.Need-returns-5
-returns-5 c = search (to-push, to-none, loaded, written, passes, lost)
-
-returns-6 : tie.Need-returns-6
-returns-6 c = search (to-push, to-none, loaded, written, passes, lost)
-
 pub step-at-spec : {M : Type 1} → statement M
 step-at-spec =
-    tie.close
-    (tie.spec
-    ins-at-requires
-    sets-it-requires
-    pushed-back-of-requires
-    enum-known-p
-    cast-t10
-    returns
-    enum-told
-    returns-2
-    returns-3
-    returns-4
-    passes-by-requires
-    returns-5
-    returns-6)
+    tie.close (tie.spec (λ c κs. search needs) (λ c κs. search needs) (λ c κs. search needs) (λ c. search needs) (λ c. search (needs, fits))
+    (λ c. search (to-push, to-none, loaded, written, passes, lost)) (λ c. search needs)
+    (λ c. search (to-push, to-none, loaded, written, passes, lost)) (λ c. search (to-push, to-none, loaded, written, passes, lost))
+    (λ c. search (to-push, to-none, loaded, written, passes, lost)) (λ c κs. search needs)
+    (λ c. search (to-push, to-none, loaded, written, passes, lost)) (λ c. search (to-push, to-none, loaded, written, passes, lost)))

@@ -9,29 +9,9 @@ returns : tie.Need-returns
 unfolding constToVal
 returns c = search (needs, branch)
 
-shared-slice-read-to-val : tie.Need-shared-slice-read-to-val
-shared-slice-read-to-val c = search needs
-
-mul-to-val : tie.Need-mul-to-val
-mul-to-val c = search needs
-
-shared-slice-read-to-val-2 : tie.Need-shared-slice-read-to-val-2
-shared-slice-read-to-val-2 c = search needs
-
-to-val-requires : tie.Need-to-val-requires
-to-val-requires c κs = search needs
-
 returns-2 : tie.Need-returns-2
 unfolding constToVal
 returns-2 c = search (needs, branch)
 
 pub const-to-val-spec : {M : Type 1} → statement M
-const-to-val-spec =
-    tie.close
-    (tie.spec
-    returns
-    shared-slice-read-to-val
-    mul-to-val
-    shared-slice-read-to-val-2
-    to-val-requires
-    returns-2)
+const-to-val-spec = tie.close (tie.spec returns (λ c. search needs) (λ c. search needs) (λ c. search needs) (λ c κs. search needs) returns-2)

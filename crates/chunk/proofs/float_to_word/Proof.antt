@@ -13,8 +13,5 @@ returns c = sym (ap (toBits binary64) (self-ne (c .before .args .f) (c .if1 .tak
 float-to-bits-result : tie.Need-float-to-bits-result
 float-to-bits-result c = self-eq (c .before .args .f) (c .if1 .left)
 
-returns-2 : tie.Need-returns-2
-returns-2 c = search needs
-
 pub float-to-word-spec : {M : Type 1} → statement M
-float-to-word-spec = tie.close (tie.spec returns float-to-bits-result returns-2)
+float-to-word-spec = tie.close (tie.spec returns float-to-bits-result (λ c. search needs))

@@ -15,9 +15,6 @@ low c = rw (back (c .before .fits .i)) at (c .if1 .taken)
 high : (c : tie.Else1) → ltZ (c .before .args .i) (pos 0) ≡ false
 high c = rw (back (c .before .fits .i)) at (c .if1 .left)
 
-sub-result : tie.Need-sub-result
-sub-result c = rw (back (c .before .fits .i)) (not-fits (c .before .fits .i))
-
 cast-result : tie.Need-cast-result
 cast-result c =
     let s = c .before in
@@ -35,9 +32,7 @@ cast-result-2 c = let s = c .before in rw (back (s .fits .i)) (up (s .args .i) (
 returns : tie.Need-returns
 returns c = let s = c .before in rw (back (s .fits .i), back (not-fits (s .fits .i))) (neg-word (s .args .i) (low c) (s .fits .i .sfits))
 
-returns-2 : tie.Need-returns-2
-returns-2 c = rw (back (c .before .fits .i)) (pos-word (c .before .args .i) (high c))
-
 pub int-to-word-spec : {M : Type 1} → statement M
 int-to-word-spec =
-    tie.close (tie.spec sub-result cast-result sub-result-2 cast-result-2 returns returns-2)
+    tie.close (tie.spec (λ c. rw (back (c .before .fits .i)) (not-fits (c .before .fits .i))) cast-result sub-result-2 cast-result-2 returns
+    (λ c. rw (back (c .before .fits .i)) (pos-word (c .before .args .i) (high c))))

@@ -11,26 +11,14 @@ use Rattle.chunk.proofs.Words.{low-word, high-val, mid-val}
 use Rattle.chunk.proofs.int_val.Statement.{statement}
 use Rattle.chunk.proofs.int_val.Tie as tie
 
-cast-t4 : tie.Need-cast-t4
-cast-t4 c = search needs
-
 returns : tie.Need-returns
 returns c = let w = c .before .args .word in rw (low-word w (c .if1 .taken)) (within (pos w) (c .if1 .taken))
-
-sub-n : tie.Need-sub-n
-sub-n c = search needs
-
-cast-t6 : tie.Need-cast-t6
-cast-t6 c = search needs
 
 n-is : (c : tie.Then2) → toZ w64 (18446744073709551615 - c .before .before .args .word) ≡ pos (18446744073709551615 - c .before .before .args .word)
 n-is c = low-word _ (c .if2 .taken)
 
 fits : (c : tie.Then2) → SFits w64 (negsuc 0 -ℤ pos (18446744073709551615 - c .before .before .args .word))
 fits c = not-fits {a = pos (18446744073709551615 - c .before .before .args .word)} (record { sfits = omega (arith, c .if2 .taken) })
-
-sub-t7 : tie.Need-sub-t7
-sub-t7 c = rw (n-is c) (fits c)
 
 returns-2 : tie.Need-returns-2
 returns-2 c =
@@ -41,4 +29,5 @@ returns-3 : tie.Need-returns-3
 returns-3 c = let s = c .before .before in mid-val (s .args .word) (s .fits .word .fits) (c .before .if1 .left) (c .if2 .left)
 
 pub int-val-spec : {M : Type 1} → statement M
-int-val-spec = tie.close (tie.spec cast-t4 returns sub-n cast-t6 sub-t7 returns-2 returns-3)
+int-val-spec =
+    tie.close (tie.spec (λ c. search needs) returns (λ c. search needs) (λ c. search needs) (λ c. rw (n-is c) (fits c)) returns-2 returns-3)

@@ -11,17 +11,5 @@ swapped true false = refl
 swapped false true = refl
 swapped false false = refl
 
-mul-result : tie.Need-mul-result
-mul-result c = search needs
-
-shared-slice-read-result : tie.Need-shared-slice-read-result
-shared-slice-read-result c = search needs
-
-shared-slice-read-result-2 : tie.Need-shared-slice-read-result-2
-shared-slice-read-result-2 c = search needs
-
-returns : tie.Need-returns
-returns c = search swapped
-
 pub is-at-spec : {M : Type 1} → statement M
-is-at-spec = tie.close (tie.spec mul-result shared-slice-read-result shared-slice-read-result-2 returns)
+is-at-spec = tie.close (tie.spec (λ c. search needs) (λ c. search needs) (λ c. search needs) (λ c. search swapped))

@@ -5,15 +5,9 @@ use Rattle.chunk.specs.Pool.{toVal}
 use Rattle.chunk.proofs.to_val.Statement.{statement}
 use Rattle.chunk.proofs.to_val.Tie as tie
 
-int-val-requires : tie.Need-int-val-requires
-int-val-requires c κs = search needs
-
 returns : tie.Need-returns
 unfolding toVal
 returns c = search (needs, branch)
-
-word-to-float-requires : tie.Need-word-to-float-requires
-word-to-float-requires c κs = search needs
 
 returns-2 : tie.Need-returns-2
 unfolding toVal
@@ -28,6 +22,4 @@ unfolding toVal
 returns-4 c = search (needs, branch)
 
 pub to-val-spec : {M : Type 1} → statement M
-to-val-spec =
-    tie.close
-    (tie.spec int-val-requires returns word-to-float-requires returns-2 returns-3 returns-4)
+to-val-spec = tie.close (tie.spec (λ c κs. search needs) returns (λ c κs. search needs) returns-2 returns-3 returns-4)

@@ -12,8 +12,5 @@ returns c = nan-bits (c .before .args .word) (c .if1 .taken)
 float-from-bits-result : tie.Need-float-from-bits-result
 float-from-bits-result c = plain-bits (c .before .args .word) (c .if1 .left)
 
-returns-2 : tie.Need-returns-2
-returns-2 c = search needs
-
 pub word-to-float-spec : {M : Type 1} → statement M
-word-to-float-spec = tie.close (tie.spec returns float-from-bits-result returns-2)
+word-to-float-spec = tie.close (tie.spec returns float-from-bits-result (λ c. search needs))

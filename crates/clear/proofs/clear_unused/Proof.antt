@@ -4,15 +4,6 @@ use Rattle.clear.proofs.Whole.{low-of, all-of-it}
 use Rattle.clear.proofs.clear_unused.Statement.{statement}
 use Rattle.clear.proofs.clear_unused.Tie as tie
 
-mark-named-requires : tie.Need-mark-named-requires
-mark-named-requires c κs = search needs
-
-keep-requires : tie.Need-keep-requires
-keep-requires c κs = search needs
-
-free-requires : tie.Need-free-requires
-free-requires c κs = search needs
-
 renumber-requires : tie.Need-renumber-requires
 renumber-requires c κs = (
   search needs,
@@ -20,31 +11,7 @@ renumber-requires c κs = (
       .before .before .before .before .before .before .keep .ensures),
 )
 
-same-length : tie.Need-same-length
-same-length c = search needs
-
-same-length-2 : tie.Need-same-length-2
-same-length-2 c = search needs
-
-same-length-3 : tie.Need-same-length-3
-same-length-3 c = search needs
-
-same-length-4 : tie.Need-same-length-4
-same-length-4 c = search needs
-
-returns : tie.Need-returns
-returns c = search all-of-it
-
 pub clear-unused-spec : {M : Type 1} → statement M
 clear-unused-spec =
-    tie.close
-    (tie.spec
-    mark-named-requires
-    keep-requires
-    free-requires
-    renumber-requires
-    same-length
-    same-length-2
-    same-length-3
-    same-length-4
-    returns)
+    tie.close (tie.spec (λ c κs. search needs) (λ c κs. search needs) (λ c κs. search needs) renumber-requires (λ c. search needs)
+    (λ c. search needs) (λ c. search needs) (λ c. search needs) (λ c. search all-of-it))

@@ -42,35 +42,7 @@ alone w k i t p e h =
     let r = unnamed i k (insAt w (k + 1) .op) q in
     cc
 
-ins-in-requires : tie.Need-ins-in-requires
-ins-in-requires c κs = search needs
-
-has-rule-requires : tie.Need-has-rule-requires
-has-rule-requires c κs = search needs
-
-add-ins-at : tie.Need-add-ins-at
-add-ins-at c = search needs
-
-ins-at-requires : tie.Need-ins-at-requires
-ins-at-requires c κs = search needs
-
-keeps-rules-requires : tie.Need-keeps-rules-requires
-keeps-rules-requires c κs = search needs
-
-returns : tie.Need-returns
-returns c = search joined
-
-returns-2 : tie.Need-returns-2
-returns-2 c = search alone
-
 pub breaks-spec : {M : Type 1} → statement M
 breaks-spec =
-    tie.close
-    (tie.spec
-    ins-in-requires
-    has-rule-requires
-    add-ins-at
-    ins-at-requires
-    keeps-rules-requires
-    returns
-    returns-2)
+    tie.close (tie.spec (λ c κs. search needs) (λ c κs. search needs) (λ c. search needs) (λ c κs. search needs) (λ c κs. search needs)
+    (λ c. search joined) (λ c. search alone))

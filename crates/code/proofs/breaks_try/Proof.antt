@@ -1,5 +1,5 @@
 -- `code::breaks_try` meets its contract: a pair that is cut short, or a whole one. Assumes nothing.
-use mathlib.Core.Path.{_≡_, refl}
+use mathlib.Core.Path.{_≡_}
 use mathlib.Core.Bool.{true, not}
 use mathlib.Core.List.{List}
 use Prim.Native.Nat.{ℕ, _+_, _*_, _<_, _≤_, min}
@@ -20,55 +20,8 @@ module _ (t : List ℕ) (n i : ℕ) where
   unfolding tryKept
   kept s h l w a b m = rw (lt-ltb (2 * i + 1) (length t) w, m, a, b)
 
-mul-at : tie.Need-mul-at
-mul-at c = search needs
-
-add-if1 : tie.Need-add-if1
-add-if1 c = search needs
-
-returns : tie.Need-returns
-returns c = search (cut-short, kept)
-
-mul-wide-of : tie.Need-mul-wide-of
-mul-wide-of c = search needs
-
-shared-slice-read-wide-of : tie.Need-shared-slice-read-wide-of
-shared-slice-read-wide-of c = search needs
-
-wide-of-requires : tie.Need-wide-of-requires
-wide-of-requires c κs = search needs
-
-add-wide-of : tie.Need-add-wide-of
-add-wide-of c = search needs
-
-mul-wide-of-2 : tie.Need-mul-wide-of-2
-mul-wide-of-2 c = search needs
-
-shared-slice-read-wide-of-2 : tie.Need-shared-slice-read-wide-of-2
-shared-slice-read-wide-of-2 c = search needs
-
-wide-of-requires-2 : tie.Need-wide-of-requires-2
-wide-of-requires-2 c κs = search needs
-
-least-requires : tie.Need-least-requires
-least-requires c κs = search needs
-
-returns-2 : tie.Need-returns-2
-returns-2 c = search (cut-short, kept)
-
 pub breaks-try-spec : {M : Type 1} → statement M
 breaks-try-spec =
-    tie.close
-    (tie.spec
-    mul-at
-    add-if1
-    returns
-    mul-wide-of
-    shared-slice-read-wide-of
-    wide-of-requires
-    add-wide-of
-    mul-wide-of-2
-    shared-slice-read-wide-of-2
-    wide-of-requires-2
-    least-requires
-    returns-2)
+    tie.close (tie.spec (λ c. search needs) (λ c. search needs) (λ c. search (cut-short, kept)) (λ c. search needs) (λ c. search needs)
+    (λ c κs. search needs) (λ c. search needs) (λ c. search needs) (λ c. search needs) (λ c κs. search needs) (λ c κs. search needs)
+    (λ c. search (cut-short, kept)))

@@ -19,35 +19,7 @@ module _ (v : Checked) (t : List ℕ) (n i : ℕ) (e : v ≡ Count n) (f : i ≡
   good : pairs t ≤ i → Count n ≡ triedOf v t
   good h = rw (e, ← f, le-ltb i (pairs t) h)
 
-enum-known-v : tie.Need-enum-known-v
-enum-known-v c = search needs
-
-enum-known-v-2 : tie.Need-enum-known-v-2
-enum-known-v-2 c = search needs
-
-first-bad-try-requires : tie.Need-first-bad-try-requires
-first-bad-try-requires c κs = search needs
-
-add-if1 : tie.Need-add-if1
-add-if1 c = search needs
-
-returns : tie.Need-returns
-returns c = search (passed-on, bad, good)
-
-returns-2 : tie.Need-returns-2
-returns-2 c = search (passed-on, bad, good)
-
-returns-3 : tie.Need-returns-3
-returns-3 c = search (passed-on, bad, good)
-
 pub tried-spec : {M : Type 1} → statement M
 tried-spec =
-    tie.close
-    (tie.spec
-    enum-known-v
-    enum-known-v-2
-    first-bad-try-requires
-    add-if1
-    returns
-    returns-2
-    returns-3)
+    tie.close (tie.spec (λ c. search needs) (λ c. search needs) (λ c κs. search needs) (λ c. search needs) (λ c. search (passed-on, bad, good))
+    (λ c. search (passed-on, bad, good)) (λ c. search (passed-on, bad, good)))

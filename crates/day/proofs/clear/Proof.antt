@@ -14,41 +14,7 @@ Inv-loop reads₀ regs r₀ reads r = (r ≤ regs) × (regs ≤ length reads₀)
 abbrev μ-loop : tie.MeasureT-loop
 μ-loop reads₀ regs r₀ reads r = regs - r
 
-loop-holds : tie.Need-loop-holds Inv-loop μ-loop
-loop-holds c = search (needs, fills)
-
-mul-reads : tie.Need-mul-reads Inv-loop μ-loop
-mul-reads c = search needs
-
-slice-write-reads : tie.Need-slice-write-reads Inv-loop μ-loop
-slice-write-reads c = search needs
-
-add-r : tie.Need-add-r Inv-loop μ-loop
-add-r c = search needs
-
-loop-less : tie.Need-loop-less Inv-loop μ-loop
-loop-less c = search needs
-
-loop-again : tie.Need-loop-again Inv-loop μ-loop
-loop-again c = search (needs, fills)
-
-same-length : tie.Need-same-length Inv-loop μ-loop
-same-length c = search needs
-
-returns : tie.Need-returns Inv-loop μ-loop
-returns c = search (needs, fills)
-
 pub clear-spec : {M : Type 1} → statement M
 clear-spec =
-    tie.close
-    (tie.spec
-    Inv-loop
-    μ-loop
-    loop-holds
-    mul-reads
-    slice-write-reads
-    add-r
-    loop-less
-    loop-again
-    same-length
-    returns)
+    tie.close (tie.spec Inv-loop μ-loop (λ c. search (needs, fills)) (λ c. search needs) (λ c. search needs) (λ c. search needs) (λ c. search needs)
+    (λ c. search (needs, fills)) (λ c. search needs) (λ c. search (needs, fills)))

@@ -14,30 +14,6 @@ use Rattle.fields.proofs.role.Tie as tie
 is : (i j : Ins) (k : ℕ) (r : Answer) → i ≡ j → k ≡ kindsOf i → r ≡ roleTold k → r ≡ roleTold (kindsOf j)
 is i j k r e h z = rw (← e, ← h) z
 
-check-requires : tie.Need-check-requires
-check-requires c κs = search needs
-
-inside-requires : tie.Need-inside-requires
-inside-requires c κs = search needs
-
-enum-known-r : tie.Need-enum-known-r
-enum-known-r c = search needs
-
-refused-requires : tie.Need-refused-requires
-refused-requires c κs = search needs
-
-enum-told : tie.Need-enum-told
-enum-told c = search needs
-
-ins-at-requires : tie.Need-ins-at-requires
-ins-at-requires c κs = search passing
-
-kinds-of-requires : tie.Need-kinds-of-requires
-kinds-of-requires c κs = search needs
-
-role-of-requires : tie.Need-role-of-requires
-role-of-requires c κs = search needs
-
 returns : tie.Need-returns
 unfolding roleAnswer
 returns c = search (refused, told, onward)
@@ -48,15 +24,5 @@ returns-2 c = search (refused, told, is, onward)
 
 pub role-spec : {M : Type 1} → statement M
 role-spec =
-    tie.close
-    (tie.spec
-    check-requires
-    inside-requires
-    enum-known-r
-    refused-requires
-    enum-told
-    ins-at-requires
-    kinds-of-requires
-    role-of-requires
-    returns
-    returns-2)
+    tie.close (tie.spec (λ c κs. search needs) (λ c κs. search needs) (λ c. search needs) (λ c κs. search needs) (λ c. search needs)
+    (λ c κs. search passing) (λ c κs. search needs) (λ c κs. search needs) returns returns-2)

@@ -9,29 +9,8 @@ use Rattle.folding.proofs.Call.{le-by, fits, held, refusing, telling}
 use Rattle.folding.proofs.fold.Statement.{statement}
 use Rattle.folding.proofs.fold.Tie as tie
 
-tested-requires : tie.Need-tested-requires
-tested-requires c κs = search needs
-
-same-length : tie.Need-same-length
-same-length c = refl
-
-same-length-2 : tie.Need-same-length-2
-same-length-2 c = refl
-
-same-length-3 : tie.Need-same-length-3
-same-length-3 c = refl
-
-same-length-4 : tie.Need-same-length-4
-same-length-4 c = refl
-
 returns : tie.Need-returns
 returns c = refusing _ _ _ _ _ _ _ _ _ _ _ _ _ (c .before .before .tested .ensures) _ (c .if1 .taken)
-
-add-more : tie.Need-add-more
-add-more c = search needs
-
-sources-needed-requires : tie.Need-sources-needed-requires
-sources-needed-requires c κs = search needs
 
 slice-relend-prefix-constant-fold : tie.Need-slice-relend-prefix-constant-fold
 slice-relend-prefix-constant-fold c = (fits _ _ _ _ _ _ _ _ (c .before .before .before .before .before .before .before .tested .ensures) (c .before .before
@@ -104,9 +83,6 @@ constant-fold-requires c κs = (
       .before .before .if1 .left) refl refl) .room),
 )
 
-told-requires : tie.Need-told-requires
-told-requires c κs = search needs
-
 same-length-5 : tie.Need-same-length-5
 same-length-5 c = c .before .before .before .before .before .before .before .before .before .before .before .before .before .before .before .before .before
     .before .before .before .before .before .code .given
@@ -133,23 +109,8 @@ same-length-9 c = omega (
       .phi-sources .given,
 )
 
-same-length-10 : tie.Need-same-length-10
-same-length-10 c = omega (arith, c .before .before .before .before .before .before .before .before .before .before .before .before .stmt-pos .given)
-
-same-length-11 : tie.Need-same-length-11
-same-length-11 c = omega (arith, c .before .before .before .before .before .before .before .before .before .before .call-byte-pos .given)
-
-same-length-12 : tie.Need-same-length-12
-same-length-12 c = omega (arith, c .before .before .before .before .before .before .before .before .dead .given)
-
-same-length-13 : tie.Need-same-length-13
-same-length-13 c = omega (arith, c .before .before .before .before .before .before .remap .given)
-
 same-length-14 : tie.Need-same-length-14
 same-length-14 c = c .before .before .before .before .tries .given
-
-same-length-15 : tie.Need-same-length-15
-same-length-15 c = omega (arith, c .before .before .landings .given)
 
 returns-2 : tie.Need-returns-2
 returns-2 c = telling _ _ _ _ _ _ _ _ _ _ _ _ _ (c .before .before .before .before .before .before .before .before .before .before .before .before .before
@@ -164,41 +125,14 @@ returns-2 c = telling _ _ _ _ _ _ _ _ _ _ _ _ _ (c .before .before .before .befo
 
 pub fold-spec : {M : Type 1} → statement M
 fold-spec =
-    tie.close
-    (tie.spec
-    tested-requires
-    same-length
-    same-length-2
-    same-length-3
-    same-length-4
-    returns
-    add-more
-    sources-needed-requires
-    slice-relend-prefix-constant-fold
-    slice-aggregate-constant-fold
-    slice-relend-prefix-constant-fold-2
-    slice-aggregate-constant-fold-2
-    slice-relend-prefix-constant-fold-3
-    slice-aggregate-constant-fold-3
-    slice-relend-prefix-constant-fold-4
-    slice-aggregate-constant-fold-4
-    slice-relend-prefix-constant-fold-5
-    slice-aggregate-constant-fold-5
-    slice-relend-prefix-constant-fold-6
-    slice-aggregate-constant-fold-6
-    slice-relend-prefix-constant-fold-7
-    slice-aggregate-constant-fold-7
-    constant-fold-requires
-    told-requires
-    same-length-5
-    same-length-6
-    same-length-7
-    same-length-8
-    same-length-9
-    same-length-10
-    same-length-11
-    same-length-12
-    same-length-13
-    same-length-14
-    same-length-15
-    returns-2)
+    tie.close (tie.spec (λ c κs. search needs) (λ c. refl) (λ c. refl) (λ c. refl) (λ c. refl) returns (λ c. search needs) (λ c κs. search needs)
+    slice-relend-prefix-constant-fold slice-aggregate-constant-fold slice-relend-prefix-constant-fold-2 slice-aggregate-constant-fold-2
+    slice-relend-prefix-constant-fold-3 slice-aggregate-constant-fold-3 slice-relend-prefix-constant-fold-4 slice-aggregate-constant-fold-4
+    slice-relend-prefix-constant-fold-5 slice-aggregate-constant-fold-5 slice-relend-prefix-constant-fold-6 slice-aggregate-constant-fold-6
+    slice-relend-prefix-constant-fold-7 slice-aggregate-constant-fold-7 constant-fold-requires (λ c κs. search needs) same-length-5 same-length-6
+    same-length-7 same-length-8 same-length-9
+    (λ c. omega (arith, c .before .before .before .before .before .before .before .before .before .before .before .before .stmt-pos .given))
+    (λ c. omega (arith, c .before .before .before .before .before .before .before .before .before .before .call-byte-pos .given))
+    (λ c. omega (arith, c .before .before .before .before .before .before .before .before .dead .given))
+    (λ c. omega (arith, c .before .before .before .before .before .before .remap .given)) same-length-14
+    (λ c. omega (arith, c .before .before .landings .given)) returns-2)

@@ -50,48 +50,9 @@ Inv-loop code n opened₀ closed₀ k₀ opened closed k = (k ≤ n) × (opened 
 abbrev μ-loop : tie.MeasureT-loop
 μ-loop code n opened₀ closed₀ k₀ opened closed k = n - k
 
-loop-holds : tie.Need-loop-holds Inv-loop μ-loop
-loop-holds c = search (needs, turn, all)
-
-ins-at-requires : tie.Need-ins-at-requires Inv-loop μ-loop
-ins-at-requires c κs = search (needs, turn, all)
-
-leaves-requires : tie.Need-leaves-requires Inv-loop μ-loop
-leaves-requires c κs = search (needs, turn, all)
-
-returns-at-requires : tie.Need-returns-at-requires Inv-loop μ-loop
-returns-at-requires c κs = search (needs, turn, all)
-
 returns : tie.Need-returns Inv-loop μ-loop
 unfolding returnsOutside
 returns c = search (needs, turn, all)
-
-opens-requires : tie.Need-opens-requires Inv-loop μ-loop
-opens-requires c κs = search (needs, turn, all)
-
-cast-opened : tie.Need-cast-opened Inv-loop μ-loop
-cast-opened c = search (needs, turn, all)
-
-add-opened : tie.Need-add-opened Inv-loop μ-loop
-add-opened c = omega (arith, byte-small (c .opens .result))
-
-closes-requires : tie.Need-closes-requires Inv-loop μ-loop
-closes-requires c κs = search (needs, turn, all)
-
-cast-closed : tie.Need-cast-closed Inv-loop μ-loop
-cast-closed c = search (needs, turn, all)
-
-add-closed : tie.Need-add-closed Inv-loop μ-loop
-add-closed c = omega (arith, byte-small (c .closes .result))
-
-add-k : tie.Need-add-k Inv-loop μ-loop
-add-k c = search (needs, turn, all)
-
-loop-less : tie.Need-loop-less Inv-loop μ-loop
-loop-less c = search (needs, turn, all)
-
-loop-again : tie.Need-loop-again Inv-loop μ-loop
-loop-again c = search (needs, turn, all)
 
 returns-2 : tie.Need-returns-2 Inv-loop μ-loop
 unfolding returnsOutside
@@ -99,22 +60,8 @@ returns-2 c = search (needs, turn, all)
 
 pub returns-outside-spec : {M : Type 1} → statement M
 returns-outside-spec =
-    tie.close
-    (tie.spec
-    Inv-loop
-    μ-loop
-    loop-holds
-    ins-at-requires
-    leaves-requires
-    returns-at-requires
-    returns
-    opens-requires
-    cast-opened
-    add-opened
-    closes-requires
-    cast-closed
-    add-closed
-    add-k
-    loop-less
-    loop-again
-    returns-2)
+    tie.close (tie.spec Inv-loop μ-loop (λ c. search (needs, turn, all)) (λ c κs. search (needs, turn, all)) (λ c κs. search (needs, turn, all))
+    (λ c κs. search (needs, turn, all)) returns (λ c κs. search (needs, turn, all)) (λ c. search (needs, turn, all))
+    (λ c. omega (arith, byte-small (c .opens .result))) (λ c κs. search (needs, turn, all)) (λ c. search (needs, turn, all))
+    (λ c. omega (arith, byte-small (c .closes .result))) (λ c. search (needs, turn, all)) (λ c. search (needs, turn, all))
+    (λ c. search (needs, turn, all)) returns-2)

@@ -15,27 +15,9 @@ Inv-loop code yields roles n k₀ k = (k ≤ n) × (every (laidAt code yields) k
 abbrev μ-loop : tie.MeasureT-loop
 μ-loop code yields roles n k₀ k = n - k
 
-table-requires : tie.Need-table-requires Inv-loop μ-loop
-table-requires c κs = search needs
-
-loop-holds : tie.Need-loop-holds Inv-loop μ-loop
-loop-holds c = search (needs, all)
-
-laid-at-requires : tie.Need-laid-at-requires Inv-loop μ-loop
-laid-at-requires c κs = search needs
-
 returns : tie.Need-returns Inv-loop μ-loop
 unfolding laid
 returns c = search (needs, all)
-
-add-k : tie.Need-add-k Inv-loop μ-loop
-add-k c = search needs
-
-loop-less : tie.Need-loop-less Inv-loop μ-loop
-loop-less c = search needs
-
-loop-again : tie.Need-loop-again Inv-loop μ-loop
-loop-again c = search (needs, all)
 
 returns-2 : tie.Need-returns-2 Inv-loop μ-loop
 unfolding laid
@@ -43,15 +25,5 @@ returns-2 c = search (needs, all)
 
 pub all-laid-spec : {M : Type 1} → statement M
 all-laid-spec =
-    tie.close
-    (tie.spec
-    Inv-loop
-    μ-loop
-    table-requires
-    loop-holds
-    laid-at-requires
-    returns
-    add-k
-    loop-less
-    loop-again
-    returns-2)
+    tie.close (tie.spec Inv-loop μ-loop (λ c κs. search needs) (λ c. search (needs, all)) (λ c κs. search needs) returns (λ c. search needs)
+    (λ c. search needs) (λ c. search (needs, all)) returns-2)

@@ -23,43 +23,7 @@ module _ (i prev next s t : Ins) (k n : ℕ) (y j : Bool) (e : j ≡ isJump i) w
     unfolding fits
     work a b g p q = rw (← e, h, ← f, g, p, q)
 
-is-jump-in-requires : tie.Need-is-jump-in-requires
-is-jump-in-requires c κs = search needs
-
-jump-fits-requires : tie.Need-jump-fits-requires
-jump-fits-requires c κs = search needs
-
-returns : tie.Need-returns
-returns c = search jumps
-
-has-role-in-requires : tie.Need-has-role-in-requires
-has-role-in-requires c κs = search needs
-
-plain-fits-requires : tie.Need-plain-fits-requires
-plain-fits-requires c κs = search needs
-
-returns-2 : tie.Need-returns-2
-returns-2 c = search plain
-
-stack-work-requires : tie.Need-stack-work-requires
-stack-work-requires c κs = search needs
-
-yield-fits-requires : tie.Need-yield-fits-requires
-yield-fits-requires c κs = search needs
-
-returns-3 : tie.Need-returns-3
-returns-3 c = search work
-
 pub fits-spec : {M : Type 1} → statement M
 fits-spec =
-    tie.close
-    (tie.spec
-    is-jump-in-requires
-    jump-fits-requires
-    returns
-    has-role-in-requires
-    plain-fits-requires
-    returns-2
-    stack-work-requires
-    yield-fits-requires
-    returns-3)
+    tie.close (tie.spec (λ c κs. search needs) (λ c κs. search needs) (λ c. search jumps) (λ c κs. search needs) (λ c κs. search needs)
+    (λ c. search plain) (λ c κs. search needs) (λ c κs. search needs) (λ c. search work))

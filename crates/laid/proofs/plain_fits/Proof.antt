@@ -25,21 +25,5 @@ module _ (i prev s : Ins) (c : Bool) (e : c ≡ isCall (i .op)) where
     unfolding plainFits
     others o = rw (← e, h, ne-eqb (i .op) ArgsR o)
 
-is-call-requires : tie.Need-is-call-requires
-is-call-requires c κs = search needs
-
-returns : tie.Need-returns
-returns c = search calls
-
-is-call-requires-2 : tie.Need-is-call-requires-2
-is-call-requires-2 c κs = search needs
-
-returns-2 : tie.Need-returns-2
-returns-2 c = search args
-
-returns-3 : tie.Need-returns-3
-returns-3 c = search others
-
 pub plain-fits-spec : {M : Type 1} → statement M
-plain-fits-spec =
-    tie.close (tie.spec is-call-requires returns is-call-requires-2 returns-2 returns-3)
+plain-fits-spec = tie.close (tie.spec (λ c κs. search needs) (λ c. search calls) (λ c κs. search needs) (λ c. search args) (λ c. search others))

@@ -14,57 +14,8 @@ Inv-loop code landings₀ n k₀ landings k = (n ≡ chunkCount code) × (k ≤ 
 abbrev μ-loop : tie.MeasureT-loop
 μ-loop code landings₀ n k₀ landings k = n - k
 
-loop-holds : tie.Need-loop-holds Inv-loop μ-loop
-loop-holds c = search (needs, jumped-none)
-
-add-k : tie.Need-add-k Inv-loop μ-loop
-add-k c = search needs
-
-is-jump-requires : tie.Need-is-jump-requires Inv-loop μ-loop
-is-jump-requires c κs = search needs
-
-loop-less : tie.Need-loop-less Inv-loop μ-loop
-loop-less c = search needs
-
-loop-again : tie.Need-loop-again Inv-loop μ-loop
-loop-again c = search (needs, jumped-skip)
-
-operand-at-requires : tie.Need-operand-at-requires Inv-loop μ-loop
-operand-at-requires c κs = search needs
-
-wide-requires : tie.Need-wide-requires Inv-loop μ-loop
-wide-requires c κs = search needs
-
-bump-requires : tie.Need-bump-requires Inv-loop μ-loop
-bump-requires c κs = search (needs, jump-fits)
-
-loop-less-2 : tie.Need-loop-less-2 Inv-loop μ-loop
-loop-less-2 c = search needs
-
-loop-again-2 : tie.Need-loop-again-2 Inv-loop μ-loop
-loop-again-2 c = search (needs, jumped-more)
-
-same-length : tie.Need-same-length Inv-loop μ-loop
-same-length c = search needs
-
-returns : tie.Need-returns Inv-loop μ-loop
-returns c = search (needs, jumped-all)
-
 pub count-jumps-spec : {M : Type 1} → statement M
 count-jumps-spec =
-    tie.close
-    (tie.spec
-    Inv-loop
-    μ-loop
-    loop-holds
-    add-k
-    is-jump-requires
-    loop-less
-    loop-again
-    operand-at-requires
-    wide-requires
-    bump-requires
-    loop-less-2
-    loop-again-2
-    same-length
-    returns)
+    tie.close (tie.spec Inv-loop μ-loop (λ c. search (needs, jumped-none)) (λ c. search needs) (λ c κs. search needs) (λ c. search needs)
+    (λ c. search (needs, jumped-skip)) (λ c κs. search needs) (λ c κs. search needs) (λ c κs. search (needs, jump-fits)) (λ c. search needs)
+    (λ c. search (needs, jumped-more)) (λ c. search needs) (λ c. search (needs, jumped-all)))

@@ -4,25 +4,12 @@ use Rattle.landings.proofs.Filled.{zeros-are, jumps-low, filled}
 use Rattle.landings.proofs.fill.Statement.{statement}
 use Rattle.landings.proofs.fill.Tie as tie
 
-clear-requires : tie.Need-clear-requires
-clear-requires c κs = search needs
-
-count-jumps-requires : tie.Need-count-jumps-requires
-count-jumps-requires c κs = search (needs, zeros-are)
-
 count-handlers-requires : tie.Need-count-handlers-requires
 count-handlers-requires c κs =
     let j = c .before .before .before in
     let z = j .before .before .before .before in
     jumps-low _ _ _ _ (z .clear .ensures) (j .count-jumps .ensures) (z .before .before .before .before .before .pre .0)
 
-same-length : tie.Need-same-length
-same-length c = search needs
-
-returns : tie.Need-returns
-returns c = search filled
-
 pub fill-spec : {M : Type 1} → statement M
 fill-spec =
-    tie.close
-    (tie.spec clear-requires count-jumps-requires count-handlers-requires same-length returns)
+    tie.close (tie.spec (λ c κs. search needs) (λ c κs. search (needs, zeros-are)) count-handlers-requires (λ c. search needs) (λ c. search filled))

@@ -5,7 +5,7 @@ use mathlib.Core.Bool.{Bool, true, false, not, _&&_, _||_}
 use Prim.Native.Nat.{ℕ, zero, suc, _%_, _/_, _<_}
 use native.Mathlib.Omega.{arith}
 use lib.Dec.{eqb, leb}
-use borrow.Author.Tests.{eq-eqb, ne-eqb, lt-leb}
+use borrow.Author.Tests.{ne-eqb, lt-leb}
 use Rattle.laws.proofs.Branch.{or-false}
 use Rattle.code.specs.Op.{last, LoadConst, Phi}
 use Rattle.lent.specs.Chunk.{folds, chunkRules}
@@ -88,17 +88,5 @@ module _ (o m : ℕ) (t : Bool) (n : o ≡ LoadConst → ⊥) (e : t ≡ folds o
       let p = or-false (eqb o Phi) t h in
       rw (ne-eqb o LoadConst n, p .0, sym e ∙ p .1) (ap not (other (leb o last) m))
 
-returns : tie.Need-returns
-returns c = search is-load
-
-is-folding-requires : tie.Need-is-folding-requires
-is-folding-requires c κs = search needs
-
-returns-2 : tie.Need-returns-2
-returns-2 c = search is-bare
-
-returns-3 : tie.Need-returns-3
-returns-3 c = search is-other
-
 pub breaks-spec : {M : Type 1} → statement M
-breaks-spec = tie.close (tie.spec returns is-folding-requires returns-2 returns-3)
+breaks-spec = tie.close (tie.spec (λ c. search is-load) (λ c κs. search needs) (λ c. search is-bare) (λ c. search is-other))

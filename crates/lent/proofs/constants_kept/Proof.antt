@@ -6,11 +6,5 @@ use Rattle.lent.proofs.constants_kept.Tie as tie
 each-kept-requires : tie.Need-each-kept-requires
 each-kept-requires c κs = (kinds-there _ _ _ (c .if1 .taken), words-there _ _ _ (c .if1 .taken))
 
-returns : tie.Need-returns
-returns c = search (out, all-in)
-
-returns-2 : tie.Need-returns-2
-returns-2 c = search (out, all-in)
-
 pub constants-kept-spec : {M : Type 1} → statement M
-constants-kept-spec = tie.close (tie.spec each-kept-requires returns returns-2)
+constants-kept-spec = tie.close (tie.spec each-kept-requires (λ c. search (out, all-in)) (λ c. search (out, all-in)))

@@ -9,12 +9,9 @@ returns : tie.Need-returns
 unfolding ample
 returns c = search (needs, branch)
 
-add-most : tie.Need-add-most
-add-most c = search needs
-
 returns-2 : tie.Need-returns-2
 unfolding ample
 returns-2 c = search (needs, branch)
 
 pub is-ample-spec : {M : Type 1} → statement M
-is-ample-spec = tie.close (tie.spec returns add-most returns-2)
+is-ample-spec = tie.close (tie.spec returns (λ c. search needs) returns-2)

@@ -11,11 +11,5 @@ use Rattle.lent.proofs.is_jump.Tie as tie
 marked : (w : List ℕ) (k m : ℕ) → m ≡ markAt w k → eqb (m % 2) 1 ≡ marksJump w k
 marked w k m e = rw e
 
-mark-at-requires : tie.Need-mark-at-requires
-mark-at-requires c κs = search needs
-
-returns : tie.Need-returns
-returns c = search marked
-
 pub is-jump-spec : {M : Type 1} → statement M
-is-jump-spec = tie.close (tie.spec mark-at-requires returns)
+is-jump-spec = tie.close (tie.spec (λ c κs. search needs) (λ c. search marked))

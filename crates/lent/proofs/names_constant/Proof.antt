@@ -11,11 +11,5 @@ use Rattle.lent.proofs.names_constant.Tie as tie
 marked : (w : List ℕ) (k m : ℕ) → m ≡ markAt w k → eqb (m / 2 % 2) 1 ≡ names w k
 marked w k m e = rw e
 
-mark-at-requires : tie.Need-mark-at-requires
-mark-at-requires c κs = search needs
-
-returns : tie.Need-returns
-returns c = search marked
-
 pub names-constant-spec : {M : Type 1} → statement M
-names-constant-spec = tie.close (tie.spec mark-at-requires returns)
+names-constant-spec = tie.close (tie.spec (λ c κs. search needs) (λ c. search marked))

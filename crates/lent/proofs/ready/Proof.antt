@@ -18,28 +18,7 @@ five : (v t u y r : Checked) (w tries kinds words : List ℕ) (c : Counts) (l : 
 unfolding readyOf
 five v t u y r w tries kinds words c l landings e f g h i = rw (i, h, g, f, e)
 
-check-requires : tie.Need-check-requires
-check-requires c κs = search needs
-
-tried-requires : tie.Need-tried-requires
-tried-requires c κs = search needs
-
-tables-requires : tie.Need-tables-requires
-tables-requires c κs = search needs
-
-rooms-requires : tie.Need-rooms-requires
-rooms-requires c κs = search needs
-
-add-room : tie.Need-add-room
-add-room c = search needs
-
-room-requires : tie.Need-room-requires
-room-requires c κs = search needs
-
-returns : tie.Need-returns
-returns c = search five
-
 pub ready-spec : {M : Type 1} → statement M
 ready-spec =
-    tie.close
-    (tie.spec check-requires tried-requires tables-requires rooms-requires add-room room-requires returns)
+    tie.close (tie.spec (λ c κs. search needs) (λ c κs. search needs) (λ c κs. search needs) (λ c κs. search needs) (λ c. search needs)
+    (λ c κs. search needs) (λ c. search five))

@@ -81,59 +81,8 @@ module _ (v : Checked) (w : List ℕ) (c : Counts) (l : Lens) where
       go true z = absurd (false≢true (sym (rw z at e) ∙ h))
       go false z = enough (sym (rw z at e) ∙ h)
 
-is-ample-requires : tie.Need-is-ample-requires
-is-ample-requires c κs = search needs
-
-returns : tie.Need-returns
-returns c = search at-ease
-
-tallied-requires : tie.Need-tallied-requires
-tallied-requires c κs = search needs
-
-constant-room-requires : tie.Need-constant-room-requires
-constant-room-requires c κs = search needs
-
-room-requires : tie.Need-room-requires
-room-requires c κs = search needs
-
-room-requires-2 : tie.Need-room-requires-2
-room-requires-2 c κs = search needs
-
-room-requires-3 : tie.Need-room-requires-3
-room-requires-3 c κs = search needs
-
-source-room-requires : tie.Need-source-room-requires
-source-room-requires c κs = search (needs, few-phis)
-
-room-requires-4 : tie.Need-room-requires-4
-room-requires-4 c κs = search needs
-
-room-requires-5 : tie.Need-room-requires-5
-room-requires-5 c κs = search needs
-
-add-room : tie.Need-add-room
-add-room c = search needs
-
-room-requires-6 : tie.Need-room-requires-6
-room-requires-6 c κs = search needs
-
-returns-2 : tie.Need-returns-2
-returns-2 c = search six
-
 pub rooms-spec : {M : Type 1} → statement M
 rooms-spec =
-    tie.close
-    (tie.spec
-    is-ample-requires
-    returns
-    tallied-requires
-    constant-room-requires
-    room-requires
-    room-requires-2
-    room-requires-3
-    source-room-requires
-    room-requires-4
-    room-requires-5
-    add-room
-    room-requires-6
-    returns-2)
+    tie.close (tie.spec (λ c κs. search needs) (λ c. search at-ease) (λ c κs. search needs) (λ c κs. search needs) (λ c κs. search needs)
+    (λ c κs. search needs) (λ c κs. search needs) (λ c κs. search (needs, few-phis)) (λ c κs. search needs) (λ c κs. search needs)
+    (λ c. search needs) (λ c κs. search needs) (λ c. search six))

@@ -17,52 +17,11 @@ five : (v v₁ v₂ v₃ v₄ v₅ : Checked) (b₁ b₂ b₃ b₄ b₅ k₁ k�
     → v₅ ≡ tableOf (tableOf (tableOf (tableOf (tableOf v 1 k₁) 2 k₂) 3 k₃) 4 k₄) 5 k₅
 five v v₁ v₂ v₃ v₄ v₅ b₁ b₂ b₃ b₄ b₅ k₁ k₂ k₃ k₄ k₅ f₁ e₁ f₂ e₂ f₃ e₃ f₄ e₄ f₅ e₅ = rw (e₅, e₄, e₃, e₂, e₁, f₁, f₂, f₃, f₄, f₅)
 
-constants-kept-requires : tie.Need-constants-kept-requires
-constants-kept-requires c κs = search needs
-
-table-requires : tie.Need-table-requires
-table-requires c κs = search needs
-
-map-kept-requires : tie.Need-map-kept-requires
-map-kept-requires c κs = search needs
-
-table-requires-2 : tie.Need-table-requires-2
-table-requires-2 c κs = search needs
-
-pairs-kept-requires : tie.Need-pairs-kept-requires
-pairs-kept-requires c κs = search needs
-
-table-requires-3 : tie.Need-table-requires-3
-table-requires-3 c κs = search needs
-
-pairs-kept-requires-2 : tie.Need-pairs-kept-requires-2
-pairs-kept-requires-2 c κs = search needs
-
-table-requires-4 : tie.Need-table-requires-4
-table-requires-4 c κs = search needs
-
-pairs-kept-requires-3 : tie.Need-pairs-kept-requires-3
-pairs-kept-requires-3 c κs = search needs
-
-table-requires-5 : tie.Need-table-requires-5
-table-requires-5 c κs = search needs
-
 returns : tie.Need-returns
 unfolding tablesOf
 returns c = search five
 
 pub tables-spec : {M : Type 1} → statement M
 tables-spec =
-    tie.close
-    (tie.spec
-    constants-kept-requires
-    table-requires
-    map-kept-requires
-    table-requires-2
-    pairs-kept-requires
-    table-requires-3
-    pairs-kept-requires-2
-    table-requires-4
-    pairs-kept-requires-3
-    table-requires-5
-    returns)
+    tie.close (tie.spec (λ c κs. search needs) (λ c κs. search needs) (λ c κs. search needs) (λ c κs. search needs) (λ c κs. search needs)
+    (λ c κs. search needs) (λ c κs. search needs) (λ c κs. search needs) (λ c κs. search needs) (λ c κs. search needs) returns)

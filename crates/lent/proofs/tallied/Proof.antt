@@ -12,7 +12,6 @@ use Rattle.laws.specs.All.{many}
 use Rattle.laws.proofs.Many.{none-counted, counted-on}
 use Rattle.lent.specs.Chunk.{chunkCount, opAt, isPhi, folds}
 use Rattle.lent.specs.Check.{tallyOf}
-use Rattle.lent.specs.declared.Tally.{Tally}
 use Rattle.lent.proofs.tallied.Statement.{statement}
 use Rattle.lent.proofs.tallied.Tie as tie
 
@@ -37,53 +36,9 @@ Inv-loop code n folding₀ phis₀ k₀ folding phis k =
 abbrev μ-loop : tie.MeasureT-loop
 μ-loop code n folding₀ phis₀ k₀ folding phis k = n - k
 
-loop-holds : tie.Need-loop-holds Inv-loop μ-loop
-loop-holds c = search (needs, none-counted)
-
-op-at-requires : tie.Need-op-at-requires Inv-loop μ-loop
-op-at-requires c κs = search (needs, none-counted)
-
-is-folding-requires : tie.Need-is-folding-requires Inv-loop μ-loop
-is-folding-requires c κs = search (needs, none-counted)
-
-bit-requires : tie.Need-bit-requires Inv-loop μ-loop
-bit-requires c κs = search (needs, none-counted)
-
-add-folding : tie.Need-add-folding Inv-loop μ-loop
-add-folding c = search (needs, none-counted)
-
-bit-requires-2 : tie.Need-bit-requires-2 Inv-loop μ-loop
-bit-requires-2 c κs = search (needs, none-counted)
-
-add-phis : tie.Need-add-phis Inv-loop μ-loop
-add-phis c = search (needs, none-counted)
-
-add-k : tie.Need-add-k Inv-loop μ-loop
-add-k c = search (needs, none-counted)
-
-loop-less : tie.Need-loop-less Inv-loop μ-loop
-loop-less c = search (needs, none-counted)
-
-loop-again : tie.Need-loop-again Inv-loop μ-loop
-loop-again c = search (needs, one-folds, one-phi)
-
-returns : tie.Need-returns Inv-loop μ-loop
-returns c = search both
-
 pub tallied-spec : {M : Type 1} → statement M
 tallied-spec =
-    tie.close
-    (tie.spec
-    Inv-loop
-    μ-loop
-    loop-holds
-    op-at-requires
-    is-folding-requires
-    bit-requires
-    add-folding
-    bit-requires-2
-    add-phis
-    add-k
-    loop-less
-    loop-again
-    returns)
+    tie.close (tie.spec Inv-loop μ-loop (λ c. search (needs, none-counted)) (λ c κs. search (needs, none-counted))
+    (λ c κs. search (needs, none-counted)) (λ c κs. search (needs, none-counted)) (λ c. search (needs, none-counted))
+    (λ c κs. search (needs, none-counted)) (λ c. search (needs, none-counted)) (λ c. search (needs, none-counted))
+    (λ c. search (needs, none-counted)) (λ c. search (needs, one-folds, one-phi)) (λ c. search both))

@@ -20,24 +20,6 @@ at-in w v u n k e f t =
     let s : Count n ≡ insideOf v k = sym t ∙ f in
     omega (arith, at-inside n v k s, count-of w n v e (at-before n v k s))
 
-check-requires : tie.Need-check-requires
-check-requires c κs = search needs
-
-inside-requires : tie.Need-inside-requires
-inside-requires c κs = search needs
-
-enum-known-r : tie.Need-enum-known-r
-enum-known-r c = search needs
-
-refused-requires : tie.Need-refused-requires
-refused-requires c κs = search needs
-
-enum-told : tie.Need-enum-told
-enum-told c = search needs
-
-level-in-requires : tie.Need-level-in-requires
-level-in-requires c κs = search (passing, at-in)
-
 returns : tie.Need-returns
 unfolding levelAnswer
 returns c = search (refused, told, onward)
@@ -48,13 +30,5 @@ returns-2 c = search (refused, told, onward)
 
 pub level-spec : {M : Type 1} → statement M
 level-spec =
-    tie.close
-    (tie.spec
-    check-requires
-    inside-requires
-    enum-known-r
-    refused-requires
-    enum-told
-    level-in-requires
-    returns
-    returns-2)
+    tie.close (tie.spec (λ c κs. search needs) (λ c κs. search needs) (λ c. search needs) (λ c κs. search needs) (λ c. search needs)
+    (λ c κs. search (passing, at-in)) returns returns-2)

@@ -21,35 +21,7 @@ module _ (w : List ℕ) (k : ℕ) (i : Ins) (t : Bool) (e : i ≡ insAt w k) (h 
   none : t ≡ false → r ≡ answerOf 0 0 0 0 → r ≡ levelTold w k
   none z f = rw (← e, ← h, z) f
 
-ins-at-requires : tie.Need-ins-at-requires
-ins-at-requires c κs = search needs
-
-level-at-requires : tie.Need-level-at-requires
-level-at-requires c κs = search needs
-
-after-requires : tie.Need-after-requires
-after-requires c κs = search needs
-
-tell-requires : tie.Need-tell-requires
-tell-requires c κs = search needs
-
-returns : tie.Need-returns
-returns c = search (is, none)
-
-tell-requires-2 : tie.Need-tell-requires-2
-tell-requires-2 c κs = search needs
-
-returns-2 : tie.Need-returns-2
-returns-2 c = search (is, none)
-
 pub level-in-spec : {M : Type 1} → statement M
 level-in-spec =
-    tie.close
-    (tie.spec
-    ins-at-requires
-    level-at-requires
-    after-requires
-    tell-requires
-    returns
-    tell-requires-2
-    returns-2)
+    tie.close (tie.spec (λ c κs. search needs) (λ c κs. search needs) (λ c κs. search needs) (λ c κs. search needs) (λ c. search (is, none))
+    (λ c κs. search needs) (λ c. search (is, none)))

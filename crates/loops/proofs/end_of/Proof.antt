@@ -20,31 +20,7 @@ module _ (w : List ℕ) (g : ℕ) (i : Ins) (e : i ≡ insAt w g) where
   unfolding endOf
   of-other o = rw (ne-eqb (insAt w g .op) GetIter (rw e at o))
 
-ins-at-requires : tie.Need-ins-at-requires
-ins-at-requires c κs = search needs
-
-add-next-step : tie.Need-add-next-step
-add-next-step c = search needs
-
-next-step-requires : tie.Need-next-step-requires
-next-step-requires c κs = search needs
-
-leaves-at-requires : tie.Need-leaves-at-requires
-leaves-at-requires c κs = search needs
-
-returns : tie.Need-returns
-returns c = search (needs, of-get)
-
-returns-2 : tie.Need-returns-2
-returns-2 c = search (needs, of-other)
-
 pub end-of-spec : {M : Type 1} → statement M
 end-of-spec =
-    tie.close
-    (tie.spec
-    ins-at-requires
-    add-next-step
-    next-step-requires
-    leaves-at-requires
-    returns
-    returns-2)
+    tie.close (tie.spec (λ c κs. search needs) (λ c. search needs) (λ c κs. search needs) (λ c κs. search needs) (λ c. search (needs, of-get))
+    (λ c. search (needs, of-other)))

@@ -24,20 +24,7 @@ module _ (w : List ℕ) (f : ℕ) where
 at-most : (a n m : ℕ) → m ≡ min a n → m ≤ n
 at-most a n m e = omega arith
 
-returns : tie.Need-returns
-returns c = search (needs, nowhere)
-
-ins-at-requires : tie.Need-ins-at-requires
-ins-at-requires c κs = search needs
-
-cast-least : tie.Need-cast-least
-cast-least c = search needs
-
-least-requires : tie.Need-least-requires
-least-requires c κs = search needs
-
-returns-2 : tie.Need-returns-2
-returns-2 c = search (leaves, at-most)
-
 pub leaves-at-spec : {M : Type 1} → statement M
-leaves-at-spec = tie.close (tie.spec returns ins-at-requires cast-least least-requires returns-2)
+leaves-at-spec =
+    tie.close (tie.spec (λ c. search (needs, nowhere)) (λ c κs. search needs) (λ c. search needs) (λ c κs. search needs)
+    (λ c. search (leaves, at-most)))

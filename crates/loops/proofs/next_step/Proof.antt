@@ -29,37 +29,7 @@ Inv-loop code g n k₀ k = (k ≤ n) × (first (stepAt code) k (n - k) ≡ nextS
 abbrev μ-loop : tie.MeasureT-loop
 μ-loop code g n k₀ k = n - k
 
-loop-holds : tie.Need-loop-holds Inv-loop μ-loop
-loop-holds c = search (needs, starts)
-
-ins-at-requires : tie.Need-ins-at-requires Inv-loop μ-loop
-ins-at-requires c κs = search needs
-
-returns : tie.Need-returns Inv-loop μ-loop
-returns c = search (needs, finds, at-k)
-
-add-k : tie.Need-add-k Inv-loop μ-loop
-add-k c = search needs
-
-loop-less : tie.Need-loop-less Inv-loop μ-loop
-loop-less c = search needs
-
-loop-again : tie.Need-loop-again Inv-loop μ-loop
-loop-again c = search (needs, finds, at-k)
-
-returns-2 : tie.Need-returns-2 Inv-loop μ-loop
-returns-2 c = search (needs, finds)
-
 pub next-step-spec : {M : Type 1} → statement M
 next-step-spec =
-    tie.close
-    (tie.spec
-    Inv-loop
-    μ-loop
-    loop-holds
-    ins-at-requires
-    returns
-    add-k
-    loop-less
-    loop-again
-    returns-2)
+    tie.close (tie.spec Inv-loop μ-loop (λ c. search (needs, starts)) (λ c κs. search needs) (λ c. search (needs, finds, at-k)) (λ c. search needs)
+    (λ c. search needs) (λ c. search (needs, finds, at-k)) (λ c. search (needs, finds)))

@@ -15,53 +15,8 @@ Inv-loop code tries t b roles end s₀ s = (127 * b ≤ s) × (s ≤ end) × (en
 abbrev μ-loop : tie.MeasureT-loop
 μ-loop code tries t b roles end s₀ s = end - s
 
-table-requires : tie.Need-table-requires Inv-loop μ-loop
-table-requires c κs = search needs
-
-mul-end : tie.Need-mul-end Inv-loop μ-loop
-mul-end c = search needs
-
-add-end : tie.Need-add-end Inv-loop μ-loop
-add-end c = search needs
-
-mul-s : tie.Need-mul-s Inv-loop μ-loop
-mul-s c = search needs
-
-loop-holds : tie.Need-loop-holds Inv-loop μ-loop
-loop-holds c = search (needs, first-start)
-
-bad-step-requires : tie.Need-bad-step-requires Inv-loop μ-loop
-bad-step-requires c κs = search (needs, goes-on, stops, ends)
-
-returns : tie.Need-returns Inv-loop μ-loop
-returns c = search (needs, goes-on, stops, ends)
-
-add-s : tie.Need-add-s Inv-loop μ-loop
-add-s c = search needs
-
-loop-less : tie.Need-loop-less Inv-loop μ-loop
-loop-less c = search needs
-
-loop-again : tie.Need-loop-again Inv-loop μ-loop
-loop-again c = search (needs, goes-on, stops, ends)
-
-returns-2 : tie.Need-returns-2 Inv-loop μ-loop
-returns-2 c = search (needs, goes-on, stops, ends)
-
 pub first-step-spec : {M : Type 1} → statement M
 first-step-spec =
-    tie.close
-    (tie.spec
-    Inv-loop
-    μ-loop
-    table-requires
-    mul-end
-    add-end
-    mul-s
-    loop-holds
-    bad-step-requires
-    returns
-    add-s
-    loop-less
-    loop-again
-    returns-2)
+    tie.close (tie.spec Inv-loop μ-loop (λ c κs. search needs) (λ c. search needs) (λ c. search needs) (λ c. search needs)
+    (λ c. search (needs, first-start)) (λ c κs. search (needs, goes-on, stops, ends)) (λ c. search (needs, goes-on, stops, ends)) (λ c. search needs)
+    (λ c. search needs) (λ c. search (needs, goes-on, stops, ends)) (λ c. search (needs, goes-on, stops, ends)))

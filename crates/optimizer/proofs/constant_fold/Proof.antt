@@ -6,9 +6,6 @@ use Rattle.optimizer.proofs.Whole.{lent-of, fit-of, folds-all, mapped-a
 use Rattle.optimizer.proofs.constant_fold.Statement.{statement}
 use Rattle.optimizer.proofs.constant_fold.Tie as tie
 
-fill-requires : tie.Need-fill-requires
-fill-requires c κs = search needs
-
 fold-pass-requires : tie.Need-fold-pass-requires
 fold-pass-requires c κs = (
   lent-of _ _ _ _ _ _ _ _ _ _ (c .before .before .before .before .before .before .before .before .before .before .before .before
@@ -109,22 +106,5 @@ returns c = lends _ _ _ _ _ _ _ _ _ _ _ _ _ _ _ _ _ _ _ _ _ _ _ _ _ (c .before .
 
 pub constant-fold-spec : {M : Type 1} → statement M
 constant-fold-spec =
-    tie.close
-    (tie.spec
-    fill-requires
-    fold-pass-requires
-    finish-requires
-    move-tries-requires
-    fill-requires-2
-    same-length
-    same-length-2
-    same-length-3
-    same-length-4
-    same-length-5
-    same-length-6
-    same-length-7
-    same-length-8
-    same-length-9
-    same-length-10
-    same-length-11
-    returns)
+    tie.close (tie.spec (λ c κs. search needs) fold-pass-requires finish-requires move-tries-requires fill-requires-2 same-length same-length-2
+    same-length-3 same-length-4 same-length-5 same-length-6 same-length-7 same-length-8 same-length-9 same-length-10 same-length-11 returns)

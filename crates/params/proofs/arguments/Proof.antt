@@ -19,17 +19,5 @@ module _ (c : Ins) where
   unfolding arguments
   other e = rw (ne-eqb (c .op) CallMethodR e) (omega arith)
 
-cast-x : tie.Need-cast-x
-cast-x c = search needs
-
-add-result : tie.Need-add-result
-add-result c = search needs
-
-returns : tie.Need-returns
-returns c = search method
-
-returns-2 : tie.Need-returns-2
-returns-2 c = search other
-
 pub arguments-spec : {M : Type 1} → statement M
-arguments-spec = tie.close (tie.spec cast-x add-result returns returns-2)
+arguments-spec = tie.close (tie.spec (λ c. search needs) (λ c. search needs) (λ c. search method) (λ c. search other))

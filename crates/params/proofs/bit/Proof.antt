@@ -15,11 +15,5 @@ module _ (b : Bool) (v : ℕ) where
   off : b ≡ false → 0 ≡ v * boolByte b
   off e = rw e (omega arith)
 
-returns : tie.Need-returns
-returns c = search (needs, on)
-
-returns-2 : tie.Need-returns-2
-returns-2 c = search (needs, off)
-
 pub bit-spec : {M : Type 1} → statement M
-bit-spec = tie.close (tie.spec returns returns-2)
+bit-spec = tie.close (tie.spec (λ c. search (needs, on)) (λ c. search (needs, off)))

@@ -31,36 +31,6 @@ module _ (w : List ℕ) (j arity : ℕ) (c : Ins) (e : c ≡ insAt w j) (b : Boo
       let q : isCall (insAt w j .op) ≡ false = sym (ap (λ (i : Ins). isCall (i .op)) e) ∙ sym f ∙ t in
       rw q h
 
-check-requires : tie.Need-check-requires
-check-requires c κs = search needs
-
-inside-requires : tie.Need-inside-requires
-inside-requires c κs = search needs
-
-enum-known-r : tie.Need-enum-known-r
-enum-known-r c = search needs
-
-refused-requires : tie.Need-refused-requires
-refused-requires c κs = search needs
-
-enum-told : tie.Need-enum-told
-enum-told c = search needs
-
-ins-at-requires : tie.Need-ins-at-requires
-ins-at-requires c κs = search passing
-
-is-call-requires : tie.Need-is-call-requires
-is-call-requires c κs = search needs
-
-passed-at-requires : tie.Need-passed-at-requires
-passed-at-requires c κs = search (passing, near)
-
-tell-requires : tie.Need-tell-requires
-tell-requires c κs = search needs
-
-refused-requires-2 : tie.Need-refused-requires-2
-refused-requires-2 c κs = search needs
-
 returns : tie.Need-returns
 unfolding passedAnswer
 returns c = search (told, call, onward)
@@ -75,18 +45,6 @@ returns-3 c = search (told, no-call, onward)
 
 pub passed-spec : {M : Type 1} → statement M
 passed-spec =
-    tie.close
-    (tie.spec
-    check-requires
-    inside-requires
-    enum-known-r
-    refused-requires
-    enum-told
-    ins-at-requires
-    is-call-requires
-    passed-at-requires
-    tell-requires
-    returns
-    refused-requires-2
-    returns-2
+    tie.close (tie.spec (λ c κs. search needs) (λ c κs. search needs) (λ c. search needs) (λ c κs. search needs) (λ c. search needs)
+    (λ c κs. search passing) (λ c κs. search needs) (λ c κs. search (passing, near)) (λ c κs. search needs) returns (λ c κs. search needs) returns-2
     returns-3)

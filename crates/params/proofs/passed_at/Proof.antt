@@ -16,25 +16,7 @@ joined : (w : List ℕ) (j arity m : ℕ) (c rest : Ins) → c ≡ insAt w j →
 unfolding passedAt
 joined w j arity m c rest e f g = g ∙ rw (f, e)
 
-ins-at-requires : tie.Need-ins-at-requires
-ins-at-requires c κs = search needs
-
-cast-ins-at : tie.Need-cast-ins-at
-cast-ins-at c = search needs
-
-add-ins-at : tie.Need-add-ins-at
-add-ins-at c = omega (arith, byte-small (wide (c .before .ins-at .result)))
-
-ins-at-requires-2 : tie.Need-ins-at-requires-2
-ins-at-requires-2 c κs = search needs
-
-passed-in-requires : tie.Need-passed-in-requires
-passed-in-requires c κs = search needs
-
-returns : tie.Need-returns
-returns c = search joined
-
 pub passed-at-spec : {M : Type 1} → statement M
 passed-at-spec =
-    tie.close
-    (tie.spec ins-at-requires cast-ins-at add-ins-at ins-at-requires-2 passed-in-requires returns)
+    tie.close (tie.spec (λ c κs. search needs) (λ c. search needs) (λ c. omega (arith, byte-small (wide (c .before .ins-at .result))))
+    (λ c κs. search needs) (λ c κs. search needs) (λ c. search joined))

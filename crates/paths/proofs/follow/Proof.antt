@@ -24,17 +24,8 @@ module _ (todo todo₁ : List ℕ) (top top₁ t : ℕ) (x : Bool) (p : top₁ �
     stack : todo₂ ≡ pushed todo₁ top₁ v y → todo₂ ≡ pushed (pushed todo top t x) (top + boolByte x) v y
     stack q = q ∙ rw (p, p′)
 
-push-requires : tie.Need-push-requires
-push-requires c κs = search needs
-
-push-requires-2 : tie.Need-push-requires-2
-push-requires-2 c κs = search second
-
-same-length : tie.Need-same-length
-same-length c = search needs
-
 returns : tie.Need-returns
 returns c = (search height, search stack)
 
 pub follow-spec : {M : Type 1} → statement M
-follow-spec = tie.close (tie.spec push-requires push-requires-2 same-length returns)
+follow-spec = tie.close (tie.spec (λ c κs. search needs) (λ c κs. search second) (λ c. search needs) returns)

@@ -28,23 +28,6 @@ module _ (todo : List ℕ) (top t : ℕ) (y : Bool) where
 
 ruleset cases = (on-top, on-list, off-top, off-list)
 
-mul-todo : tie.Need-mul-todo
-mul-todo c = search needs
-
-slice-write-todo : tie.Need-slice-write-todo
-slice-write-todo c = search needs
-
-add-result : tie.Need-add-result
-add-result c = search needs
-
-same-length : tie.Need-same-length
-same-length c = search needs
-
-returns : tie.Need-returns
-returns c = search cases
-
-returns-2 : tie.Need-returns-2
-returns-2 c = search cases
-
 pub push-spec : {M : Type 1} → statement M
-push-spec = tie.close (tie.spec mul-todo slice-write-todo add-result same-length returns returns-2)
+push-spec =
+    tie.close (tie.spec (λ c. search needs) (λ c. search needs) (λ c. search needs) (λ c. search needs) (λ c. search cases) (λ c. search cases))

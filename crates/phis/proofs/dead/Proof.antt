@@ -38,51 +38,10 @@ done : (w seen seen₁ seen₂ seen₃ todo todo₁ todo₂ : List ℕ) (k r : �
 done w seen seen₁ seen₂ seen₃ todo todo₁ todo₂ k r b c s d e =
     settles (Read w r (k + 1)) (Dead w k r) (length w / 6) seen seen₁ seen₂ seen₃ todo todo₁ todo₂ b (not b) c s d e (other (Read w r (k + 1)) b)
 
-table-requires : tie.Need-table-requires
-table-requires c κs = search needs
-
-add-words : tie.Need-add-words
-add-words c = search needs
-
-clear-marks-requires : tie.Need-clear-marks-requires
-clear-marks-requires c κs = search needs
-
-add-search : tie.Need-add-search
-add-search c = search needs
-
-cast-search : tie.Need-cast-search
-cast-search c = search needs
-
 search-requires : tie.Need-search-requires
 search-requires c κs = (search needs, search ready, search none)
 
-clear-marks-requires-2 : tie.Need-clear-marks-requires-2
-clear-marks-requires-2 c κs = search needs
-
-clear-words-requires : tie.Need-clear-words-requires
-clear-words-requires c κs = search needs
-
-same-length : tie.Need-same-length
-same-length c = search needs
-
-same-length-2 : tie.Need-same-length-2
-same-length-2 c = search needs
-
-returns : tie.Need-returns
-returns c = search done
-
 pub dead-spec : {M : Type 1} → statement M
 dead-spec =
-    tie.close
-    (tie.spec
-    table-requires
-    add-words
-    clear-marks-requires
-    add-search
-    cast-search
-    search-requires
-    clear-marks-requires-2
-    clear-words-requires
-    same-length
-    same-length-2
-    returns)
+    tie.close (tie.spec (λ c κs. search needs) (λ c. search needs) (λ c κs. search needs) (λ c. search needs) (λ c. search needs) search-requires
+    (λ c κs. search needs) (λ c κs. search needs) (λ c. search needs) (λ c. search needs) (λ c. search done))

@@ -5,67 +5,11 @@ use Rattle.phis.proofs.Telling.{place-room, place-in, telling}
 use Rattle.phis.proofs.dead_phi.Statement.{statement}
 use Rattle.phis.proofs.dead_phi.Tie as tie
 
-add-m : tie.Need-add-m
-add-m c = search needs
-
-check-requires : tie.Need-check-requires
-check-requires c κs = search needs
-
-inside-requires : tie.Need-inside-requires
-inside-requires c κs = search needs
-
-room-requires : tie.Need-room-requires
-room-requires c κs = search needs
-
-room-requires-2 : tie.Need-room-requires-2
-room-requires-2 c κs = search needs
-
-enum-known-q : tie.Need-enum-known-q
-enum-known-q c = search needs
-
-refused-requires : tie.Need-refused-requires
-refused-requires c κs = search needs
-
-enum-told : tie.Need-enum-told
-enum-told c = search needs
-
 dead-requires : tie.Need-dead-requires
 dead-requires c κs = (search place-room, search place-in)
 
-cast-tell : tie.Need-cast-tell
-cast-tell c = search needs
-
-tell-requires : tie.Need-tell-requires
-tell-requires c κs = search needs
-
-returns : tie.Need-returns
-returns c = search (telling, onward)
-
-same-length : tie.Need-same-length
-same-length c = search needs
-
-same-length-2 : tie.Need-same-length-2
-same-length-2 c = search needs
-
-returns-2 : tie.Need-returns-2
-returns-2 c = search (telling, onward)
-
 pub dead-phi-spec : {M : Type 1} → statement M
 dead-phi-spec =
-    tie.close
-    (tie.spec
-    add-m
-    check-requires
-    inside-requires
-    room-requires
-    room-requires-2
-    enum-known-q
-    refused-requires
-    enum-told
-    dead-requires
-    cast-tell
-    tell-requires
-    returns
-    same-length
-    same-length-2
-    returns-2)
+    tie.close (tie.spec (λ c. search needs) (λ c κs. search needs) (λ c κs. search needs) (λ c κs. search needs) (λ c κs. search needs)
+    (λ c. search needs) (λ c κs. search needs) (λ c. search needs) dead-requires (λ c. search needs) (λ c κs. search needs)
+    (λ c. search (telling, onward)) (λ c. search needs) (λ c. search needs) (λ c. search (telling, onward)))

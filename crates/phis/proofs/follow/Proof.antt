@@ -17,35 +17,10 @@ module _ (t j : Bool) (e : t ≡ j) where
   stack : (todo′ todo : List ℕ) (top a : ℕ) → todo′ ≡ pushed todo top a t → todo′ ≡ pushed todo top a j
   stack todo′ todo top a p = rw e at p
 
-is-jump-in-requires : tie.Need-is-jump-in-requires
-is-jump-in-requires c κs = search needs
-
-add-follow : tie.Need-add-follow
-add-follow c = search needs
-
-cast-follow : tie.Need-cast-follow
-cast-follow c = search needs
-
-cast-follow-2 : tie.Need-cast-follow-2
-cast-follow-2 c = search needs
-
-follow-requires : tie.Need-follow-requires
-follow-requires c κs = search needs
-
-same-length : tie.Need-same-length
-same-length c = search needs
-
 returns : tie.Need-returns
 returns c = (search height, search stack)
 
 pub follow-spec : {M : Type 1} → statement M
 follow-spec =
-    tie.close
-    (tie.spec
-    is-jump-in-requires
-    add-follow
-    cast-follow
-    cast-follow-2
-    follow-requires
-    same-length
+    tie.close (tie.spec (λ c κs. search needs) (λ c. search needs) (λ c. search needs) (λ c. search needs) (λ c κs. search needs) (λ c. search needs)
     returns)

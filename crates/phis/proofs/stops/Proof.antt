@@ -17,11 +17,5 @@ is : (i : Ins) (r k : ℕ) → k ≡ kindsOf i
 unfolding stops phiWrites
 is i r k e = rw e
 
-kinds-in-requires : tie.Need-kinds-in-requires
-kinds-in-requires c κs = search needs
-
-returns : tie.Need-returns
-returns c = search is
-
 pub stops-spec : {M : Type 1} → statement M
-stops-spec = tie.close (tie.spec kinds-in-requires returns)
+stops-spec = tie.close (tie.spec (λ c κs. search needs) (λ c. search is))

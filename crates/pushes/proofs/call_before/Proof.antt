@@ -21,24 +21,7 @@ module _ (w : List ℕ) (s : ℕ) (i : Ins) (h : 2 ≤ s) (e : i ≡ insAt w (s 
   unfolding callBefore
   no-args o = rw (ne-eqb (insAt w (s - 1) .op) ArgsR (rw e at o)) (omega arith)
 
-sub-ins-at : tie.Need-sub-ins-at
-sub-ins-at c = search needs
-
-ins-at-requires : tie.Need-ins-at-requires
-ins-at-requires c κs = search needs
-
-sub-result : tie.Need-sub-result
-sub-result c = search needs
-
-returns : tie.Need-returns
-returns c = search (needs, past-args, no-args)
-
-sub-result-2 : tie.Need-sub-result-2
-sub-result-2 c = search needs
-
-returns-2 : tie.Need-returns-2
-returns-2 c = search (needs, past-args, no-args)
-
 pub call-before-spec : {M : Type 1} → statement M
 call-before-spec =
-    tie.close (tie.spec sub-ins-at ins-at-requires sub-result returns sub-result-2 returns-2)
+    tie.close (tie.spec (λ c. search needs) (λ c κs. search needs) (λ c. search needs) (λ c. search (needs, past-args, no-args)) (λ c. search needs)
+    (λ c. search (needs, past-args, no-args)))

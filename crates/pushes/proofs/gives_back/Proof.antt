@@ -16,39 +16,7 @@ joined : (w : List ℕ) (c s d r : ℕ) (f p : Ins) (u t : Bool) → p ≡ insAt
 unfolding givesBack
 joined w c s d r f p u t x y e h = rw (e, h, x, y)
 
-sub-ins-at : tie.Need-sub-ins-at
-sub-ins-at c = search needs
-
-ins-at-requires : tie.Need-ins-at-requires
-ins-at-requires c κs = search needs
-
-ins-at-requires-2 : tie.Need-ins-at-requires-2
-ins-at-requires-2 c κs = search needs
-
-sub-pending-under : tie.Need-sub-pending-under
-sub-pending-under c = search needs
-
-pending-under-requires : tie.Need-pending-under-requires
-pending-under-requires c κs = search needs
-
-add-takes-back : tie.Need-add-takes-back
-add-takes-back c = search needs
-
-takes-back-requires : tie.Need-takes-back-requires
-takes-back-requires c κs = search (needs, narrow-at)
-
-returns : tie.Need-returns
-returns c = search joined
-
 pub gives-back-spec : {M : Type 1} → statement M
 gives-back-spec =
-    tie.close
-    (tie.spec
-    sub-ins-at
-    ins-at-requires
-    ins-at-requires-2
-    sub-pending-under
-    pending-under-requires
-    add-takes-back
-    takes-back-requires
-    returns)
+    tie.close (tie.spec (λ c. search needs) (λ c κs. search needs) (λ c κs. search needs) (λ c. search needs) (λ c κs. search needs)
+    (λ c. search needs) (λ c κs. search (needs, narrow-at)) (λ c. search joined))

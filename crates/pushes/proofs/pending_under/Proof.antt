@@ -44,11 +44,5 @@ is : (c p : Ins) (n r : ℕ)
 unfolding pending
 is c p n r = rw (among-first (p .x) r (p .a) (p .b) (p .c))
 
-cast-push : tie.Need-cast-push
-cast-push c = search needs
-
-returns : tie.Need-returns
-returns c = search is
-
 pub pending-under-spec : {M : Type 1} → statement M
-pending-under-spec = tie.close (tie.spec cast-push returns)
+pending-under-spec = tie.close (tie.spec (λ c. search needs) (λ c. search is))

@@ -34,39 +34,7 @@ module _ (w : List ℕ) (d r s : ℕ) (e : s ≡ storesFrom w d) where
       unfolding pushedBack pushUnder
       miss t = rw (← e, ← f, lt-ltb 0 c (omega arith), ← g, t)
 
-stores-from-requires : tie.Need-stores-from-requires
-stores-from-requires c κs = search needs
-
-returns : tie.Need-returns
-returns c = search (none, first, hit, miss)
-
-call-before-requires : tie.Need-call-before-requires
-call-before-requires c κs = search needs
-
-returns-2 : tie.Need-returns-2
-returns-2 c = search (none, first, hit, miss)
-
-gives-back-requires : tie.Need-gives-back-requires
-gives-back-requires c κs = search needs
-
-sub-t8 : tie.Need-sub-t8
-sub-t8 c = search needs
-
-returns-3 : tie.Need-returns-3
-returns-3 c = search (none, first, hit, miss)
-
-returns-4 : tie.Need-returns-4
-returns-4 c = search (none, first, hit, miss)
-
 pub pushed-back-of-spec : {M : Type 1} → statement M
 pushed-back-of-spec =
-    tie.close
-    (tie.spec
-    stores-from-requires
-    returns
-    call-before-requires
-    returns-2
-    gives-back-requires
-    sub-t8
-    returns-3
-    returns-4)
+    tie.close (tie.spec (λ c κs. search needs) (λ c. search (none, first, hit, miss)) (λ c κs. search needs) (λ c. search (none, first, hit, miss))
+    (λ c κs. search needs) (λ c. search needs) (λ c. search (none, first, hit, miss)) (λ c. search (none, first, hit, miss)))

@@ -3,7 +3,7 @@ use borrow.Author.Needs.{needs}
 use mathlib.Core.Path.{_≡_, _∙_}
 use mathlib.Core.Bool.{true, false}
 use mathlib.Core.List.{List}
-use Prim.Native.Nat.{ℕ, zero, suc, _-_, _<_, _≤_}
+use Prim.Native.Nat.{ℕ, suc, _-_, _<_, _≤_}
 use native.Mathlib.Omega.{arith}
 use lib.Dec.{eqb}
 use borrow.Author.Tests.{eq-eqb, ne-eqb}
@@ -41,41 +41,7 @@ Inv-loop code d s₀ s = (s ≤ d) × (storesFrom code s ≡ storesFrom code d)
 abbrev μ-loop : tie.MeasureT-loop
 μ-loop code d s₀ s = s
 
-loop-holds : tie.Need-loop-holds Inv-loop μ-loop
-loop-holds c = search (needs, walk)
-
-sub-ins-at : tie.Need-sub-ins-at Inv-loop μ-loop
-sub-ins-at c = search (needs, walk)
-
-ins-at-requires : tie.Need-ins-at-requires Inv-loop μ-loop
-ins-at-requires c κs = search (needs, walk)
-
-returns : tie.Need-returns Inv-loop μ-loop
-returns c = search (needs, walk)
-
-sub-s : tie.Need-sub-s Inv-loop μ-loop
-sub-s c = search (needs, walk)
-
-loop-less : tie.Need-loop-less Inv-loop μ-loop
-loop-less c = search (needs, walk)
-
-loop-again : tie.Need-loop-again Inv-loop μ-loop
-loop-again c = search (needs, walk)
-
-returns-2 : tie.Need-returns-2 Inv-loop μ-loop
-returns-2 c = search (needs, walk)
-
 pub stores-from-spec : {M : Type 1} → statement M
 stores-from-spec =
-    tie.close
-    (tie.spec
-    Inv-loop
-    μ-loop
-    loop-holds
-    sub-ins-at
-    ins-at-requires
-    returns
-    sub-s
-    loop-less
-    loop-again
-    returns-2)
+    tie.close (tie.spec Inv-loop μ-loop (λ c. search (needs, walk)) (λ c. search (needs, walk)) (λ c κs. search (needs, walk))
+    (λ c. search (needs, walk)) (λ c. search (needs, walk)) (λ c. search (needs, walk)) (λ c. search (needs, walk)) (λ c. search (needs, walk)))

@@ -15,27 +15,9 @@ Inv-loop code k p x i₀ i = (i ≤ x) × (every (takenAt code k p) i ≡ true)
 abbrev μ-loop : tie.MeasureT-loop
 μ-loop code k p x i₀ i = x - i
 
-cast-x : tie.Need-cast-x Inv-loop μ-loop
-cast-x c = search needs
-
-loop-holds : tie.Need-loop-holds Inv-loop μ-loop
-loop-holds c = search (needs, all)
-
-taken-at-requires : tie.Need-taken-at-requires Inv-loop μ-loop
-taken-at-requires c κs = search needs
-
 returns : tie.Need-returns Inv-loop μ-loop
 unfolding takesBack
 returns c = search (needs, all)
-
-add-i : tie.Need-add-i Inv-loop μ-loop
-add-i c = search needs
-
-loop-less : tie.Need-loop-less Inv-loop μ-loop
-loop-less c = search needs
-
-loop-again : tie.Need-loop-again Inv-loop μ-loop
-loop-again c = search (needs, all)
 
 returns-2 : tie.Need-returns-2 Inv-loop μ-loop
 unfolding takesBack
@@ -43,15 +25,5 @@ returns-2 c = search (needs, all)
 
 pub takes-back-spec : {M : Type 1} → statement M
 takes-back-spec =
-    tie.close
-    (tie.spec
-    Inv-loop
-    μ-loop
-    cast-x
-    loop-holds
-    taken-at-requires
-    returns
-    add-i
-    loop-less
-    loop-again
-    returns-2)
+    tie.close (tie.spec Inv-loop μ-loop (λ c. search needs) (λ c. search (needs, all)) (λ c κs. search needs) returns (λ c. search needs)
+    (λ c. search needs) (λ c. search (needs, all)) returns-2)

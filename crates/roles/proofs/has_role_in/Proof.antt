@@ -12,11 +12,5 @@ is : (i : Ins) (k : ℕ) → k ≡ kindsOf i → not (has none k) ≡ hasRole i
 unfolding hasRole
 is i k e = rw e
 
-kinds-in-requires : tie.Need-kinds-in-requires
-kinds-in-requires c κs = search needs
-
-returns : tie.Need-returns
-returns c = search is
-
 pub has-role-in-spec : {M : Type 1} → statement M
-has-role-in-spec = tie.close (tie.spec kinds-in-requires returns)
+has-role-in-spec = tie.close (tie.spec (λ c κs. search needs) (λ c. search is))

@@ -12,11 +12,5 @@ is : (i : Ins) (k : ℕ) → k ≡ kindsOf i → eqb (k / 16 % 4) 1 ≡ isJump i
 unfolding isJump
 is i k e = rw e
 
-kinds-in-requires : tie.Need-kinds-in-requires
-kinds-in-requires c κs = search needs
-
-returns : tie.Need-returns
-returns c = search is
-
 pub is-jump-in-spec : {M : Type 1} → statement M
-is-jump-in-spec = tie.close (tie.spec kinds-in-requires returns)
+is-jump-in-spec = tie.close (tie.spec (λ c κs. search needs) (λ c. search is))

@@ -4,20 +4,6 @@ use Rattle.roles.proofs.ByTable.{past, raised, other}
 use Rattle.roles.proofs.kinds_in.Statement.{statement}
 use Rattle.roles.proofs.kinds_in.Tie as tie
 
-returns : tie.Need-returns
-returns c = search (needs, past)
-
-column-requires : tie.Need-column-requires
-column-requires c κs = search needs
-
-entry-requires : tie.Need-entry-requires
-entry-requires c κs = search needs
-
-returns-2 : tie.Need-returns-2
-returns-2 c = search raised
-
-returns-3 : tie.Need-returns-3
-returns-3 c = search other
-
 pub kinds-in-spec : {M : Type 1} → statement M
-kinds-in-spec = tie.close (tie.spec returns column-requires entry-requires returns-2 returns-3)
+kinds-in-spec =
+    tie.close (tie.spec (λ c. search (needs, past)) (λ c κs. search needs) (λ c κs. search needs) (λ c. search raised) (λ c. search other))

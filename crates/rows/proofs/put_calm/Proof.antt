@@ -19,39 +19,7 @@ put-as : (i : Ins) (m j regs k : ℕ) (s : Step) (rows out : List ℕ) (r : Bool
     → Put (stepFlow regs s) rows k out r → Put (stepFlow regs (calmStep i m)) rows k out r
 put-as i m j regs k s rows out r e h p = subst (λ (x : Step). Put (stepFlow regs x) rows k out r) (e ∙ ap (calmStep i) (sym h)) p
 
-calm-requires : tie.Need-calm-requires
-calm-requires c κs = search needs
-
-put-word-requires : tie.Need-put-word-requires
-put-word-requires c κs = search (needs, no-target)
-
-same-length : tie.Need-same-length
-same-length c = search needs
-
-returns : tie.Need-returns
-returns c = search put-as
-
-calm-requires-2 : tie.Need-calm-requires-2
-calm-requires-2 c κs = search needs
-
-put-word-requires-2 : tie.Need-put-word-requires-2
-put-word-requires-2 c κs = search (needs, no-target)
-
-same-length-2 : tie.Need-same-length-2
-same-length-2 c = search needs
-
-returns-2 : tie.Need-returns-2
-returns-2 c = search put-as
-
 pub put-calm-spec : {M : Type 1} → statement M
 put-calm-spec =
-    tie.close
-    (tie.spec
-    calm-requires
-    put-word-requires
-    same-length
-    returns
-    calm-requires-2
-    put-word-requires-2
-    same-length-2
-    returns-2)
+    tie.close (tie.spec (λ c κs. search needs) (λ c κs. search (needs, no-target)) (λ c. search needs) (λ c. search put-as) (λ c κs. search needs)
+    (λ c κs. search (needs, no-target)) (λ c. search needs) (λ c. search put-as))

@@ -3,8 +3,5 @@ use Rattle.touch.proofs.Written.{among-named}
 use Rattle.seek.proofs.names.Statement.{statement}
 use Rattle.seek.proofs.names.Tie as tie
 
-returns : tie.Need-returns
-returns c = search among-named
-
 pub names-spec : {M : Type 1} → statement M
-names-spec = tie.close (tie.spec returns)
+names-spec = tie.close (tie.spec (λ c. search among-named))

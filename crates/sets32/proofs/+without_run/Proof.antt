@@ -22,66 +22,8 @@ abbrev without-run-below : ℕ → In 0 without-run-kinds.ps
 without-run-below t =
     and 0 without-run-kinds.ps (falls 0 without-run-kinds.ps _<_ μ-without-run t) without-run.Pre
 
-without-run-returns : (t : ℕ) → without-run-lts.Need-returns (
-  without-reg-reads.Asked,
-  without-reg-reads.Learnt,
-  without-run-below t,
-  without-run.Post,
-) (without-run-at t) without-run.Post
-without-run-returns t c = search (none-off, one-off)
-
-without-run-without-reg-requires : (t : ℕ) → without-run-lts.Need-without-reg-requires (
-  without-reg-reads.Asked,
-  without-reg-reads.Learnt,
-  without-run-below t,
-  without-run.Post,
-) (without-run-at t) without-run.Post
-without-run-without-reg-requires t c κs = search needs
-
-without-run-add-without-run : (t : ℕ) → without-run-lts.Need-add-without-run (
-  without-reg-reads.Asked,
-  without-reg-reads.Learnt,
-  without-run-below t,
-  without-run.Post,
-) (without-run-at t) without-run.Post
-without-run-add-without-run t c = search needs
-
-without-run-sub-without-run : (t : ℕ) → without-run-lts.Need-sub-without-run (
-  without-reg-reads.Asked,
-  without-reg-reads.Learnt,
-  without-run-below t,
-  without-run.Post,
-) (without-run-at t) without-run.Post
-without-run-sub-without-run t c = search needs
-
-without-run-without-run-requires : (t : ℕ) → without-run-lts.Need-without-run-requires (
-  without-reg-reads.Asked,
-  without-reg-reads.Learnt,
-  without-run-below t,
-  without-run.Post,
-) (without-run-at t) without-run.Post
-without-run-without-run-requires t c κs = search needs
-
-without-run-returns-2 : (t : ℕ) → without-run-lts.Need-returns-2 (
-  without-reg-reads.Asked,
-  without-reg-reads.Learnt,
-  without-run-below t,
-  without-run.Post,
-) (without-run-at t) without-run.Post
-without-run-returns-2 t c = search (none-off, one-off)
-
 pub +without-run-spec : {M : Type 1} → statement M
-+without-run-spec = close μ-without-run λ t. without-run-lts.spec (
-  without-reg-reads.Asked,
-  without-reg-reads.Learnt,
-  without-run-below t,
-  without-run.Post,
-)
-    (without-run-at t)
-    without-run.Post
-    (without-run-returns t)
-    (without-run-without-reg-requires t)
-    (without-run-add-without-run t)
-    (without-run-sub-without-run t)
-    (without-run-without-run-requires t)
-    (without-run-returns-2 t)
++without-run-spec = close μ-without-run λ t. without-run-lts.spec
+    (without-reg-reads.Asked, without-reg-reads.Learnt, without-run-below t, without-run.Post) (without-run-at t) without-run.Post
+    (λ c. search (none-off, one-off)) (λ c κs. search needs) (λ c. search needs) (λ c. search needs) (λ c κs. search needs)
+    (λ c. search (none-off, one-off))

@@ -4,18 +4,5 @@ use Rattle.sets.proofs.Words.{more}
 use Rattle.sets32.proofs.with_named.Statement.{statement}
 use Rattle.sets32.proofs.with_named.Tie as tie
 
-with-reg-requires : tie.Need-with-reg-requires
-with-reg-requires c κs = search needs
-
-with-reg-requires-2 : tie.Need-with-reg-requires-2
-with-reg-requires-2 c κs = search needs
-
-with-reg-requires-3 : tie.Need-with-reg-requires-3
-with-reg-requires-3 c κs = search needs
-
-returns : tie.Need-returns
-returns c = search more
-
 pub with-named-spec : {M : Type 1} → statement M
-with-named-spec =
-    tie.close (tie.spec with-reg-requires with-reg-requires-2 with-reg-requires-3 returns)
+with-named-spec = tie.close (tie.spec (λ c κs. search needs) (λ c κs. search needs) (λ c κs. search needs) (λ c. search more))

@@ -15,24 +15,9 @@ Inv-loop code n k₀ k = (k ≤ n) × (every (flatAt code) k ≡ true)
 abbrev μ-loop : tie.MeasureT-loop
 μ-loop code n k₀ k = n - k
 
-loop-holds : tie.Need-loop-holds Inv-loop μ-loop
-loop-holds c = search (needs, all)
-
-flat-at-requires : tie.Need-flat-at-requires Inv-loop μ-loop
-flat-at-requires c κs = search needs
-
 returns : tie.Need-returns Inv-loop μ-loop
 unfolding flat
 returns c = search (needs, all)
-
-add-k : tie.Need-add-k Inv-loop μ-loop
-add-k c = search needs
-
-loop-less : tie.Need-loop-less Inv-loop μ-loop
-loop-less c = search needs
-
-loop-again : tie.Need-loop-again Inv-loop μ-loop
-loop-again c = search (needs, all)
 
 returns-2 : tie.Need-returns-2 Inv-loop μ-loop
 unfolding flat
@@ -40,14 +25,5 @@ returns-2 c = search (needs, all)
 
 pub all-flat-spec : {M : Type 1} → statement M
 all-flat-spec =
-    tie.close
-    (tie.spec
-    Inv-loop
-    μ-loop
-    loop-holds
-    flat-at-requires
-    returns
-    add-k
-    loop-less
-    loop-again
-    returns-2)
+    tie.close (tie.spec Inv-loop μ-loop (λ c. search (needs, all)) (λ c κs. search needs) returns (λ c. search needs) (λ c. search needs)
+    (λ c. search (needs, all)) returns-2)

@@ -14,21 +14,5 @@ joined : (w : List ℕ) (k : ℕ) (i j : Ins) (b : Bool) → i ≡ insAt w k →
 unfolding flatAt
 joined w k i j b e f g = g ∙ rw (e, f)
 
-ins-at-requires : tie.Need-ins-at-requires
-ins-at-requires c κs = search needs
-
-add-ins-at : tie.Need-add-ins-at
-add-ins-at c = search needs
-
-ins-at-requires-2 : tie.Need-ins-at-requires-2
-ins-at-requires-2 c κs = search needs
-
-flat-here-requires : tie.Need-flat-here-requires
-flat-here-requires c κs = search needs
-
-returns : tie.Need-returns
-returns c = search joined
-
 pub flat-at-spec : {M : Type 1} → statement M
-flat-at-spec =
-    tie.close (tie.spec ins-at-requires add-ins-at ins-at-requires-2 flat-here-requires returns)
+flat-at-spec = tie.close (tie.spec (λ c κs. search needs) (λ c. search needs) (λ c κs. search needs) (λ c κs. search needs) (λ c. search joined))

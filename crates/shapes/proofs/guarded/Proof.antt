@@ -6,27 +6,6 @@ use Rattle.walks.proofs.Truths.{truths}
 use Rattle.shapes.proofs.guarded.Statement.{statement}
 use Rattle.shapes.proofs.guarded.Tie as tie
 
-check-requires : tie.Need-check-requires
-check-requires c κs = search needs
-
-enum-known-r : tie.Need-enum-known-r
-enum-known-r c = search needs
-
-refused-requires : tie.Need-refused-requires
-refused-requires c κs = search needs
-
-enum-told : tie.Need-enum-told
-enum-told c = search needs
-
-any-guards-requires : tie.Need-any-guards-requires
-any-guards-requires c κs = search passing
-
-cast-tell : tie.Need-cast-tell
-cast-tell c = search needs
-
-tell-requires : tie.Need-tell-requires
-tell-requires c κs = search needs
-
 returns : tie.Need-returns
 unfolding guardedAnswer
 returns c = search truths
@@ -37,5 +16,5 @@ returns-2 c = search truths
 
 pub guarded-spec : {M : Type 1} → statement M
 guarded-spec =
-    tie.close
-    (tie.spec check-requires enum-known-r refused-requires enum-told any-guards-requires cast-tell tell-requires returns returns-2)
+    tie.close (tie.spec (λ c κs. search needs) (λ c. search needs) (λ c κs. search needs) (λ c. search needs) (λ c κs. search passing)
+    (λ c. search needs) (λ c κs. search needs) returns returns-2)

@@ -26,87 +26,10 @@ module _ (i : Ins) (v : Work) (f : v ≡ workOf (i .op)) (h : v ≡ Role) (b : B
   unfolding effectOf
   no-role t = rw (← f, h, ← e, t)
 
-work-of-requires : tie.Need-work-of-requires
-work-of-requires c κs = search needs
-
-enum-told : tie.Need-enum-told
-enum-told c = search needs
-
-cast-t9 : tie.Need-cast-t9
-cast-t9 c = search needs
-
-enum-told-2 : tie.Need-enum-told-2
-enum-told-2 c = search needs
-
-enum-known-pops : tie.Need-enum-known-pops
-enum-known-pops c = search needs
-
-cast-t12 : tie.Need-cast-t12
-cast-t12 c = search needs
-
-enum-told-3 : tie.Need-enum-told-3
-enum-told-3 c = search needs
-
-enum-told-4 : tie.Need-enum-told-4
-enum-told-4 c = search needs
-
-add-t15 : tie.Need-add-t15
-add-t15 c = search needs
-
-enum-told-5 : tie.Need-enum-told-5
-enum-told-5 c = search needs
-
-has-role-in-requires : tie.Need-has-role-in-requires
-has-role-in-requires c κs = search needs
-
-returns : tie.Need-returns
-returns c = search (needs, by-work, branch)
-
-returns-2 : tie.Need-returns-2
-returns-2 c = search (needs, by-work, branch)
-
-returns-3 : tie.Need-returns-3
-returns-3 c = search (needs, by-work, branch)
-
-returns-4 : tie.Need-returns-4
-returns-4 c = search (needs, by-work, branch)
-
-returns-5 : tie.Need-returns-5
-returns-5 c = search (needs, by-work, branch)
-
-returns-6 : tie.Need-returns-6
-returns-6 c = search (needs, by-work, branch)
-
-returns-7 : tie.Need-returns-7
-returns-7 c = search (needs, by-work, branch)
-
-returns-8 : tie.Need-returns-8
-returns-8 c = search with-role
-
-returns-9 : tie.Need-returns-9
-returns-9 c = search no-role
-
 pub effect-of-spec : {M : Type 1} → statement M
 effect-of-spec =
-    tie.close
-    (tie.spec
-    work-of-requires
-    enum-told
-    cast-t9
-    enum-told-2
-    enum-known-pops
-    cast-t12
-    enum-told-3
-    enum-told-4
-    add-t15
-    enum-told-5
-    has-role-in-requires
-    returns
-    returns-2
-    returns-3
-    returns-4
-    returns-5
-    returns-6
-    returns-7
-    returns-8
-    returns-9)
+    tie.close (tie.spec (λ c κs. search needs) (λ c. search needs) (λ c. search needs) (λ c. search needs) (λ c. search needs) (λ c. search needs)
+    (λ c. search needs) (λ c. search needs) (λ c. search needs) (λ c. search needs) (λ c κs. search needs) (λ c. search (needs, by-work, branch))
+    (λ c. search (needs, by-work, branch)) (λ c. search (needs, by-work, branch)) (λ c. search (needs, by-work, branch))
+    (λ c. search (needs, by-work, branch)) (λ c. search (needs, by-work, branch)) (λ c. search (needs, by-work, branch)) (λ c. search with-role)
+    (λ c. search no-role))

@@ -20,14 +20,5 @@ module _ (i : Ins) (k f : ℕ) where
   unfolding sourceOf
   made o = rw (ne-eqb (i .op) PushRegs o)
 
-field-of-requires : tie.Need-field-of-requires
-field-of-requires c κs = search needs
-
-returns : tie.Need-returns
-returns c = search pushed
-
-returns-2 : tie.Need-returns-2
-returns-2 c = search made
-
 pub source-of-spec : {M : Type 1} → statement M
-source-of-spec = tie.close (tie.spec field-of-requires returns returns-2)
+source-of-spec = tie.close (tie.spec (λ c κs. search needs) (λ c. search pushed) (λ c. search made))

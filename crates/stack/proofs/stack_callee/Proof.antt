@@ -22,39 +22,6 @@ module _ (w : List ℕ) (k : ℕ) (m : ℕ) (v : Source) (h : v ≡ stackCallee 
   nothing : v ≡ Lost → a ≡ answerOf 0 0 0 0 → a ≡ stackTold (stackCallee w k m)
   nothing t z = rw (← h, t) z
 
-check-requires : tie.Need-check-requires
-check-requires c κs = search needs
-
-inside-requires : tie.Need-inside-requires
-inside-requires c κs = search needs
-
-enum-known-q : tie.Need-enum-known-q
-enum-known-q c = search needs
-
-refused-requires : tie.Need-refused-requires
-refused-requires c κs = search needs
-
-enum-told : tie.Need-enum-told
-enum-told c = search needs
-
-stack-callee-of-requires : tie.Need-stack-callee-of-requires
-stack-callee-of-requires c κs = search (passing, at-in)
-
-enum-known-p : tie.Need-enum-known-p
-enum-known-p c = search needs
-
-cast-tell : tie.Need-cast-tell
-cast-tell c = search needs
-
-tell-requires : tie.Need-tell-requires
-tell-requires c κs = search needs
-
-enum-told-2 : tie.Need-enum-told-2
-enum-told-2 c = search needs
-
-tell-requires-2 : tie.Need-tell-requires-2
-tell-requires-2 c κs = search needs
-
 returns : tie.Need-returns
 unfolding stackAnswer
 returns c = search (refused, told, is, nothing, onward)
@@ -69,19 +36,6 @@ returns-3 c = search (refused, told, is, nothing, onward)
 
 pub stack-callee-spec : {M : Type 1} → statement M
 stack-callee-spec =
-    tie.close
-    (tie.spec
-    check-requires
-    inside-requires
-    enum-known-q
-    refused-requires
-    enum-told
-    stack-callee-of-requires
-    enum-known-p
-    cast-tell
-    tell-requires
-    enum-told-2
-    tell-requires-2
-    returns
-    returns-2
-    returns-3)
+    tie.close (tie.spec (λ c κs. search needs) (λ c κs. search needs) (λ c. search needs) (λ c κs. search needs) (λ c. search needs)
+    (λ c κs. search (passing, at-in)) (λ c. search needs) (λ c. search needs) (λ c κs. search needs) (λ c. search needs) (λ c κs. search needs)
+    returns returns-2 returns-3)

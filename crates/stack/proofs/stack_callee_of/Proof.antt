@@ -1,6 +1,6 @@
 -- `stack::stack_callee_of` meets its contract: what is left has the answer of the whole, and the depth fits. Assumes nothing.
 use borrow.Author.Needs.{needs}
-use mathlib.Core.Path.{_≡_, refl, sym, _∙_}
+use mathlib.Core.Path.{_≡_, refl}
 use mathlib.Core.List.{List}
 use Prim.Native.Nat.{ℕ, zero, suc, _+_, _-_, _*_, _<_, _≤_}
 use native.Mathlib.Omega.{arith}
@@ -54,57 +54,8 @@ Inv-loop code j n roles need₀ k₀ need k = (k ≤ j) × (need ≤ 65536 * (1 
 abbrev μ-loop : tie.MeasureT-loop
 μ-loop code j n roles need₀ k₀ need k = k
 
-table-requires : tie.Need-table-requires Inv-loop μ-loop
-table-requires c κs = search needs
-
-add-need : tie.Need-add-need Inv-loop μ-loop
-add-need c = search (needs, walk)
-
-loop-holds : tie.Need-loop-holds Inv-loop μ-loop
-loop-holds c = search (needs, walk)
-
-sub-k : tie.Need-sub-k Inv-loop μ-loop
-sub-k c = search (needs, walk)
-
-ins-at-requires : tie.Need-ins-at-requires Inv-loop μ-loop
-ins-at-requires c κs = search (needs, walk)
-
-turn-of-requires : tie.Need-turn-of-requires Inv-loop μ-loop
-turn-of-requires c κs = search (needs, walk)
-
-enum-known-s : tie.Need-enum-known-s Inv-loop μ-loop
-enum-known-s c = search (needs, walk)
-
-returns : tie.Need-returns Inv-loop μ-loop
-returns c = search (needs, walk)
-
-enum-known-m : tie.Need-enum-known-m Inv-loop μ-loop
-enum-known-m c = search (needs, walk)
-
-loop-less : tie.Need-loop-less Inv-loop μ-loop
-loop-less c = search (needs, walk)
-
-loop-again : tie.Need-loop-again Inv-loop μ-loop
-loop-again c = search (needs, walk)
-
-returns-2 : tie.Need-returns-2 Inv-loop μ-loop
-returns-2 c = search (needs, walk)
-
 pub stack-callee-of-spec : {M : Type 1} → statement M
 stack-callee-of-spec =
-    tie.close
-    (tie.spec
-    Inv-loop
-    μ-loop
-    table-requires
-    add-need
-    loop-holds
-    sub-k
-    ins-at-requires
-    turn-of-requires
-    enum-known-s
-    returns
-    enum-known-m
-    loop-less
-    loop-again
-    returns-2)
+    tie.close (tie.spec Inv-loop μ-loop (λ c κs. search needs) (λ c. search (needs, walk)) (λ c. search (needs, walk)) (λ c. search (needs, walk))
+    (λ c κs. search (needs, walk)) (λ c κs. search (needs, walk)) (λ c. search (needs, walk)) (λ c. search (needs, walk)) (λ c. search (needs, walk))
+    (λ c. search (needs, walk)) (λ c. search (needs, walk)) (λ c. search (needs, walk)))

@@ -25,38 +25,7 @@ loop-holds : tie.Need-loop-holds Inv-loop μ-loop
 unfolding firstLevel
 loop-holds c = search (needs, finds)
 
-ins-at-requires : tie.Need-ins-at-requires Inv-loop μ-loop
-ins-at-requires c κs = search needs
-
-level-at-requires : tie.Need-level-at-requires Inv-loop μ-loop
-level-at-requires c κs = search needs
-
-returns : tie.Need-returns Inv-loop μ-loop
-returns c = search (needs, finds, at-place)
-
-add-k : tie.Need-add-k Inv-loop μ-loop
-add-k c = search needs
-
-loop-less : tie.Need-loop-less Inv-loop μ-loop
-loop-less c = search needs
-
-loop-again : tie.Need-loop-again Inv-loop μ-loop
-loop-again c = search (needs, finds, at-place)
-
-returns-2 : tie.Need-returns-2 Inv-loop μ-loop
-returns-2 c = search (needs, finds)
-
 pub first-level-spec : {M : Type 1} → statement M
 first-level-spec =
-    tie.close
-    (tie.spec
-    Inv-loop
-    μ-loop
-    loop-holds
-    ins-at-requires
-    level-at-requires
-    returns
-    add-k
-    loop-less
-    loop-again
-    returns-2)
+    tie.close (tie.spec Inv-loop μ-loop loop-holds (λ c κs. search needs) (λ c κs. search needs) (λ c. search (needs, finds, at-place))
+    (λ c. search needs) (λ c. search needs) (λ c. search (needs, finds, at-place)) (λ c. search (needs, finds)))

@@ -14,17 +14,5 @@ use Rattle.steps.proofs.step_with.Tie as tie
 by-turn : (w : List ℕ) (k m n : ℕ) (i : Ins) (s : Step) → s ≡ turnStep i m n → i ≡ insAt w k → m ≡ calmOf (i .op) → n ≡ count w → m < 64 → StepAt w k s
 by-turn w k m n i s q place e en l = rw q (turn-is w k m i place e n en l)
 
-turn-requires : tie.Need-turn-requires
-turn-requires c κs = search needs
-
-returns : tie.Need-returns
-returns c = search (needs, by-turn)
-
-step-of-requires : tie.Need-step-of-requires
-step-of-requires c κs = search needs
-
-returns-2 : tie.Need-returns-2
-returns-2 c = search needs
-
 pub step-with-spec : {M : Type 1} → statement M
-step-with-spec = tie.close (tie.spec turn-requires returns step-of-requires returns-2)
+step-with-spec = tie.close (tie.spec (λ c κs. search needs) (λ c. search (needs, by-turn)) (λ c κs. search needs) (λ c. search needs))

@@ -21,34 +21,8 @@ rest : (o : ℕ) → Rest Plain o (Unit {0}) cases → Plain ≡ caseOf o
 unfolding caseOf
 rest = unnamed Plain cases
 
-returns : tie.Need-returns
-unfolding cases
-returns c = arm 0 _ (c .match .keys1)
-
-returns-2 : tie.Need-returns-2
-unfolding cases
-returns-2 c = arm 1 _ (c .match .keys2)
-
-returns-3 : tie.Need-returns-3
-unfolding cases
-returns-3 c = arm 2 _ (c .match .keys3)
-
-returns-4 : tie.Need-returns-4
-unfolding cases
-returns-4 c = arm 3 _ (c .match .keys4)
-
-returns-5 : tie.Need-returns-5
-unfolding cases
-returns-5 c = arm 4 _ (c .match .keys5)
-
-returns-6 : tie.Need-returns-6
-unfolding cases
-returns-6 c = arm 5 _ (c .match .keys6)
-
-returns-7 : tie.Need-returns-7
-unfolding cases
-returns-7 c = rest _ (c .match .rest)
-
 pub case-of-spec : {M : Type 1} → statement M
+unfolding cases
 case-of-spec =
-    tie.close (tie.spec returns returns-2 returns-3 returns-4 returns-5 returns-6 returns-7)
+    tie.close (tie.spec (λ c. arm 0 _ (c .match .keys1)) (λ c. arm 1 _ (c .match .keys2)) (λ c. arm 2 _ (c .match .keys3))
+    (λ c. arm 3 _ (c .match .keys4)) (λ c. arm 4 _ (c .match .keys5)) (λ c. arm 5 _ (c .match .keys6)) (λ c. rest _ (c .match .rest)))

@@ -9,18 +9,9 @@ returns : tie.Need-returns
 unfolding plainOf
 returns c = search (needs, branch)
 
-mul-t5 : tie.Need-mul-t5
-mul-t5 c = search needs
-
-mul-t7 : tie.Need-mul-t7
-mul-t7 c = search needs
-
-mul-t9 : tie.Need-mul-t9
-mul-t9 c = search needs
-
 returns-2 : tie.Need-returns-2
 unfolding plainOf
 returns-2 c = search (needs, branch)
 
 pub plain-spec : {M : Type 1} → statement M
-plain-spec = tie.close (tie.spec returns mul-t5 mul-t7 mul-t9 returns-2)
+plain-spec = tie.close (tie.spec returns (λ c. search needs) (λ c. search needs) (λ c. search needs) returns-2)

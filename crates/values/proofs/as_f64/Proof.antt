@@ -4,11 +4,5 @@ use Rattle.values.proofs.Word.{back, exact}
 use Rattle.values.proofs.as_f64.Statement.{statement}
 use Rattle.values.proofs.as_f64.Tie as tie
 
-int-to-float-result : tie.Need-int-to-float-result
-int-to-float-result c = rw (back (c .before .fits .i)) (exact (c .before .args .i) (c .before .pre))
-
-returns : tie.Need-returns
-returns c = search needs
-
 pub as-f64-spec : {M : Type 1} → statement M
-as-f64-spec = tie.close (tie.spec int-to-float-result returns)
+as-f64-spec = tie.close (tie.spec (λ c. rw (back (c .before .fits .i)) (exact (c .before .args .i) (c .before .pre))) (λ c. search needs))

@@ -5,14 +5,7 @@ use Rattle.values.proofs.Arms.{add-arm}
 use Rattle.values.proofs.checked_add.Statement.{statement}
 use Rattle.values.proofs.checked_add.Tie as tie
 
-add-in-range : tie.Need-add-in-range
-add-in-range c = rw (back (c .fits .a), back (c .fits .b)) (sum-fits (c .pre .0) (c .pre .1))
-
-in-range-requires : tie.Need-in-range-requires
-in-range-requires c κs = search needs
-
-returns : tie.Need-returns
-returns c = search add-arm
-
 pub checked-add-spec : {M : Type 1} → statement M
-checked-add-spec = tie.close (tie.spec add-in-range in-range-requires returns)
+checked-add-spec =
+    tie.close (tie.spec (λ c. rw (back (c .fits .a), back (c .fits .b)) (sum-fits (c .pre .0) (c .pre .1))) (λ c κs. search needs)
+    (λ c. search add-arm))

@@ -4,25 +4,7 @@ use borrow.Author.Needs.{needs}
 use Rattle.values.proofs.checked_div.Statement.{statement}
 use Rattle.values.proofs.checked_div.Tie as tie
 
-int-divmod-requires : tie.Need-int-divmod-requires
-int-divmod-requires c κs = search needs
-
-enum-known-q : tie.Need-enum-known-q
-enum-known-q c = search needs
-
-enum-told : tie.Need-enum-told
-enum-told c = search needs
-
-returns : tie.Need-returns
-returns c = search no-div
-
-in-range-requires : tie.Need-in-range-requires
-in-range-requires c κs = search needs
-
-returns-2 : tie.Need-returns-2
-returns-2 c = search div-arm
-
 pub checked-div-spec : {M : Type 1} → statement M
 checked-div-spec =
-    tie.close
-    (tie.spec int-divmod-requires enum-known-q enum-told returns in-range-requires returns-2)
+    tie.close (tie.spec (λ c κs. search needs) (λ c. search needs) (λ c. search needs) (λ c. search no-div) (λ c κs. search needs)
+    (λ c. search div-arm))

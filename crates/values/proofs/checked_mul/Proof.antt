@@ -11,15 +11,6 @@ use Rattle.values.proofs.Arms.{mul-arm}
 use Rattle.values.proofs.checked_mul.Statement.{statement}
 use Rattle.values.proofs.checked_mul.Tie as tie
 
-unsigned-abs-requires : tie.Need-unsigned-abs-requires
-unsigned-abs-requires c κs = search needs
-
-unsigned-abs-requires-2 : tie.Need-unsigned-abs-requires-2
-unsigned-abs-requires-2 c κs = search needs
-
-div-if2 : tie.Need-div-if2
-div-if2 c = search needs
-
 size-a : (c : tie.After-unsigned-abs) → c .unsigned-abs .result ≡ natAbs (c .before .args .a)
 size-a c = c .unsigned-abs .ensures ∙ ap natAbs (back (c .before .fits .a))
 
@@ -46,9 +37,6 @@ fits c =
 mul-in-range : tie.Need-mul-in-range
 mul-in-range c = let s = c .before .before .before in rw (back (s .fits .a), back (s .fits .b)) (fits c)
 
-in-range-requires : tie.Need-in-range-requires
-in-range-requires c κs = search needs
-
 returns-2 : tie.Need-returns-2
 returns-2 c =
     let s = c .before .before .before .before in
@@ -56,5 +44,4 @@ returns-2 c =
 
 pub checked-mul-spec : {M : Type 1} → statement M
 checked-mul-spec =
-    tie.close
-    (tie.spec unsigned-abs-requires unsigned-abs-requires-2 div-if2 returns mul-in-range in-range-requires returns-2)
+    tie.close (tie.spec (λ c κs. search needs) (λ c κs. search needs) (λ c. search needs) returns mul-in-range (λ c κs. search needs) returns-2)

@@ -5,14 +5,5 @@ use Rattle.values.proofs.Arms.{minus-arm}
 use Rattle.values.proofs.checked_neg.Statement.{statement}
 use Rattle.values.proofs.checked_neg.Tie as tie
 
-sub-in-range : tie.Need-sub-in-range
-sub-in-range c = rw (back (c .fits .a)) (minus-fits (c .pre))
-
-in-range-requires : tie.Need-in-range-requires
-in-range-requires c κs = search needs
-
-returns : tie.Need-returns
-returns c = search minus-arm
-
 pub checked-neg-spec : {M : Type 1} → statement M
-checked-neg-spec = tie.close (tie.spec sub-in-range in-range-requires returns)
+checked-neg-spec = tie.close (tie.spec (λ c. rw (back (c .fits .a)) (minus-fits (c .pre))) (λ c κs. search needs) (λ c. search minus-arm))

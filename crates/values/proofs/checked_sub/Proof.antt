@@ -5,14 +5,7 @@ use Rattle.values.proofs.Arms.{sub-arm}
 use Rattle.values.proofs.checked_sub.Statement.{statement}
 use Rattle.values.proofs.checked_sub.Tie as tie
 
-sub-in-range : tie.Need-sub-in-range
-sub-in-range c = rw (back (c .fits .a), back (c .fits .b)) (difference-fits (c .pre .0) (c .pre .1))
-
-in-range-requires : tie.Need-in-range-requires
-in-range-requires c κs = search needs
-
-returns : tie.Need-returns
-returns c = search sub-arm
-
 pub checked-sub-spec : {M : Type 1} → statement M
-checked-sub-spec = tie.close (tie.spec sub-in-range in-range-requires returns)
+checked-sub-spec =
+    tie.close (tie.spec (λ c. rw (back (c .fits .a), back (c .fits .b)) (difference-fits (c .pre .0) (c .pre .1))) (λ c κs. search needs)
+    (λ c. search sub-arm))

@@ -11,9 +11,6 @@ use Rattle.values.proofs.unsigned_abs.Tie as tie
 below : (c : tie.Then1) → ltZ (c .before .args .a) (pos 0) ≡ true
 below c = rw (back (c .before .fits .a)) at (c .if1 .taken)
 
-sub-result : tie.Need-sub-result
-sub-result c = rw (back (c .before .fits .a)) (not-fits (c .before .fits .a))
-
 cast-result : tie.Need-cast-result
 cast-result c =
     let s = c .before in
@@ -32,9 +29,7 @@ cast-result-2 c =
 returns : tie.Need-returns
 returns c = let s = c .before in rw (back (s .fits .a), back (not-fits (s .fits .a))) (not-size (s .args .a) (below c))
 
-returns-2 : tie.Need-returns-2
-returns-2 c = search needs
-
 pub unsigned-abs-spec : {M : Type 1} → statement M
 unsigned-abs-spec =
-    tie.close (tie.spec sub-result cast-result add-result cast-result-2 returns returns-2)
+    tie.close (tie.spec (λ c. rw (back (c .before .fits .a)) (not-fits (c .before .fits .a))) cast-result add-result cast-result-2 returns
+    (λ c. search needs))

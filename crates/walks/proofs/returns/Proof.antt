@@ -7,30 +7,6 @@ use Rattle.walks.proofs.Truths.{truths}
 use Rattle.walks.proofs.returns.Statement.{statement}
 use Rattle.walks.proofs.returns.Tie as tie
 
-check-requires : tie.Need-check-requires
-check-requires c κs = search needs
-
-inside-requires : tie.Need-inside-requires
-inside-requires c κs = search needs
-
-enum-known-r : tie.Need-enum-known-r
-enum-known-r c = search needs
-
-refused-requires : tie.Need-refused-requires
-refused-requires c κs = search needs
-
-enum-told : tie.Need-enum-told
-enum-told c = search needs
-
-returns-at-requires : tie.Need-returns-at-requires
-returns-at-requires c κs = search (passing, near)
-
-cast-tell : tie.Need-cast-tell
-cast-tell c = search needs
-
-tell-requires : tie.Need-tell-requires
-tell-requires c κs = search needs
-
 returns : tie.Need-returns
 unfolding returnsAnswer
 returns c = search (truths, onward)
@@ -41,14 +17,5 @@ returns-2 c = search (truths, onward)
 
 pub returns-spec : {M : Type 1} → statement M
 returns-spec =
-    tie.close
-    (tie.spec
-    check-requires
-    inside-requires
-    enum-known-r
-    refused-requires enum-told
-    returns-at-requires
-    cast-tell
-    tell-requires
-    returns
-    returns-2)
+    tie.close (tie.spec (λ c κs. search needs) (λ c κs. search needs) (λ c. search needs) (λ c κs. search needs) (λ c. search needs)
+    (λ c κs. search (passing, near)) (λ c. search needs) (λ c κs. search needs) returns returns-2)

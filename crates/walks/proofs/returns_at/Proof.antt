@@ -14,35 +14,7 @@ joined : (w : List ℕ) (k : ℕ) (i j t : Ins) (b : Bool) → i ≡ insAt w k �
 unfolding returnsAt
 joined w k i j t b e f g h = h ∙ rw (g, e, f)
 
-add-ins-at : tie.Need-add-ins-at
-add-ins-at c = search needs
-
-ins-at-requires : tie.Need-ins-at-requires
-ins-at-requires c κs = search needs
-
-cast-ins-at : tie.Need-cast-ins-at
-cast-ins-at c = search needs
-
-ins-at-requires-2 : tie.Need-ins-at-requires-2
-ins-at-requires-2 c κs = search needs
-
-ins-at-requires-3 : tie.Need-ins-at-requires-3
-ins-at-requires-3 c κs = search needs
-
-returns-here-requires : tie.Need-returns-here-requires
-returns-here-requires c κs = search needs
-
-returns : tie.Need-returns
-returns c = search joined
-
 pub returns-at-spec : {M : Type 1} → statement M
 returns-at-spec =
-    tie.close
-    (tie.spec
-    add-ins-at
-    ins-at-requires
-    cast-ins-at
-    ins-at-requires-2
-    ins-at-requires-3
-    returns-here-requires
-    returns)
+    tie.close (tie.spec (λ c. search needs) (λ c κs. search needs) (λ c. search needs) (λ c κs. search needs) (λ c κs. search needs)
+    (λ c κs. search needs) (λ c. search joined))

@@ -1,13 +1,12 @@
 -- The call on small bodies: rows, lists and counts, whole. Assumes nothing.
-use mathlib.Core.Path.{_≡_, refl}
-use mathlib.Core.Bool.{Bool, true, false}
-use mathlib.Core.List.{List, [], _∷_, _++_}
+use mathlib.Core.Path.{refl}
+use mathlib.Core.Bool.{true, false}
+use mathlib.Core.List.{List, [], _∷_}
 use Prim.Native.Nat.{ℕ}
 use native.Mathlib.Nat.{le-refl}
 use lib.ListN.{replicate}
 use Rattle.laws.specs.All.{every, many}
 use Rattle.laws.specs.Walk.{first}
-use Rattle.code.specs.Op.{LoadGlobalR, CallGlobalR, StoreTopR, SetupExcept, GetAttrR, Raise, ReturnR}
 use Rattle.code.specs.Rules.{rules, tryKept}
 use Rattle.code.specs.Check.{checkOf, firstBadTry}
 use Rattle.roles.specs.Kinds.{page, ruleOf, kindsOf, hasRole, isJump}
@@ -27,7 +26,7 @@ use Rattle.kept.specs.Lists.{listsTo, offsetsTo}
 use Rattle.kept.specs.Answers.{stagesOf, told}
 use Rattle.kept.specs.declared.KeptAnswer.the-variants.{Is}
 use Rattle.nested.specs.Raising.{raisesAt, raising, mays, beginsAt}
-use Rattle.nested.specs.Bodies.{unmarked, body, tries, raised}
+use Rattle.nested.specs.Bodies.{body, tries, raised}
 use Rattle.nested.specs.Inner.{untidy}
 use Rattle.raises.specs.Inner.{RaisingOutcome}
 
@@ -40,11 +39,6 @@ pub called-found : Found (raising (mays false body) 6 body tries) (beginsAt 6 bo
 unfolding minus joined rowAt sweep below tally value rowsOf page ruleOf kindsOf hasRole isJump cases caseOf usedBy givenBy storeOf overPending pastStore restores idle usedAt givenAt afterAt isLevel listed handlersOf added raisesAt routeStart firstLevel resumeOf resultAt keptAt listsTo offsetsTo stagesOf checkOf rules firstBadTry tryKept first many every
 called-found = record { sweeps = done (last-straight (raising (mays false body) 6 body tries) 2 (replicate 11 0) refl); left = refl }
 
-pub called : RaisingOutcome body 6 tries false (replicate 11 9) (replicate 11 9) (replicate 2 9) found-rows (0 ∷ 0 ∷ 0 ∷ 1 ∷ 1 ∷ 1 ∷ 1 ∷ 2 ∷ 2 ∷ 2 ∷ 2 ∷ [])
-    (5 ∷ 5 ∷ []) (Is 2 1 0)
-unfolding minus joined rowAt sweep below tally value rowsOf page ruleOf kindsOf hasRole isJump cases caseOf usedBy givenBy storeOf overPending pastStore restores idle usedAt givenAt afterAt isLevel listed handlersOf added raisesAt routeStart firstLevel resumeOf resultAt keptAt listsTo offsetsTo stagesOf checkOf rules firstBadTry tryKept first many every
-called = told refl (record { found = called-found; long = refl; past = refl }) (le-refl 2)
-
 -- ---- Raise, which is no level
 
 -- the call at 1 keeps nothing where only levels raise, and r5 where anything may
@@ -52,18 +46,9 @@ pub raise-levels-found : Found (raising (mays false raised) 6 raised (3 ∷ 6 �
 unfolding minus joined rowAt sweep below tally value rowsOf page ruleOf kindsOf hasRole isJump cases caseOf usedBy givenBy storeOf overPending pastStore restores idle usedAt givenAt afterAt isLevel listed handlersOf added raisesAt routeStart firstLevel resumeOf resultAt keptAt listsTo offsetsTo stagesOf checkOf rules firstBadTry tryKept first many every
 raise-levels-found = record { sweeps = done (last-straight (raising (mays false raised) 6 raised (3 ∷ 6 ∷ [])) 1 (replicate 8 0) refl); left = refl }
 
-pub raise-levels : RaisingOutcome raised 6 (3 ∷ 6 ∷ []) false (replicate 8 9) (replicate 8 9) [] (0 ∷ 0 ∷ 0 ∷ 2 ∷ 2 ∷ 2 ∷ 32 ∷ 0 ∷ []) (replicate 8 0) [] (Is 0 1 0)
-unfolding minus joined rowAt sweep below tally value rowsOf page ruleOf kindsOf hasRole isJump cases caseOf usedBy givenBy storeOf overPending pastStore restores idle usedAt givenAt afterAt isLevel listed handlersOf added raisesAt routeStart firstLevel resumeOf resultAt keptAt listsTo offsetsTo stagesOf checkOf rules firstBadTry tryKept first many every
-raise-levels = told refl (record { found = raise-levels-found; long = refl; past = refl }) (le-refl 0)
-
 pub raise-all-found : Found (raising (mays true raised) 6 raised (3 ∷ 6 ∷ [])) (beginsAt 6 raised) (0 ∷ 32 ∷ 32 ∷ 34 ∷ 34 ∷ 34 ∷ 32 ∷ 0 ∷ []) 1 0
 unfolding minus joined rowAt sweep below tally value rowsOf page ruleOf kindsOf hasRole isJump cases caseOf usedBy givenBy storeOf overPending pastStore restores idle usedAt givenAt afterAt isLevel listed handlersOf added raisesAt routeStart firstLevel resumeOf resultAt keptAt listsTo offsetsTo stagesOf checkOf rules firstBadTry tryKept first many every
 raise-all-found = record { sweeps = done (last-straight (raising (mays true raised) 6 raised (3 ∷ 6 ∷ [])) 1 (replicate 8 0) refl); left = refl }
-
-pub raise-all : RaisingOutcome raised 6 (3 ∷ 6 ∷ []) true (replicate 8 9) (replicate 8 9) (9 ∷ []) (0 ∷ 32 ∷ 32 ∷ 34 ∷ 34 ∷ 34 ∷ 32 ∷ 0 ∷ [])
-    (0 ∷ 0 ∷ 1 ∷ 1 ∷ 1 ∷ 1 ∷ 1 ∷ 1 ∷ []) (5 ∷ []) (Is 1 1 0)
-unfolding minus joined rowAt sweep below tally value rowsOf page ruleOf kindsOf hasRole isJump cases caseOf usedBy givenBy storeOf overPending pastStore restores idle usedAt givenAt afterAt isLevel listed handlersOf added raisesAt routeStart firstLevel resumeOf resultAt keptAt listsTo offsetsTo stagesOf checkOf rules firstBadTry tryKept first many every
-raise-all = told refl (record { found = raise-all-found; long = refl; past = refl }) (le-refl 1)
 
 -- ---- a mark on ReturnR: the call at 0 keeps r2, which the position after the ReturnR reads
 
@@ -74,26 +59,6 @@ marked = told refl (record {
     sweeps = done (last-straight (raising (mays false untidy) 3 untidy []) 0 (replicate 5 0) refl);
     left =
         refl;
-  };
-  long = refl;
-  past = refl;
-}) (le-refl 2)
-
--- ---- a handler wants what its level gives up: 0 LoadGlobalR a1; 1 CallGlobalR; 2 StoreTopR a2; 3 SetupExcept 6; 4 GetAttrR a1 b2; 5 ReturnR b1; 6 ReturnR b1; try (3, 6)
-
-abbrev wanted : List ℕ
-wanted = unmarked LoadGlobalR 1 7 0 ++ unmarked CallGlobalR 4 0 0 ++ unmarked StoreTopR 2 0 0 ++ unmarked SetupExcept 6 0 0 ++ unmarked GetAttrR 1 2 0 ++ unmarked ReturnR 0 1 0 ++ unmarked
-    ReturnR 0 1 0
-
--- r1, which 4 would write, is kept at 1 and at 4 as it was before: an exception leaves before it is given up
-pub wanted-old : RaisingOutcome wanted 3 (3 ∷ 6 ∷ []) false (replicate 8 9) (replicate 8 9) (replicate 2 9) (0 ∷ 2 ∷ 2 ∷ 6 ∷ 6 ∷ 2 ∷ 2 ∷ 0 ∷ [])
-    (0 ∷ 0 ∷ 1 ∷ 1 ∷ 1 ∷ 2 ∷ 2 ∷ 2 ∷ []) (1 ∷ 1 ∷ []) (Is 2 1 0)
-unfolding minus joined rowAt sweep below tally value rowsOf page ruleOf kindsOf hasRole isJump cases caseOf usedBy givenBy storeOf overPending pastStore restores idle usedAt givenAt afterAt isLevel listed handlersOf added raisesAt routeStart firstLevel resumeOf resultAt keptAt listsTo offsetsTo stagesOf checkOf rules firstBadTry tryKept first many every
-wanted-old = told refl (record {
-  found = record {
-    sweeps = done (last-straight (raising (mays false wanted) 3 wanted (3 ∷ 6 ∷ [])) 1
-        (replicate 8 0) refl);
-    left = refl;
   };
   long = refl;
   past = refl;

@@ -1,5 +1,5 @@
 -- The two loops of `expose`. Assumes nothing.
-use mathlib.Core.Path.{_≡_, refl, sym, ap, ap₂, _∙_, subst}
+use mathlib.Core.Path.{_≡_, refl, sym, ap, ap₂, _∙_}
 use mathlib.Core.Bool.{Bool, true, false, cond, _||_}
 use mathlib.Core.List.{List, [], _∷_, _++_, append-assoc}
 use Prim.Native.Nat.{ℕ, suc, _+_, _≤_, _<_}
@@ -10,7 +10,6 @@ use lib.Dec.{eqb}
 use lib.ListN.{length, getD, take, drop, set, length-set, take-append-drop}
 use lib.Seq.{drop-cons, drop-length, drop-drop, drop-set-lt, take-suc-set, length-take-le}
 use Rattle.laws.specs.Page.{among}
-use Rattle.kept.specs.Lists.{over}
 use Rattle.code.specs.declared.Checked.the-variants as stage
 use Rattle.code.specs.declared.Refusal.the-variants.{Short}
 use Rattle.nested.specs.Exposed.{exposed}

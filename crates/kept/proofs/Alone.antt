@@ -1,10 +1,10 @@
 -- The call's statement settles its answer and every lent word: any two outcomes are the same. Assumes nothing.
-use mathlib.Core.Path.{_≡_, refl, sym, ap, ap₂, _∙_, subst}
-use mathlib.Core.List.{List, [], _∷_, _++_, head-eq-of-cons-eq, tail-eq-of-cons-eq}
-use Prim.Native.Nat.{ℕ, zero, suc, _+_, _-_, _*_, _≤_, _<_}
-use native.Mathlib.Nat.{suc-mul, zero-lt-suc}
+use mathlib.Core.Path.{_≡_, refl, sym, ap, ap₂, _∙_}
+use mathlib.Core.List.{List, _++_, head-eq-of-cons-eq, tail-eq-of-cons-eq}
+use Prim.Native.Nat.{ℕ, zero, suc, _+_, _*_, _≤_, _<_}
+use native.Mathlib.Nat.{suc-mul}
 use native.Mathlib.Omega.{arith}
-use lib.ListN.{length, getD, take, drop, length-drop, take-append-drop}
+use lib.ListN.{length, take, drop, length-drop, take-append-drop}
 use lib.Seq.{ext-getD, drop-drop, getD-drop, length-take-le}
 use Rattle.code.specs.Ins.{count}
 use Rattle.code.specs.declared.Refusal.{Refusal}
@@ -67,9 +67,6 @@ module _ (f : Flow) (start bits : ℕ) (some : 0 < bits) (w : List ℕ) (regs : 
   scratch-one {a} {b} {full} {full′} {lost} {lost′} le sa sb p q =
       let (r, x, y) = found-one f start (p .found) (q .found) in
       (buffer-one bits some (wordsFor bits regs) (suc (count w)) a b (p .long ∙ sym (q .long)) sa sb (omega (arith, p .long)) r (p .past ∙ sym (q .past)), x, y)
-
-  abbrev Same : List ℕ → List ℕ → List ℕ → KeptAnswer → List ℕ → List ℕ → List ℕ → KeptAnswer → Type 0
-  Same a b c r a′ b′ c′ r′ = (a ≡ a′) × (b ≡ b′) × (c ≡ c′) × (r ≡ r′)
 
   refusal-one : (v : Checked) (r s : Refusal) → v ≡ stage.No r → v ≡ stage.No s → No r ≡ No s
   refusal-one v r s p q = cc

@@ -2,7 +2,7 @@
 use mathlib.Core.Path.{_≡_, refl, sym, ap, ap₂, _∙_, subst}
 use mathlib.Core.Bool.{Bool}
 use mathlib.Core.List.{List, _∷_, _++_}
-use Prim.Native.Nat.{ℕ, zero, suc, _+_, _-_, _*_, _^_, _≤_, _<_}
+use Prim.Native.Nat.{ℕ, zero, suc, _+_, _*_, _^_, _≤_, _<_}
 use native.Mathlib.Nat.{suc-mul}
 use native.Mathlib.Numerals.{add-one}
 use native.Mathlib.Omega.{arith}
@@ -26,10 +26,9 @@ use Rattle.rows.proofs.Least.{rows-regs}
 use Rattle.kept.specs.Lists.{listsTo, offsetsTo, over}
 use Rattle.kept.specs.Inner.{Width, LevelsRoom, Filled}
 use Rattle.kept.specs.Answers.{scratchFor, stagesOf, RowsLeft, ListsLeft, Outcome, refused, short, told}
-use Rattle.kept.specs.declared.KeptAnswer.{KeptAnswer}
 use Rattle.kept.specs.declared.KeptAnswer.the-variants.{Is, No}
 use Rattle.lists.proofs.Less.{scaled}
-use Rattle.kept.proofs.Tests.{accepted-offsets, accepted-scratch, accepted-few, accepted-valid, accepted-count}
+use Rattle.kept.proofs.Tests.{accepted-scratch, accepted-few, accepted-valid, accepted-count}
 
 -- rows lie in the first words of a buffer
 rows-front : (bits words m : ℕ) (part rest : List ℕ) → m * words ≤ length part → rowsOf bits words m (part ++ rest) ≡ rowsOf bits words m part

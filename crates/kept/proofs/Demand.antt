@@ -12,7 +12,7 @@ use Rattle.code.specs.Ins.{insAt, count}
 use Rattle.code.specs.Inner.{Valid}
 use Rattle.flow.specs.Flow.{Flow}
 use Rattle.flow.specs.Sweep.{row}
-use Rattle.flow.specs.Kept.{Level, kept}
+use Rattle.flow.specs.Kept.{kept}
 use Rattle.flow.specs.Demand.{Keeps, Lost, Once}
 use Rattle.flow.proofs.Answer.{level-keeps}
 use Rattle.flow.proofs.Demand.{none-spare}
@@ -20,7 +20,6 @@ use Rattle.flow.proofs.Kept.{kept-once}
 use Rattle.steps.specs.Level.{isLevel, firstLevel}
 use Rattle.steps.specs.Code.{flow}
 use Rattle.rows.specs.Route.{routeStart, rowsIn}
-use Rattle.rows.specs.Inner.{Rows}
 use Rattle.rows.proofs.Sweeps.{level-le}
 use Rattle.kept.specs.Level.{resumeOf, resultOf, levelOf, keptAt}
 use Rattle.kept.specs.Lists.{listsTo, offsetsTo, over, partAt}

@@ -20,7 +20,7 @@ use Rattle.flow.proofs.Written.{written-start, written-end}
 use Rattle.steps.specs.Level.{isLevel}
 use Rattle.kept.specs.Level.{levelOf, keptAt}
 use Rattle.kept.specs.Lists.{listsTo, offsetsTo, over}
-use Rattle.kept.specs.Inner.{LevelsRoom, Filled}
+use Rattle.kept.specs.Inner.{Filled}
 use Rattle.kept.proofs.Over.{over-long, over-paste, over-set}
 
 -- ---- one position

@@ -14,7 +14,7 @@ use Rattle.code.specs.Inner.{Valid}
 use Rattle.flow.specs.Set.{minus}
 use Rattle.flow.specs.Sweep.{row, startOf}
 use Rattle.flow.specs.Listed.{listed}
-use Rattle.flow.specs.Kept.{Level, added, kept, handlersOf}
+use Rattle.flow.specs.Kept.{Level, added, kept}
 use Rattle.flow.proofs.Answer.{found-agree, start-le}
 use Rattle.flow.proofs.Tries.{handlers-past}
 use Rattle.steps.specs.Level.{isLevel}

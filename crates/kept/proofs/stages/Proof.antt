@@ -1,6 +1,5 @@
 -- `kept::stages` meets its contract. Assumes nothing.
 use borrow.Author.Needs.{needs}
-use borrow.Author.Needs.{needs}
 use Rattle.kept.proofs.Tests.{tests}
 use Rattle.kept.proofs.stages.Statement.{statement}
 use Rattle.kept.proofs.stages.Tie as tie

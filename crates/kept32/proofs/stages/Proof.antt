@@ -1,6 +1,5 @@
 -- `kept32::stages` meets its contract. Assumes nothing.
 use borrow.Author.Needs.{needs}
-use borrow.Author.Needs.{needs}
 use Rattle.kept.proofs.Tests.{tests}
 use Rattle.kept32.proofs.stages.Statement.{statement}
 use Rattle.kept32.proofs.stages.Tie as tie

@@ -1,6 +1,6 @@
 -- Sets listed and counted, word by word. Assumes nothing.
 use mathlib.Core.Path.{_≡_, refl, sym, ap, _∙_}
-use mathlib.Core.List.{List, [], _∷_, _++_}
+use mathlib.Core.List.{List, _++_}
 use Prim.Native.Nat.{ℕ, zero, suc, _+_, _-_, _*_, _/_, _%_, _^_, _≤_, _<_, zero-le}
 use native.Mathlib.Nat.{mul-le-mul-right}
 use native.Mathlib.Omega.{arith}
@@ -14,7 +14,7 @@ use Rattle.flow.specs.Listed.{listed, keep}
 use Rattle.flow.specs.Inner.{Listing}
 use Rattle.flow.specs.Words.{value, Small}
 use Rattle.flow.proofs.Listed.{walk, walk-less, walk-small, listed-none, listed-ones, onward, onward-start, onward-next, onward-end}
-use Rattle.flow.proofs.Written.{Written, written-start, written-as, written-long, written-room, written-more, written-next, written-one, written-end}
+use Rattle.flow.proofs.Written.{Written, written-start, written-long, written-room, written-more, written-next, written-one, written-end}
 
 some : {x : ℕ} → (x ≡ 0 → ⊥) → 0 < x
 some n = omega arith

@@ -1,7 +1,6 @@
 -- `lists::count_set` meets its contract. Assumes nothing.
 use borrow.Author.Needs.{needs}
 use Prim.Native.Nat.{_-_}
-use native.Mathlib.Omega.{arith}
 use Rattle.lists.proofs.Walks.{Counting, countings}
 use Rattle.lists.proofs.count_set.Statement.{statement}
 use Rattle.lists.proofs.count_set.Tie as tie

@@ -2,9 +2,6 @@
 use mathlib.Core.Path.{_≡_}
 use Rattle.code.specs.declared.Answer.{Answer}
 
-pub onto : {A : Type 0} (f : A → Answer) (v s : A) (a : Answer) → v ≡ s → a ≡ f v → a ≡ f s
-onto f v s a e h = rw (← e) h
-
 -- a teller's answer: what f gives for the case x that its argument v is known to be
 pub of-case : {A : Type 0} (f : A → Answer) (v x : A) (a : Answer) → v ≡ x → a ≡ f x → a ≡ f v
 of-case f v x a h z = rw h z

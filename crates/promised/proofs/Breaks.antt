@@ -4,16 +4,14 @@ use native.Mathlib.Omega.{arith}
 use mathlib.Core.Path.{_≡_, refl, subst}
 use mathlib.Core.List.{[], _∷_}
 use mathlib.Core.Bool.{true}
-use Rattle.code.specs.Op.{LoadConst}
 use Rattle.lent.specs.Chunk.{opAt, folds}
-use Rattle.optimizer.specs.Fold.{FoldOutcome}
-use Rattle.optimizer.specs.Fold.{FoldAnswer}
+use Rattle.optimizer.specs.Fold.{FoldOutcome, FoldAnswer}
 use Rattle.runs.specs.Machine.{Plain}
-use Rattle.runs.specs.Rule.{known, WishRule}
+use Rattle.runs.specs.Rule.{known}
 use Rattle.runs.specs.Kept.{Same}
 use Rattle.runs.proofs.Examples as example
 use Rattle.promised.specs.Marked.{code13}
-use Rattle.promised.specs.Breaks.{plainly, Breaks}
+use Rattle.promised.specs.Breaks.{Breaks}
 use Rattle.promised.proofs.Marked.{marked}
 
 only : (k : ℕ) → k < 4 → known (opAt code13 k) ≡ true

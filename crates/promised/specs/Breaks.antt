@@ -1,8 +1,7 @@
 -- Why strict mode is asked for: the plain mode does not keep the runs of P13's code. Assumes nothing.
 use mathlib.Core.List.{[], _∷_}
 use mathlib.Core.Bool.{false}
-use Rattle.optimizer.specs.Fold.{FoldOutcome}
-use Rattle.optimizer.specs.Fold.{FoldAnswer}
+use Rattle.optimizer.specs.Fold.{FoldOutcome, FoldAnswer}
 use Rattle.runs.specs.Rule.{WishRule}
 use Rattle.runs.specs.Kept.{Same}
 use Rattle.promised.specs.Marked.{code13, foldedCall}

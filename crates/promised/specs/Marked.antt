@@ -12,8 +12,7 @@ use Rattle.kept.specs.Answers as call
 use Rattle.kept.specs.declared.KeptAnswer.the-variants as kept
 use Rattle.callee.specs.Answers.{globalAnswer}
 use Rattle.lent.specs.Chunk as chunk
-use Rattle.optimizer.specs.Fold.{buffers, FoldOutcome, foldOutcome, foldCall}
-use Rattle.optimizer.specs.Fold.{FoldAnswer}
+use Rattle.optimizer.specs.Fold.{buffers, FoldOutcome, foldOutcome, foldCall, FoldAnswer}
 use Rattle.optimizer.specs.Fold as fold
 
 -- an instruction without marks: opcode, a, b, c, x

@@ -8,7 +8,7 @@ use lib.Dec.{eqb, ltb}
 use lib.ListN.{length, replicate, take, getD}
 use lib.IntN.{ℤ, pos, natAbs, _*ℤ_}
 use lib.Signed.{ltZ, leZ}
-use lib.Ieee.{nan, fin, binary64, ofBits, toBits, ofInt, up, down, lt, le, eq, ne}
+use lib.Ieee.{nan, fin, binary64, toBits, ofInt, up, down, lt, le, eq, ne}
 use lib.Ieee.Exact.{HasValue}
 use mir.Val.{boolByte}
 use Rattle.laws.specs.Mask.{mask}
@@ -58,7 +58,7 @@ use Rattle.refold.specs.Examples.{jumping, summed, crossed, crossedCounts, cros
 use Rattle.refold.specs.Origins.{OriginsLeft}
 use Rattle.runs.specs.Machine.{Ins, Stack, End, Run}
 use Rattle.runs.specs.Rule.{WishRule}
-use Rattle.answers.specs.Answers.{MadeTold, EnterTold, LeaveTold, ReplayTold}
+use Rattle.answers.specs.Answers.{MadeTold, EnterTold, LeaveTold, ReplayTold, ExposedTold}
 use Rattle.exported.specs.Settles.{One, Settles}
 use Rattle.exported.specs.Calls.{TargetsCall, LoopsCall, EntriesBeyond, Marks, DeadCall, GenCall, NeededCall, MarksBeyond, Lists, KeptCall, KeptSettles}
 use Rattle.exported.specs.Calls.{FoldCall, ClearCall, ClearBeyond}
@@ -73,7 +73,7 @@ use Rattle.code.specs.Ins.{insAt, count}
 use Rattle.code.specs.Answers.{answerOf, refusalOf}
 use Rattle.flow.specs.Kept.{handlersOf}
 use Rattle.flow.specs.Demand.{Alike}
-use Rattle.steps.specs.Code.{flow}
+use Rattle.steps.specs.Code.{flow, afterAt}
 use Rattle.levels.specs.Answers.{levelAnswer}
 use Rattle.area.specs.Area.{freeOf, putIn}
 use Rattle.saver.specs.Saver.{Saver, regsOf, inUse}
@@ -85,14 +85,12 @@ use Rattle.figures.specs.Month.{Body, reportOf}
 use Rattle.figures.specs.Month as figured
 use Rattle.laws.specs.Page.{among}
 use Rattle.laws.specs.Table.{filledTo}
-use Rattle.steps.specs.Code.{afterAt}
 use Rattle.blocks.specs.Blocks.{slotAt, stepsOf}
 use Rattle.trace.specs.Trace.{Recorded}
 use Rattle.day.specs.Count.{readsIn, levelsIn}
 use Rattle.day.specs.Day.{replayStages}
 use Rattle.replays.specs.Positions.{slotsFrom, visited}
 use Rattle.steps.specs.Level.{isLevel}
-use Rattle.answers.specs.Answers.{ExposedTold}
 use Rattle.nested.specs.Machine.{Event, nested, undisturbed, Sheltered}
 use Rattle.nested.specs.Raising.{levels, mays, frame, Tidy}
 use Rattle.nested.specs.Exposed.{ToldApart}

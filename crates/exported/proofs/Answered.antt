@@ -1,6 +1,5 @@
 -- From an exported answer to the call's own: a refusal's number is not 0, and with refusal 0 the call was answered. Assumes nothing.
-use mathlib.Core.Path.{_≡_, refl, sym, ap, _∙_}
-use Prim.Native.Nat.{ℕ}
+use mathlib.Core.Path.{_≡_, sym, _∙_}
 use native.Mathlib.Omega.{arith}
 use Rattle.code.specs.Answers.{refusedOf}
 use Rattle.code.specs.declared.Answer.{Answer}

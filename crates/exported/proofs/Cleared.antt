@@ -10,9 +10,9 @@ use Rattle.laws.proofs.Each.{each-word}
 use Rattle.code.specs.declared.Answer.{Answer}
 use Rattle.code.specs.declared.Checked.{Checked}
 use Rattle.code.specs.declared.Checked.the-variants.{Count, No as Refused}
-use Rattle.named.specs.Unused.{constantNamed, before, pooled, recoded, numbered}
-use Rattle.clear.specs.Clear.{ClearAnswer, Is, No, PoolBuffers, ClearOutcome, clearOutcome, cleared, clearReadyOf, clearCall, clearTold}
-use Rattle.clear.proofs.Answers.{refused-call, answered-call, answered, refusal-keeps}
+use Rattle.named.specs.Unused.{constantNamed, before, pooled, numbered}
+use Rattle.clear.specs.Clear.{ClearAnswer, Is, No, PoolBuffers, ClearOutcome, clearOutcome, clearReadyOf, clearCall, clearTold}
+use Rattle.clear.proofs.Answers.{refused-call, answered, refusal-keeps}
 use Rattle.clear.proofs.Kept.{in-order, onto, pooled-kept, pooled-freed, pooled-past, pooled-length}
 use Rattle.clear.proofs.Loads.{recoded-length, recoded-op, recoded-mark, unmarked-stays, far-stays, near-moves, loads-same}
 use Rattle.clear.proofs.Room.{no-more}
@@ -23,7 +23,6 @@ use Rattle.exported.specs.Settles as settles
 use Rattle.exported.specs.Settles.{Settles}
 use Rattle.exported.specs.Calls.{ClearCall, ClearBeyond}
 use Rattle.exported.specs.Told.{ClearHolds, ClearedTwice}
-use Rattle.exported.proofs.Answered.{refused-not}
 use Rattle.exported.proofs.Writing.{held-same, held-front}
 use Rattle.exported.proofs.Folded.{answered-clear, clear-answers}
 

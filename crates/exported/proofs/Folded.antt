@@ -1,18 +1,13 @@
 -- The folding call: one result, its refusals, what an answer leaves alone, and what the next calls answer. Assumes nothing.
 use mathlib.Core.Path.{_≡_, refl, sym, ap, _∙_}
 use mathlib.Core.Bool.{Bool}
-use mathlib.Core.List.{List}
-use Prim.Native.Nat.{ℕ, _≤_, _<_}
-use lib.ListN.{length}
-use Rattle.laws.specs.Table.{Held}
+use Prim.Native.Nat.{ℕ, _<_}
 use Rattle.code.specs.declared.Answer.{Answer}
 use Rattle.code.specs.declared.Checked.the-variants.{Count}
 use Rattle.lent.specs.Check.{chunkCheckOf}
 use Rattle.lent.specs.declared.Counts.{Counts}
-use Rattle.optimizer.specs.Fold.{Called}
+use Rattle.optimizer.specs.Fold.{Called, FoldAnswer, Is, No}
 use Rattle.optimizer.specs.declared.Folded.{Folded}
-use Rattle.optimizer.specs.Fold.{FoldAnswer}
-use Rattle.optimizer.specs.Fold.{Is, No}
 use Rattle.named.specs.Unused.{AllNear}
 use Rattle.clear.specs.Clear as clearing
 use Rattle.clear.specs.Clear.{ClearAnswer, clearCall, clearTold}

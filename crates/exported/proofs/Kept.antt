@@ -2,7 +2,7 @@
 use mathlib.Core.Path.{_≡_, refl, sym, ap, _∙_, subst}
 use mathlib.Core.Logic.{_⊎_, inl, inr}
 use mathlib.Core.Bool.{Bool}
-use mathlib.Core.List.{List, _++_}
+use mathlib.Core.List.{List}
 use Prim.Native.Nat.{ℕ, suc, _≤_, _<_}
 use native.Mathlib.Omega.{arith}
 use lib.ListN.{length, drop}
@@ -11,7 +11,6 @@ use Rattle.code.specs.Ins.{count}
 use Rattle.code.specs.declared.Answer.{Answer}
 use Rattle.code.specs.declared.Refusal.{Refusal}
 use Rattle.flow.specs.Flow.{Flow}
-use Rattle.flow.specs.Sweep.{Found}
 use Rattle.flow.proofs.Answer.{start-closed}
 use Rattle.steps.specs.Code.{flow}
 use Rattle.rows.specs.Route.{routeStart, rowsIn}

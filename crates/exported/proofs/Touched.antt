@@ -1,10 +1,8 @@
 -- What an instruction touches, from an answer with refusal 0: the bits name the three sets. Assumes nothing.
 use mathlib.Core.Path.{_≡_, refl, sym, ap, _∙_}
-use mathlib.Core.Bool.{Bool}
 use mathlib.Core.List.{List, _++_}
-use Prim.Native.Nat.{ℕ, _*_, _/_, _%_}
+use Prim.Native.Nat.{ℕ, _*_, _/_}
 use native.Mathlib.Omega.{arith}
-use lib.Dec.{eqb}
 use Rattle.code.specs.Ins.{insAt}
 use Rattle.code.specs.Check.{checkOf, insideOf}
 use Rattle.code.specs.Answers.{asked, refusedOf}
@@ -12,14 +10,14 @@ use Rattle.code.specs.declared.Answer.{Answer}
 use Rattle.code.specs.declared.Checked.{Checked}
 use Rattle.code.specs.declared.Checked.the-variants.{Count, No}
 use Rattle.code.specs.declared.Ins.{Ins}
-use Rattle.roles.specs.Kinds.{a, b, c, has}
-use Rattle.roles.specs.Sets.{only, from}
+use Rattle.roles.specs.Kinds.{a, b, c}
+use Rattle.roles.specs.Sets.{from}
 use Rattle.touch.specs.Touch.{named, touchOf}
 use Rattle.touch.specs.Inner.{Touches}
 use Rattle.touch.specs.declared.Touch.{Touch}
 use Rattle.touch.proofs.Cases.{touches}
 use Rattle.fields.specs.Answers.{touchTold, touchAnswer}
-use Rattle.exported.specs.Told.{fieldsOf, TouchedHolds}
+use Rattle.exported.specs.Told.{TouchedHolds}
 use Rattle.exported.proofs.Answered.{refused-not}
 
 -- a mask's bits from the second on are those of its half, doubled

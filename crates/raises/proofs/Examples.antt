@@ -7,7 +7,6 @@ use native.Mathlib.Nat.{le-refl}
 use lib.ListN.{replicate}
 use Rattle.laws.specs.All.{every, many}
 use Rattle.laws.specs.Walk.{first}
-use Rattle.code.specs.Op.{LoadGlobalR, CallGlobalR, StoreTopR, SetupExcept, GetAttrR, Raise, ReturnR}
 use Rattle.code.specs.Rules.{rules, tryKept}
 use Rattle.code.specs.Check.{checkOf, firstBadTry}
 use Rattle.roles.specs.Kinds.{page, ruleOf, kindsOf, hasRole, isJump}
@@ -27,8 +26,9 @@ use Rattle.kept.specs.Lists.{listsTo, offsetsTo}
 use Rattle.kept.specs.Answers.{stagesOf, told}
 use Rattle.kept.specs.declared.KeptAnswer.the-variants.{Is}
 use Rattle.nested.specs.Raising.{raisesAt, raising, mays, beginsAt}
-use Rattle.nested.specs.Bodies.{unmarked, body, tries, raised}
-use Rattle.nested.specs.Inner.{untidy}
+use Rattle.nested.specs.Bodies.{body, tries, raised}
+use Rattle.nested.specs.Inner.{untidy, wanted}
+use Rattle.nested.proofs.Examples.{raise-all-found, wanted-found}
 use Rattle.raises.specs.Inner.{RaisingOutcome}
 
 -- ---- on the body whose plain lists are not enough: r5 stands in the lists of 2 and of 6; rows are from the first level on, 2
@@ -56,10 +56,6 @@ pub raise-levels : RaisingOutcome raised 6 (3 ∷ 6 ∷ []) false (replicate 8 9
 unfolding minus joined rowAt sweep below tally value rowsOf page ruleOf kindsOf hasRole isJump cases caseOf usedBy givenBy storeOf overPending pastStore restores idle usedAt givenAt afterAt isLevel listed handlersOf added raisesAt routeStart firstLevel resumeOf resultAt keptAt listsTo offsetsTo stagesOf checkOf rules firstBadTry tryKept first many every
 raise-levels = told refl (record { found = raise-levels-found; long = refl; past = refl }) (le-refl 0)
 
-pub raise-all-found : Found (raising (mays true raised) 6 raised (3 ∷ 6 ∷ [])) (beginsAt 6 raised) (0 ∷ 32 ∷ 32 ∷ 34 ∷ 34 ∷ 34 ∷ 32 ∷ 0 ∷ []) 1 0
-unfolding minus joined rowAt sweep below tally value rowsOf page ruleOf kindsOf hasRole isJump cases caseOf usedBy givenBy storeOf overPending pastStore restores idle usedAt givenAt afterAt isLevel listed handlersOf added raisesAt routeStart firstLevel resumeOf resultAt keptAt listsTo offsetsTo stagesOf checkOf rules firstBadTry tryKept first many every
-raise-all-found = record { sweeps = done (last-straight (raising (mays true raised) 6 raised (3 ∷ 6 ∷ [])) 1 (replicate 8 0) refl); left = refl }
-
 pub raise-all : RaisingOutcome raised 6 (3 ∷ 6 ∷ []) true (replicate 8 9) (replicate 8 9) (9 ∷ []) (0 ∷ 32 ∷ 32 ∷ 34 ∷ 34 ∷ 34 ∷ 32 ∷ 0 ∷ [])
     (0 ∷ 0 ∷ 1 ∷ 1 ∷ 1 ∷ 1 ∷ 1 ∷ 1 ∷ []) (5 ∷ []) (Is 1 1 0)
 unfolding minus joined rowAt sweep below tally value rowsOf page ruleOf kindsOf hasRole isJump cases caseOf usedBy givenBy storeOf overPending pastStore restores idle usedAt givenAt afterAt isLevel listed handlersOf added raisesAt routeStart firstLevel resumeOf resultAt keptAt listsTo offsetsTo stagesOf checkOf rules firstBadTry tryKept first many every
@@ -79,22 +75,10 @@ marked = told refl (record {
   past = refl;
 }) (le-refl 2)
 
--- ---- a handler wants what its level gives up: 0 LoadGlobalR a1; 1 CallGlobalR; 2 StoreTopR a2; 3 SetupExcept 6; 4 GetAttrR a1 b2; 5 ReturnR b1; 6 ReturnR b1; try (3, 6)
-
-abbrev wanted : List ℕ
-wanted = unmarked LoadGlobalR 1 7 0 ++ unmarked CallGlobalR 4 0 0 ++ unmarked StoreTopR 2 0 0 ++ unmarked SetupExcept 6 0 0 ++ unmarked GetAttrR 1 2 0 ++ unmarked ReturnR 0 1 0 ++ unmarked
-    ReturnR 0 1 0
+-- ---- a handler wants what its level gives up
 
 -- r1, which 4 would write, is kept at 1 and at 4 as it was before: an exception leaves before it is given up
 pub wanted-old : RaisingOutcome wanted 3 (3 ∷ 6 ∷ []) false (replicate 8 9) (replicate 8 9) (replicate 2 9) (0 ∷ 2 ∷ 2 ∷ 6 ∷ 6 ∷ 2 ∷ 2 ∷ 0 ∷ [])
     (0 ∷ 0 ∷ 1 ∷ 1 ∷ 1 ∷ 2 ∷ 2 ∷ 2 ∷ []) (1 ∷ 1 ∷ []) (Is 2 1 0)
 unfolding minus joined rowAt sweep below tally value rowsOf page ruleOf kindsOf hasRole isJump cases caseOf usedBy givenBy storeOf overPending pastStore restores idle usedAt givenAt afterAt isLevel listed handlersOf added raisesAt routeStart firstLevel resumeOf resultAt keptAt listsTo offsetsTo stagesOf checkOf rules firstBadTry tryKept first many every
-wanted-old = told refl (record {
-  found = record {
-    sweeps = done (last-straight (raising (mays false wanted) 3 wanted (3 ∷ 6 ∷ [])) 1
-        (replicate 8 0) refl);
-    left = refl;
-  };
-  long = refl;
-  past = refl;
-}) (le-refl 2)
+wanted-old = told refl (record { found = wanted-found; long = refl; past = refl }) (le-refl 2)

@@ -422,7 +422,7 @@ pub extern "C" fn turniploom_kept_raising(
 pub extern "C" fn turniploom_exposed(plain: &[u16], list: &[u16], out: &mut [u16]) -> Answer
     ensures { λ r. ⌜ ExposedTold (now (plain .entry)) (now (list .entry)) (now (out .entry)) (now (out .exit)) r ⌝ }
 {
-    counted(raises::exposed(plain, list, out))
+    counted(exposes::exposed(plain, list, out))
 }
 
 // The version of the calls: major, minor and patch, as the header has them. Nothing is lent, and nothing refused.
@@ -430,5 +430,5 @@ pub extern "C" fn turniploom_exposed(plain: &[u16], list: &[u16], out: &mut [u16
 pub extern "C" fn turniploom_version() -> Answer
     ensures { λ r. ⌜ r ≡ answerOf 0 2 0 0 ⌝ }
 {
-    code::tell(0, 2, 0, 0)
+    version::version()
 }

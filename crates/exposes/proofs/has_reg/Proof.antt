@@ -1,10 +1,10 @@
--- `raises::has_reg` meets its contract. Assumes nothing.
+-- `exposes::has_reg` meets its contract. Assumes nothing.
 use borrow.Author.Needs.{needs}
 use Prim.Native.Nat.{_-_}
 use lib.ListN.{length}
-use Rattle.raises.proofs.Exposing.{Seeking, seek-start, seek-found, seek-more, seek-end}
-use Rattle.raises.proofs.has_reg.Statement.{statement}
-use Rattle.raises.proofs.has_reg.Tie as tie
+use Rattle.exposes.proofs.Exposing.{Seeking, seek-start, seek-found, seek-more, seek-end}
+use Rattle.exposes.proofs.has_reg.Statement.{statement}
+use Rattle.exposes.proofs.has_reg.Tie as tie
 
 abbrev Inv-loop : tie.InvT-loop
 Inv-loop l r i₀ i = Seeking l r i

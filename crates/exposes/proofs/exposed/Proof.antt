@@ -1,8 +1,8 @@
--- `raises::exposed` meets its contract. Assumes nothing.
+-- `exposes::exposed` meets its contract. Assumes nothing.
 use borrow.Author.Needs.{needs}
-use Rattle.raises.proofs.Exposing.{too-short, long-enough}
-use Rattle.raises.proofs.exposed.Statement.{statement}
-use Rattle.raises.proofs.exposed.Tie as tie
+use Rattle.exposes.proofs.Exposing.{too-short, long-enough}
+use Rattle.exposes.proofs.exposed.Statement.{statement}
+use Rattle.exposes.proofs.exposed.Tie as tie
 
 returns : tie.Need-returns
 returns c = search too-short

@@ -1,10 +1,10 @@
--- `raises::expose` meets its contract. Assumes nothing.
+-- `exposes::expose` meets its contract. Assumes nothing.
 use borrow.Author.Needs.{needs}
 use Prim.Native.Nat.{_-_}
 use lib.ListN.{length}
-use Rattle.raises.proofs.Exposing.{Exposing, expose-start, expose-skip, expose-put, expose-end}
-use Rattle.raises.proofs.expose.Statement.{statement}
-use Rattle.raises.proofs.expose.Tie as tie
+use Rattle.exposes.proofs.Exposing.{Exposing, expose-start, expose-skip, expose-put, expose-end}
+use Rattle.exposes.proofs.expose.Statement.{statement}
+use Rattle.exposes.proofs.expose.Tie as tie
 
 abbrev Inv-loop : tie.InvT-loop
 Inv-loop plain list out₀ m₀ i₀ out m i = Exposing plain list out₀ m i out

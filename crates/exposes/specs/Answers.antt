@@ -1,4 +1,4 @@
--- The kept-register call for frames whose calls raise, and what it adds: all that they answer and leave. Assumes nothing.
+-- What the lists of frames whose calls raise add: all that the call about it answers and leaves. Assumes nothing.
 use Prim.Native.Nat.{ℕ}
 use mathlib.Core.Path.{_≡_}
 use mathlib.Core.Bool.{cond}

@@ -14,8 +14,8 @@ use Rattle.kept.specs.Lists.{over}
 use Rattle.code.specs.declared.Checked.the-variants as stage
 use Rattle.code.specs.declared.Refusal.the-variants.{Short}
 use Rattle.nested.specs.Exposed.{exposed}
-use Rattle.nested.specs.Inner.{Exposes}
-use Rattle.raises.specs.Answers.{ExposedLeft}
+use Rattle.exposes.specs.Inner.{Exposes}
+use Rattle.exposes.specs.Answers.{ExposedLeft}
 
 past-end : (l : List ℕ) (i : ℕ) → i ≤ length l → length l ≤ i → drop i l ≡ []
 past-end l i a b = let e : i ≡ length l = omega arith in ap (λ (x : ℕ). drop x l) e ∙ drop-length l

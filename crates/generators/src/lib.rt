@@ -4,7 +4,7 @@ ghost use Prim.Native.Nat.{_+_, _/_};
 ghost use lib.ListN.{length};
 ghost use Rattle.code.specs.Inner.{Whole};
 ghost use Rattle.paths.specs.Search.{SearchSettles};
-ghost use Rattle.phis.specs.Inner.{PhiRoom};
+ghost use Rattle.phi_paths.specs.Inner.{PhiRoom};
 ghost use Rattle.generators.specs.Generator.{makes, made, opens, closes, returnsFrom, returnsOutside, PhisDead, GenPure};
 ghost use Rattle.generators.specs.Inner.{Clear};
 ghost use Rattle.generators.specs.Answers.{GenTold};

@@ -1,4 +1,4 @@
--- `phis::reads` meets its contract. Assumes nothing.
+-- `phi_paths::reads` meets its contract. Assumes nothing.
 use borrow.Author.Needs.{needs}
 use mathlib.Core.Path.{_≡_}
 use mathlib.Core.Bool.{not, _&&_, _||_}
@@ -7,9 +7,9 @@ use lib.Dec.{eqb}
 use Rattle.code.specs.Op.{ForIterR, LoadName}
 use Rattle.code.specs.declared.Ins.{Ins}
 use Rattle.roles.specs.Kinds.{kindsOf, has, none}
-use Rattle.phis.specs.Phi.{inFields, phiReads}
-use Rattle.phis.proofs.reads.Statement.{statement}
-use Rattle.phis.proofs.reads.Tie as tie
+use Rattle.phi_paths.specs.Read.{inFields, phiReads}
+use Rattle.phi_paths.proofs.reads.Statement.{statement}
+use Rattle.phi_paths.proofs.reads.Tie as tie
 
 is : (i : Ins) (r k : ℕ) → k ≡ kindsOf i
     → not (has none k) && not (eqb (i .op) ForIterR) && inFields k i r || has none k && eqb (i .op) LoadName && eqb (i .a) r ≡ phiReads i r

@@ -1,4 +1,4 @@
--- `params::passed_in` meets its contract. Assumes nothing.
+-- `passes::passed_in` meets its contract. Assumes nothing.
 use borrow.Author.Needs.{needs}
 use mathlib.Core.Path.{_≡_}
 use mathlib.Core.Bool.{Bool}
@@ -6,9 +6,9 @@ use Prim.Native.Nat.{ℕ, _+_, _*_, min}
 use mir.Val.{boolByte}
 use Rattle.laws.proofs.Mask.{mask-five}
 use Rattle.code.specs.declared.Ins.{Ins}
-use Rattle.params.specs.Masks.{arguments, keeps, keepsAt, passedIn}
-use Rattle.params.proofs.passed_in.Statement.{statement}
-use Rattle.params.proofs.passed_in.Tie as tie
+use Rattle.passes.specs.Passed.{arguments, keeps, keepsAt, passedIn}
+use Rattle.passes.proofs.passed_in.Statement.{statement}
+use Rattle.passes.proofs.passed_in.Tie as tie
 
 joined : (c rest : Ins) (arity m n v₁ v₂ v₃ v₄ v₅ : ℕ) (b₁ b₂ b₃ b₄ b₅ : Bool) → m ≡ arguments c → n ≡ min m arity
     → b₁ ≡ keeps n 0 (c .b) → v₁ ≡ 1 * boolByte b₁

@@ -1,4 +1,4 @@
--- `phis::follow` meets its contract. Assumes nothing.
+-- `phi_paths::follow` meets its contract. Assumes nothing.
 use borrow.Author.Needs.{needs}
 use mathlib.Core.Path.{_≡_}
 use mathlib.Core.Bool.{Bool}
@@ -6,8 +6,8 @@ use mathlib.Core.List.{List}
 use Prim.Native.Nat.{ℕ, _+_}
 use mir.Val.{boolByte}
 use Rattle.paths.specs.Inner.{pushed}
-use Rattle.phis.proofs.follow.Statement.{statement}
-use Rattle.phis.proofs.follow.Tie as tie
+use Rattle.phi_paths.proofs.follow.Statement.{statement}
+use Rattle.phi_paths.proofs.follow.Tie as tie
 
 -- the jump's test is what it says
 module _ (t j : Bool) (e : t ≡ j) where

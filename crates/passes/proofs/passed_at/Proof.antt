@@ -1,4 +1,4 @@
--- `params::passed_at` meets its contract. Assumes nothing.
+-- `passes::passed_at` meets its contract. Assumes nothing.
 use borrow.Author.Needs.{needs}
 use mathlib.Core.Path.{_≡_, _∙_}
 use mathlib.Core.List.{List}
@@ -8,9 +8,9 @@ use mir.Val.{boolByte}
 use Rattle.laws.proofs.Byte.{byte-small}
 use Rattle.code.specs.Ins.{insAt, wide}
 use Rattle.code.specs.declared.Ins.{Ins}
-use Rattle.params.specs.Masks.{passedIn, passedAt}
-use Rattle.params.proofs.passed_at.Statement.{statement}
-use Rattle.params.proofs.passed_at.Tie as tie
+use Rattle.passes.specs.Passed.{passedIn, passedAt}
+use Rattle.passes.proofs.passed_at.Statement.{statement}
+use Rattle.passes.proofs.passed_at.Tie as tie
 
 joined : (w : List ℕ) (j arity m : ℕ) (c rest : Ins) → c ≡ insAt w j → rest ≡ insAt w (j + boolByte (wide c)) → m ≡ passedIn c rest arity → m ≡ passedAt w j arity
 unfolding passedAt

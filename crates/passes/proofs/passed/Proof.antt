@@ -1,4 +1,4 @@
--- `params::passed` meets its contract. Assumes nothing.
+-- `passes::passed` meets its contract. Assumes nothing.
 use borrow.Author.Needs.{needs}
 use mathlib.Core.Path.{_≡_, sym, ap, _∙_}
 use mathlib.Core.Bool.{Bool, true, false, cond}
@@ -9,13 +9,13 @@ use Rattle.code.specs.Answers.{answerOf, refusedOf}
 use Rattle.code.specs.declared.Answer.{Answer}
 use Rattle.code.specs.declared.Ins.{Ins}
 use Rattle.code.specs.declared.Refusal.the-variants.{Position}
-use Rattle.params.specs.Masks.{passedAt}
-use Rattle.params.specs.Answers.{passedAnswer}
+use Rattle.passes.specs.Passed.{passedAt}
+use Rattle.passes.specs.Answers.{passedAnswer}
 use Rattle.code.proofs.Answers.{refused, told}
 use Rattle.code.proofs.Stages.{passing, onward}
 use Rattle.walks.proofs.Rooms.{near}
-use Rattle.params.proofs.passed.Statement.{statement}
-use Rattle.params.proofs.passed.Tie as tie
+use Rattle.passes.proofs.passed.Statement.{statement}
+use Rattle.passes.proofs.passed.Tie as tie
 
 abbrev saidAt : List ℕ → ℕ → ℕ → Answer
 saidAt w j arity = cond (isCall (insAt w j .op)) (answerOf (passedAt w j arity) 0 0 0) (refusedOf (Position j))

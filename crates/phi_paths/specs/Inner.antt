@@ -1,4 +1,4 @@
--- What only the inside of `phis` needs: contracts of inner functions and proofs cite it, no promise does. Assumes nothing.
+-- What only the inside of `phi_paths` needs: contracts of inner functions and proofs cite it, no promise does. Assumes nothing.
 use Prim.Native.Nat.{ℕ, _+_, _/_, _≤_}
 use mathlib.Core.List.{List}
 use lib.ListN.{length}

@@ -1,4 +1,4 @@
--- `phis::stops` meets its contract. Assumes nothing.
+-- `phi_paths::stops` meets its contract. Assumes nothing.
 use borrow.Author.Needs.{needs}
 use mathlib.Core.Path.{_≡_}
 use mathlib.Core.Bool.{not, _&&_, _||_}
@@ -7,9 +7,9 @@ use lib.Dec.{eqb}
 use Rattle.code.specs.Op.{ForIterR, StoreName, ReturnR, ReturnValue, Raise}
 use Rattle.code.specs.declared.Ins.{Ins}
 use Rattle.roles.specs.Kinds.{kindsOf, has, dest, none}
-use Rattle.phis.specs.Phi.{phiWrites, stops}
-use Rattle.phis.proofs.stops.Statement.{statement}
-use Rattle.phis.proofs.stops.Tie as tie
+use Rattle.phi_paths.specs.Read.{phiWrites, stops}
+use Rattle.phi_paths.proofs.stops.Statement.{statement}
+use Rattle.phi_paths.proofs.stops.Tie as tie
 
 is : (i : Ins) (r k : ℕ) → k ≡ kindsOf i
     → (not (has none k) && (eqb (i .op) ForIterR && eqb (i .b) r || not (eqb (i .op) ForIterR) && has dest k && eqb (i .a) r) || has none k && eqb (i .op) StoreName && eqb (i .a) r)

@@ -11,8 +11,8 @@ use Rattle.roles.specs.Kinds.{isJump}
 use Rattle.paths.specs.Search.{ways}
 use Rattle.paths.specs.Inner.{pushed, Searched, owed}
 use Rattle.paths.proofs.Loop as path
-use Rattle.phis.specs.Phi.{phiReads, stops, goesOn, readsAt, stopsAt, leadsAt, Read}
-use Rattle.phis.specs.Inner.{PhiRoom}
+use Rattle.phi_paths.specs.Read.{phiReads, stops, goesOn, readsAt, stopsAt, leadsAt, Read}
+use Rattle.phi_paths.specs.Inner.{PhiRoom}
 
 abbrev pub Loop : List ℕ → ℕ → ℕ → List ℕ → List ℕ → List ℕ → List ℕ → ℕ → Type 0
 Loop w r start seen₀ todo₀ seen todo top = path.Loop (count w) (readsAt w r) (stopsAt w r) (leadsAt w) start seen₀ todo₀ seen todo top

@@ -1,12 +1,12 @@
--- `params::bit` meets its contract. Assumes nothing.
+-- `passes::bit` meets its contract. Assumes nothing.
 use borrow.Author.Needs.{needs}
 use mathlib.Core.Path.{_≡_}
 use mathlib.Core.Bool.{Bool, true, false}
 use Prim.Native.Nat.{ℕ, _*_}
 use native.Mathlib.Omega.{arith}
 use mir.Val.{boolByte}
-use Rattle.params.proofs.bit.Statement.{statement}
-use Rattle.params.proofs.bit.Tie as tie
+use Rattle.passes.proofs.bit.Statement.{statement}
+use Rattle.passes.proofs.bit.Tie as tie
 
 module _ (b : Bool) (v : ℕ) where
   on : b ≡ true → v ≡ v * boolByte b

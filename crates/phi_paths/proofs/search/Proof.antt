@@ -1,14 +1,14 @@
--- `phis::search` meets its contract. The measure: the ways out of positions with no mark, and the waiting positions. Assumes nothing.
+-- `phi_paths::search` meets its contract. The measure: the ways out of positions with no mark, and the waiting positions. Assumes nothing.
 use borrow.Author.Needs.{needs}
 use Prim.Native.Nat.{_+_, _/_}
 use native.Mathlib.Omega.{arith}
 use lib.ListN.{length}
 use Rattle.paths.specs.Inner.{owed}
 use Rattle.paths.proofs.Loop.{few-wait, room-for-2, turning}
-use Rattle.phis.specs.Phi.{leadsAt}
-use Rattle.phis.proofs.Loop.{Loop, turn}
-use Rattle.phis.proofs.search.Statement.{statement}
-use Rattle.phis.proofs.search.Tie as tie
+use Rattle.phi_paths.specs.Read.{leadsAt}
+use Rattle.phi_paths.proofs.Loop.{Loop, turn}
+use Rattle.phi_paths.proofs.search.Statement.{statement}
+use Rattle.phi_paths.proofs.search.Tie as tie
 
 abbrev Inv-loop : tie.InvT-loop
 Inv-loop roles code r start seen₀ todo₀ n top₀ seen todo top = Loop code r start seen₀ todo₀ seen todo top

@@ -1,4 +1,4 @@
--- `params::arguments` meets its contract. Assumes nothing.
+-- `passes::arguments` meets its contract. Assumes nothing.
 use borrow.Author.Needs.{needs}
 use mathlib.Core.Path.{_≡_}
 use native.Mathlib.Omega.{arith}
@@ -6,9 +6,9 @@ use Prim.Native.Nat.{_+_}
 use borrow.Author.Tests.{eq-eqb, ne-eqb}
 use Rattle.code.specs.Op.{CallMethodR}
 use Rattle.code.specs.declared.Ins.{Ins}
-use Rattle.params.specs.Masks.{arguments}
-use Rattle.params.proofs.arguments.Statement.{statement}
-use Rattle.params.proofs.arguments.Tie as tie
+use Rattle.passes.specs.Passed.{arguments}
+use Rattle.passes.proofs.arguments.Statement.{statement}
+use Rattle.passes.proofs.arguments.Tie as tie
 
 module _ (c : Ins) where
   method : c .op ≡ CallMethodR → c .x + 1 ≡ arguments c

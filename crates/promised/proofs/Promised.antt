@@ -47,7 +47,7 @@ use Rattle.sheltered.proofs.Exported.{raising-settles, raising-holds, raising-m
 use Rattle.sheltered.proofs.Saving.{saved-run}
 use Rattle.sheltered.proofs.Bodies.{not-enough, enough, raise-kept}
 use Rattle.promised.specs.Promised.{Promised}
-use Rattle.promised.proofs.Marked.{marked}
+use Rattle.marked.proofs.Marked.{marked}
 use Rattle.promised.proofs.Late.{late}
 use Rattle.promised.proofs.Breaks.{plain-breaks}
 

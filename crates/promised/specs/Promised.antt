@@ -66,7 +66,7 @@ use Rattle.exported.specs.Calls.{FoldCall, ClearCall, ClearBeyond}
 use Rattle.exported.specs.Told.{TouchedHolds, startAt, rowLeft, OriginsKept}
 use Rattle.exported.specs.Told.{Truth, listLeft, KeptHolds, SameLists, foldedOf, FoldsNext, ClearsNext, FoldsCleared, FoldsSame, ClearHolds, ClearedTwice}
 use Rattle.exported.specs.Told.{RunsKept, ClearsKept, RunsCleared}
-use Rattle.promised.specs.Marked.{Marked}
+use Rattle.marked.specs.Marked.{Marked}
 use Rattle.promised.specs.Late.{Late}
 use Rattle.promised.specs.Breaks.{Breaks}
 use Rattle.promised.specs.Above.{AtLevel, Entered}

@@ -46,7 +46,7 @@ use Rattle.positions.specs.Moved.{placed}
 use Rattle.phi_pass.specs.Phi.{paired, noop, phiMarkAt, marked as phisMarked, pairsLeft, indexed}
 use Rattle.finish.specs.Finish.{sourcesAfter, renewed, finished}
 use Rattle.optimizer.specs.Fold.{foldPass, constantFold, joinedBuffers, foldLent, rejoined, foldCall}
-use Rattle.promised.specs.Marked.{K, rowsK, code4, code5, code6, room, Marked}
+use Rattle.marked.specs.Marked.{K, rowsK, code4, code5, code6, room, Marked}
 
 pub marked : Marked
 unfolding set.minus flow.joined rowAt sweep below tally value rowsOf first page ruleOf kindsOf hasRole isJump cases caseOf usedBy givenBy isLevel firstLevel storeOf overPending pastStore restores idle usedAt givenAt afterAt routeStart listed handlersOf added resumeOf resultAt keptAt listsTo offsetsTo stagesOf checkOf rules firstBadTry tryKept globalAnswer globalOf traced tracedBy saysAt setsIt passesBy writes foldBinop foldNeg ints floats divmod quotient remainder shifted inRange floorDiv floorMod downDiv downMod shiftUp div ofInt eq neg ofBits toBits foldCall rejoined foldLent handlesAny barred joinedBuffers constantFold foldPass finished renewed sourcesAfter readyOf tablesOf roomsOf tallyOf chunkCheckOf chunkRules folds every many each some remapOf mapped movedOperand left compacted placed paired noop phiMarkAt phisMarked pairsLeft indexed foldAll folded tryFold applied landed put constLoad planAt planFor kindOf plan.operatorPage tryFoldBinop tryFoldUnary foldUnary prevLive plan.operandOf blocked lands skipsInto landsAny constToVal toVal findOrPushConst findOrPush

@@ -16,7 +16,8 @@ use Rattle.laid.specs.Section.{laid}
 use Rattle.paths.specs.Search.{Says, SearchSettles}
 use Rattle.phis.specs.Phi.{Dead}
 use Rattle.phi_paths.specs.Inner.{PhiRoom}
-use Rattle.generators.specs.Generator.{made, returnsOutside, PhisDead, GenPure}
+use Rattle.outside.specs.Outside.{made, returnsOutside}
+use Rattle.generators.specs.Generator.{PhisDead, GenPure}
 use Rattle.generators.specs.Inner.{Clear}
 
 -- the first m words of a list, cleared

@@ -54,7 +54,7 @@ fn params_in(code: &[u16], arity: usize) -> u64
     let mut m: u64 = 0;
     let mut r: usize = 0;
     while r < n {
-        m |= passes::bit(any_writes(&roles, code, r as u16), 1u64 << r);
+        m |= passed::bit(any_writes(&roles, code, r as u16), 1u64 << r);
         r += 1;
     }
     m

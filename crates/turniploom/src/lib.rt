@@ -5,7 +5,7 @@ ghost use Rattle.laid.specs.Answers.{pureAnswer};
 ghost use Rattle.shapes.specs.Answers.{flatAnswer, guardedAnswer};
 ghost use Rattle.walks.specs.Answers.{returnsAnswer};
 ghost use Rattle.params.specs.Answers.{writtenAnswer};
-ghost use Rattle.passes.specs.Answers.{passedAnswer};
+ghost use Rattle.passed.specs.Answers.{passedAnswer};
 ghost use Rattle.callee.specs.Answers.{globalAnswer};
 ghost use Rattle.pushes.specs.Answers.{pushAnswer};
 ghost use Rattle.stack.specs.Answers.{stackAnswer};
@@ -129,7 +129,7 @@ pub extern "C" fn turniploom_params_written(code: &[u16], arity: usize) -> Answe
 pub extern "C" fn turniploom_passed(code: &[u16], at: usize, arity: usize) -> Answer
     ensures { λ r. ⌜ r ≡ passedAnswer (now (code .entry)) at arity ⌝ }
 {
-    passes::passed(code, at, arity)
+    passed::passed(code, at, arity)
 }
 
 // Whether a generator may be laid as a section.

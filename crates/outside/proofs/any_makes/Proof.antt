@@ -1,0 +1,59 @@
+-- `outside::any_makes` meets its contract. Assumes nothing.
+use borrow.Author.Needs.{needs}
+use mathlib.Core.Path.{_≡_}
+use mathlib.Core.Bool.{false}
+use Prim.Native.Nat.{_-_, _≤_}
+use Rattle.laws.specs.Some.{some}
+use Rattle.laws.proofs.Some.{somewhere}
+use Rattle.walks.specs.There.{there}
+use Rattle.walks.proofs.There.{tested-there}
+use Rattle.outside.specs.Outside.{makes, made}
+use Rattle.outside.proofs.any_makes.Statement.{statement}
+use Rattle.outside.proofs.any_makes.Tie as tie
+
+abbrev Inv-loop : tie.InvT-loop
+Inv-loop code n k₀ k = (k ≤ n) × (some (there makes code) k ≡ false)
+
+abbrev μ-loop : tie.MeasureT-loop
+μ-loop code n k₀ k = n - k
+
+loop-holds : tie.Need-loop-holds Inv-loop μ-loop
+loop-holds c = search (needs, somewhere)
+
+ins-at-requires : tie.Need-ins-at-requires Inv-loop μ-loop
+ins-at-requires c κs = search needs
+
+makes-requires : tie.Need-makes-requires Inv-loop μ-loop
+makes-requires c κs = search needs
+
+returns : tie.Need-returns Inv-loop μ-loop
+unfolding made
+returns c = search (needs, somewhere, tested-there)
+
+add-k : tie.Need-add-k Inv-loop μ-loop
+add-k c = search needs
+
+loop-less : tie.Need-loop-less Inv-loop μ-loop
+loop-less c = search needs
+
+loop-again : tie.Need-loop-again Inv-loop μ-loop
+loop-again c = search (needs, somewhere, tested-there)
+
+returns-2 : tie.Need-returns-2 Inv-loop μ-loop
+unfolding made
+returns-2 c = search (needs, somewhere)
+
+pub any-makes-spec : {M : Type 1} → statement M
+any-makes-spec =
+    tie.close
+    (tie.spec
+    Inv-loop
+    μ-loop
+    loop-holds
+    ins-at-requires
+    makes-requires
+    returns
+    add-k
+    loop-less
+    loop-again
+    returns-2)

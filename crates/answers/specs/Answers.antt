@@ -20,7 +20,7 @@ use Rattle.day.specs.Answers.{dayTold}
 use Rattle.code.specs.declared.Checked.{Checked}
 use Rattle.code.specs.declared.Checked.the-variants as stage
 use Rattle.nested.specs.Raising.{raising, mays, beginsAt}
-use Rattle.raises.specs.Answers.{ExposedLeft}
+use Rattle.exposes.specs.Answers.{ExposedLeft}
 
 -- an answer that is what f gives for a case which P allows
 pub record By {A : Type 0} (f : A → Answer) (P : A → Type 0) (r : Answer) : Type 0 where

@@ -15,8 +15,9 @@ use Rattle.code.specs.declared.Ins.{Ins}
 use Rattle.laid.specs.Section.{laid}
 use Rattle.paths.specs.Search.{Says, SearchSettles}
 use Rattle.phis.specs.Phi.{Dead}
-use Rattle.phis.specs.Inner.{PhiRoom}
-use Rattle.generators.specs.Generator.{made, returnsOutside, PhisDead, GenPure}
+use Rattle.phi_paths.specs.Inner.{PhiRoom}
+use Rattle.outside.specs.Outside.{made, returnsOutside}
+use Rattle.generators.specs.Generator.{PhisDead, GenPure}
 use Rattle.generators.specs.Inner.{Clear}
 
 -- the first m words of a list, cleared

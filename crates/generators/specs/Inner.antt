@@ -4,7 +4,7 @@ use mathlib.Core.Path.{_≡_}
 use mathlib.Core.List.{List}
 use lib.ListN.{length}
 use Rattle.laws.specs.Table.{clearedTo}
-use Rattle.phis.specs.Inner.{PhiRoom}
+use Rattle.phi_paths.specs.Inner.{PhiRoom}
 
 -- room for a search, and both buffers clear
 pub record Clear (w seen todo : List ℕ) : Type 0 where

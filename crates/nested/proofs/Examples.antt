@@ -1,12 +1,13 @@
 -- A body whose plain lists are not enough: the call at 2 overwrites r5, the call at 6 raises, and the handler at 9 reads r5. Assumes nothing.
 use mathlib.Core.Path.{_≡_, refl, sym, ap, _∙_, subst}
 use mathlib.Core.Bool.{Bool, true, false, cond}
-use mathlib.Core.List.{List, [], _∷_, map, List·Memᴰ, List·Memᴰ·not-nil}
+use mathlib.Core.List.{List, [], _∷_, _++_, map, List·Memᴰ, List·Memᴰ·head, List·Memᴰ·not-nil}
 use Prim.Native.Nat.{ℕ}
 use native.Mathlib.Omega.{arith}
 use borrow.Author.Tests.{eqb-true}
 use lib.Dec.{eqb}
 use lib.ListN.{getD, replicate}
+use Rattle.laws.specs.Walk.{first}
 use Rattle.roles.specs.Kinds.{page, ruleOf, kindsOf, hasRole, isJump}
 use Rattle.roles.specs.Sets.{cases, caseOf, usedBy, givenBy}
 use Rattle.flow.specs.Set.{bit, minus}
@@ -16,14 +17,15 @@ use Rattle.flow.specs.Listed.{listed}
 use Rattle.flow.specs.Kept.{handlersOf, added, kept}
 use Rattle.flow.proofs.Answer.{last-straight}
 use Rattle.flow.proofs.Bits.{bit-zero}
-use Rattle.steps.specs.Level.{isLevel}
+use Rattle.steps.specs.Level.{isLevel, firstLevel}
 use Rattle.steps.specs.Code.{storeOf, overPending, pastStore, restores, idle, usedAt, givenAt, afterAt, flow}
+use Rattle.rows.specs.Route.{routeStart}
 use Rattle.kept.specs.Level.{resumeOf, resultAt, levelOf}
 use Rattle.nested.specs.Machine.{Event, step, back, thrown, nested, undisturbed, Spares, Sheltered}
-use Rattle.nested.specs.Raising.{raisesAt, raising, levels, mays, argsAt, frame}
+use Rattle.nested.specs.Raising.{raisesAt, raising, levels, mays, beginsAt, argsAt, frame}
 use Rattle.nested.specs.Exposed.{exposed}
-use Rattle.nested.specs.Bodies.{body, tries}
-use Rattle.nested.specs.Inner.{untidy}
+use Rattle.nested.specs.Bodies.{body, tries, raised}
+use Rattle.nested.specs.Inner.{untidy, wanted}
 
 abbrev pub rows : List ℕ
 rows = 0 ∷ 0 ∷ 17 ∷ 0 ∷ 2 ∷ 18 ∷ 18 ∷ 0 ∷ 4 ∷ 32 ∷ 0 ∷ []
@@ -54,6 +56,11 @@ lists = (refl, refl, refl, refl)
 pub shown : (exposed (plainAt 2) (raisingAt 2) ≡ 5 ∷ []) × (exposed (plainAt 6) (raisingAt 6) ≡ [])
 unfolding minus listed handlersOf added resumeOf resultAt storeOf exposed
 shown = (refl, refl)
+
+-- level 2 keeps r5 with handlers, so no callee there overwrites it
+kept-spared : (lost : ℕ → ℕ) → Spares (frame (levels body) 6 body tries) raisingAt lost → bit (lost 2) 5 ≡ 0
+unfolding isLevel
+kept-spared lost s = s 2 5 (omega arith) refl (subst (λ (l : List ℕ). List·Memᴰ 5 l) (sym (lists .2)) (List·Memᴰ·head refl))
 
 -- the call at 2 overwrites r5 and no other register
 lost : ℕ → ℕ
@@ -137,3 +144,22 @@ untidy-not-enough s =
     let e : untidy-told 77 ≡ untidy-told 55 = sym (untidy-runs .0) ∙ s untidy-lost untidy-spares untidy-events 0 (10 ∷ 11 ∷ 55 ∷ []) ∙ untidy-runs .1 in
     let z : _≡_ {A = ℕ} 77 55 = ap (λ (l : List (ℕ × List ℕ)). getD (getD (map (λ (s : ℕ × List ℕ). s .1) l) 3 []) 0 0) e in
     omega arith
+
+-- ---- Raise, which is no level: where anything may raise, the call at 1 keeps r5 for the handler at 6
+
+pub raise-all-found : Found (raising (mays true raised) 6 raised (3 ∷ 6 ∷ [])) (beginsAt 6 raised) (0 ∷ 32 ∷ 32 ∷ 34 ∷ 34 ∷ 34 ∷ 32 ∷ 0 ∷ []) 1 0
+unfolding minus joined rowAt sweep below tally page ruleOf kindsOf hasRole isJump cases caseOf usedBy givenBy storeOf overPending pastStore restores idle usedAt givenAt afterAt isLevel handlersOf raisesAt routeStart firstLevel first
+raise-all-found = record { sweeps = done (last-straight (raising (mays true raised) 6 raised (3 ∷ 6 ∷ [])) 1 (replicate 8 0) refl); left = refl }
+
+-- ---- a handler wants what its level gives up
+
+-- row 4 has r1, which 4 would write: an exception leaves before it is given up
+pub wanted-found : Found (raising (mays false wanted) 3 wanted (3 ∷ 6 ∷ [])) (beginsAt 3 wanted) (0 ∷ 2 ∷ 2 ∷ 6 ∷ 6 ∷ 2 ∷ 2 ∷ 0 ∷ []) 1 0
+unfolding minus joined rowAt sweep below tally page ruleOf kindsOf hasRole isJump cases caseOf usedBy givenBy storeOf overPending pastStore restores idle usedAt givenAt afterAt isLevel handlersOf raisesAt routeStart firstLevel first
+wanted-found = record { sweeps = done (last-straight (raising (mays false wanted) 3 wanted (3 ∷ 6 ∷ [])) 1 (replicate 8 0) refl); left = refl }
+
+-- 4 raises: 99, which it would write to r1, is not written, and the handler at 6 reads the 11 of before
+wanted-run : nested (frame (mays false wanted) 3 wanted (3 ∷ 6 ∷ [])) undisturbed (step 0 (0 ∷ 99 ∷ []) ∷ step 0 [] ∷ []) 4 (10 ∷ 11 ∷ 12 ∷ [])
+    ≡ (4, 12 ∷ []) ∷ (6, 11 ∷ []) ∷ []
+unfolding nested bit listed page ruleOf kindsOf hasRole isJump cases caseOf usedBy givenBy storeOf overPending pastStore restores idle usedAt givenAt afterAt isLevel handlersOf raisesAt argsAt resumeOf resultAt joined
+wanted-run = refl

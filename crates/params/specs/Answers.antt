@@ -1,19 +1,11 @@
--- What the public calls answer: the refusals that each has the input for, in document 01's order; else the bits. Assumes nothing.
+-- What the public call answers: the refusals that it has the input for, in document 01's order; else the bits. Assumes nothing.
 use Prim.Native.Nat.{ℕ}
-use mathlib.Core.Bool.{cond}
 use mathlib.Core.List.{List}
-use Rattle.code.specs.Ins.{insAt, isCall}
-use Rattle.code.specs.Check.{checkOf, insideOf}
+use Rattle.code.specs.Check.{checkOf}
 use Rattle.code.specs.Answers.{asked, answerOf, refusedOf}
 use Rattle.code.specs.declared.Answer.{Answer}
-use Rattle.code.specs.declared.Refusal.the-variants.{Position}
-use Rattle.params.specs.Masks.{paramsWritten, passedAt}
+use Rattle.params.specs.Masks.{paramsWritten}
 
 -- 1, 2
 unfoldable pub writtenAnswer : List ℕ → ℕ → Answer
 writtenAnswer w arity = asked (checkOf w) refusedOf (answerOf (paramsWritten w arity) 0 0 0)
-
--- 1, 2, 6; 6 also where the position is not one of the four calls
-unfoldable pub passedAnswer : List ℕ → ℕ → ℕ → Answer
-passedAnswer w j arity =
-    asked (insideOf (checkOf w) j) refusedOf (cond (isCall (insAt w j .op)) (answerOf (passedAt w j arity) 0 0 0) (refusedOf (Position j)))

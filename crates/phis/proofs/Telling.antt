@@ -15,7 +15,7 @@ use Rattle.code.specs.declared.Checked.the-variants.{Count, No}
 use Rattle.code.proofs.Checks.{valid-of}
 use Rattle.walks.proofs.Rooms.{before-inside, within, before-room, roomy}
 use Rattle.paths.specs.Search.{Says, SearchSettles}
-use Rattle.phis.specs.Inner.{PhiRoom}
+use Rattle.phi_paths.specs.Inner.{PhiRoom}
 use Rattle.phis.specs.Answers.{Tells}
 
 module _ (v s : Checked) (e : v ≡ s) (P : Type 0) (m : ℕ) (seen todo : List ℕ) (r : Answer) where

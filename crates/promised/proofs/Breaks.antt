@@ -10,9 +10,9 @@ use Rattle.runs.specs.Machine.{Plain}
 use Rattle.runs.specs.Rule.{known}
 use Rattle.runs.specs.Kept.{Same}
 use Rattle.runs.proofs.Examples as example
-use Rattle.promised.specs.Marked.{code13}
+use Rattle.marked.specs.Marked.{code13}
 use Rattle.promised.specs.Breaks.{Breaks}
-use Rattle.promised.proofs.Marked.{marked}
+use Rattle.marked.proofs.Marked.{marked}
 
 only : (k : ℕ) → k < 4 → known (opAt code13 k) ≡ true
 unfolding known folds

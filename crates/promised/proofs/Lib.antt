@@ -1,4 +1,3 @@
-pub mod Marked
 pub mod Late
 pub mod Breaks
 pub mod Promised

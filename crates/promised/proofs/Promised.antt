@@ -14,7 +14,8 @@ use Rattle.touch.proofs.Trapped.{traps}
 use Rattle.laid.specs.Answers.{pureAnswer}
 use Rattle.shapes.specs.Answers.{flatAnswer, guardedAnswer}
 use Rattle.walks.specs.Answers.{returnsAnswer}
-use Rattle.params.specs.Answers.{writtenAnswer, passedAnswer}
+use Rattle.params.specs.Answers.{writtenAnswer}
+use Rattle.passed.specs.Answers.{passedAnswer}
 use Rattle.callee.specs.Answers.{globalAnswer}
 use Rattle.pushes.specs.Answers.{pushAnswer}
 use Rattle.stack.specs.Answers.{stackAnswer}
@@ -46,7 +47,7 @@ use Rattle.sheltered.proofs.Exported.{raising-settles, raising-holds, raising-m
 use Rattle.sheltered.proofs.Saving.{saved-run}
 use Rattle.sheltered.proofs.Bodies.{not-enough, enough, raise-kept}
 use Rattle.promised.specs.Promised.{Promised}
-use Rattle.promised.proofs.Marked.{marked}
+use Rattle.marked.proofs.Marked.{marked}
 use Rattle.promised.proofs.Late.{late}
 use Rattle.promised.proofs.Breaks.{plain-breaks}
 

@@ -4,7 +4,7 @@ use mathlib.Core.Bool.{false}
 use Rattle.optimizer.specs.Fold.{FoldOutcome, FoldAnswer}
 use Rattle.runs.specs.Rule.{WishRule}
 use Rattle.runs.specs.Kept.{Same}
-use Rattle.promised.specs.Marked.{code13, foldedCall}
+use Rattle.marked.specs.Marked.{code13, foldedCall}
 
 -- what the plain mode leaves of it
 abbrev pub plainly : FoldOutcome FoldAnswer

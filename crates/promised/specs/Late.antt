@@ -6,7 +6,7 @@ use Prim.Native.Nat.{ℕ}
 use lib.ListN.{replicate}
 use Rattle.code.specs.Op as op
 use Rattle.clear.specs.Clear.{Is, poolBuffers, clearOutcome, clearCall}
-use Rattle.promised.specs.Marked.{load, operator, jump, foldedCall, leavesSo}
+use Rattle.marked.specs.Marked.{load, operator, jump, foldedCall, leavesSo}
 
 -- 2 + 3, from these constants, and a LoadConst of 3
 abbrev pub late : ℕ → ℕ → List ℕ

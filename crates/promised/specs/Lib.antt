@@ -1,4 +1,3 @@
-pub mod Marked
 pub mod Late
 pub mod Above
 pub mod Breaks

@@ -24,7 +24,8 @@ use Rattle.touch.specs.Traps.{Traps}
 use Rattle.laid.specs.Answers.{pureAnswer}
 use Rattle.shapes.specs.Answers.{flatAnswer, guardedAnswer}
 use Rattle.walks.specs.Answers.{returnsAnswer}
-use Rattle.params.specs.Answers.{writtenAnswer, passedAnswer}
+use Rattle.params.specs.Answers.{writtenAnswer}
+use Rattle.passed.specs.Answers.{passedAnswer}
 use Rattle.callee.specs.Answers.{globalAnswer}
 use Rattle.pushes.specs.Answers.{pushAnswer}
 use Rattle.stack.specs.Answers.{stackAnswer}
@@ -65,7 +66,7 @@ use Rattle.exported.specs.Calls.{FoldCall, ClearCall, ClearBeyond}
 use Rattle.exported.specs.Told.{TouchedHolds, startAt, rowLeft, OriginsKept}
 use Rattle.exported.specs.Told.{Truth, listLeft, KeptHolds, SameLists, foldedOf, FoldsNext, ClearsNext, FoldsCleared, FoldsSame, ClearHolds, ClearedTwice}
 use Rattle.exported.specs.Told.{RunsKept, ClearsKept, RunsCleared}
-use Rattle.promised.specs.Marked.{Marked}
+use Rattle.marked.specs.Marked.{Marked}
 use Rattle.promised.specs.Late.{Late}
 use Rattle.promised.specs.Breaks.{Breaks}
 use Rattle.promised.specs.Above.{AtLevel, Entered}

@@ -46,10 +46,6 @@ pub raise-levels-found : Found (raising (mays false raised) 6 raised (3 ∷ 6 �
 unfolding minus joined rowAt sweep below tally value rowsOf page ruleOf kindsOf hasRole isJump cases caseOf usedBy givenBy storeOf overPending pastStore restores idle usedAt givenAt afterAt isLevel listed handlersOf added raisesAt routeStart firstLevel resumeOf resultAt keptAt listsTo offsetsTo stagesOf checkOf rules firstBadTry tryKept first many every
 raise-levels-found = record { sweeps = done (last-straight (raising (mays false raised) 6 raised (3 ∷ 6 ∷ [])) 1 (replicate 8 0) refl); left = refl }
 
-pub raise-all-found : Found (raising (mays true raised) 6 raised (3 ∷ 6 ∷ [])) (beginsAt 6 raised) (0 ∷ 32 ∷ 32 ∷ 34 ∷ 34 ∷ 34 ∷ 32 ∷ 0 ∷ []) 1 0
-unfolding minus joined rowAt sweep below tally value rowsOf page ruleOf kindsOf hasRole isJump cases caseOf usedBy givenBy storeOf overPending pastStore restores idle usedAt givenAt afterAt isLevel listed handlersOf added raisesAt routeStart firstLevel resumeOf resultAt keptAt listsTo offsetsTo stagesOf checkOf rules firstBadTry tryKept first many every
-raise-all-found = record { sweeps = done (last-straight (raising (mays true raised) 6 raised (3 ∷ 6 ∷ [])) 1 (replicate 8 0) refl); left = refl }
-
 -- ---- a mark on ReturnR: the call at 0 keeps r2, which the position after the ReturnR reads
 
 pub marked : RaisingOutcome untidy 3 [] false (replicate 5 9) (replicate 5 9) (replicate 2 9) (4 ∷ 4 ∷ 5 ∷ 4 ∷ 0 ∷ []) (0 ∷ 1 ∷ 1 ∷ 2 ∷ 2 ∷ []) (2 ∷ 2 ∷ []) (Is 2 1 0)

@@ -1,17 +1,14 @@
-// The registers that each level keeps where calls may raise later on: rows with the handlers joined, the lists by them, and what they add.
+// The registers that each level keeps where calls may raise later on: rows with the handlers joined, and the lists by them.
 ghost use mathlib.Core.Path.{_≡_};
 ghost use Prim.Native.Nat.{suc, _*_, _≤_};
 ghost use lib.ListN.{length};
-ghost use Rattle.laws.specs.Page.{among};
 ghost use Rattle.code.specs.Ins.{count};
 ghost use Rattle.code.specs.Inner.{Valid};
 ghost use Rattle.flow.specs.Sweep.{Found};
 ghost use Rattle.rows.specs.Route.{wordsFor, rowsIn};
 ghost use Rattle.kept.specs.Answers.{stagesOf};
 ghost use Rattle.nested.specs.Raising.{raising, mays, beginsAt};
-ghost use Rattle.nested.specs.Inner.{Exposes};
 ghost use Rattle.raises.specs.Inner.{RaisingOutcome};
-ghost use Rattle.raises.specs.Answers.{ExposedLeft};
 use code::Checked;
 use code::Refusal;
 use kept::KeptAnswer;
@@ -76,51 +73,4 @@ fn keep_all(
     }
     kept::each_call(code, regs, tries, rows, words, offsets, list);
     KeptAnswer::Is(total, found.full, found.abandoned)
-}
-
-// The registers of a list that another has not, in order, from the front of `out` on: how many; or refusal 5, where `out` is shorter than the list.
-pub fn exposed(plain: &[u16], list: &[u16], out: &mut [u16]) -> Checked
-    ensures { λ r. ⌜ ExposedLeft (now (plain .entry)) (now (list .entry)) (now (out .entry)) (now (out .exit)) r ⌝ }
-{
-    if out.len() < list.len() {
-        return Checked::No(Refusal::Short {
-            buffer: 1,
-            needed: list.len(),
-        });
-    }
-    Checked::Count(expose(plain, list, out))
-}
-
-// Whether a list has r.
-fn has_reg(l: &[u16], r: u16) -> bool
-    ensures { λ t. ⌜ t ≡ among r (now (l .entry)) ⌝ }
-{
-    let mut i = 0;
-    while i < l.len() {
-        if l[i] == r {
-            return true;
-        }
-        i += 1;
-    }
-    false
-}
-
-// The same, where `out` is long enough.
-fn expose(plain: &[u16], list: &[u16], out: &mut [u16]) -> usize
-    requires { ⌜ length (now list) ≤ length (now out) ⌝ }
-    ensures { λ r. ⌜ Exposes (now (plain .entry)) (now (list .entry)) (now (out .entry)) (now (out .exit)) r ⌝ }
-{
-    let mut m = 0;
-    let mut i = 0;
-    while i < list.len() {
-        let r = list[i];
-        if has_reg(plain, r) {
-            i += 1;
-            continue;
-        }
-        out[m] = r;
-        m += 1;
-        i += 1;
-    }
-    m
 }

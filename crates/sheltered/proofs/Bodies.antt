@@ -22,8 +22,8 @@ use Rattle.exported.specs.Calls.{Lists, KeptCall}
 use Rattle.exported.specs.Told.{listLeft}
 use Rattle.nested.specs.Raising.{raising, mays, beginsAt}
 use Rattle.nested.specs.Bodies.{body, tries, raised}
-use Rattle.nested.proofs.Examples.{rows, plainAt, plain-found, plain-not-enough}
-use Rattle.raises.proofs.Examples.{found-rows, called-found, raise-levels-found, raise-all-found}
+use Rattle.nested.proofs.Examples.{rows, plainAt, plain-found, plain-not-enough, raise-all-found}
+use Rattle.raises.proofs.Examples.{found-rows, called-found, raise-levels-found}
 use Rattle.sheltered.specs.Calls.{RaisingCall, NotEnough, Enough, RaiseKept}
 use Rattle.sheltered.proofs.Exported.{raising-out, raising-found, kept-out}
 

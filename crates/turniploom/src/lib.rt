@@ -4,7 +4,8 @@ ghost use Rattle.fields.specs.Answers.{kindsAnswer, roleAnswer, fieldAnswer, wr
 ghost use Rattle.laid.specs.Answers.{pureAnswer};
 ghost use Rattle.shapes.specs.Answers.{flatAnswer, guardedAnswer};
 ghost use Rattle.walks.specs.Answers.{returnsAnswer};
-ghost use Rattle.params.specs.Answers.{writtenAnswer, passedAnswer};
+ghost use Rattle.params.specs.Answers.{writtenAnswer};
+ghost use Rattle.passed.specs.Answers.{passedAnswer};
 ghost use Rattle.callee.specs.Answers.{globalAnswer};
 ghost use Rattle.pushes.specs.Answers.{pushAnswer};
 ghost use Rattle.stack.specs.Answers.{stackAnswer};
@@ -127,7 +128,7 @@ pub extern "C" fn turniploom_params_written(code: &[u16], arity: usize) -> Answe
 pub extern "C" fn turniploom_passed(code: &[u16], at: usize, arity: usize) -> Answer
     ensures { λ r. ⌜ r ≡ passedAnswer (now (code .entry)) at arity ⌝ }
 {
-    params::passed(code, at, arity)
+    passed::passed(code, at, arity)
 }
 
 // Whether a generator may be laid as a section.
@@ -421,7 +422,7 @@ pub extern "C" fn turniploom_kept_raising(
 pub extern "C" fn turniploom_exposed(plain: &[u16], list: &[u16], out: &mut [u16]) -> Answer
     ensures { λ r. ⌜ ExposedTold (now (plain .entry)) (now (list .entry)) (now (out .entry)) (now (out .exit)) r ⌝ }
 {
-    counted(raises::exposed(plain, list, out))
+    counted(exposes::exposed(plain, list, out))
 }
 
 // The version of the calls: major, minor and patch, as the header has them. Nothing is lent, and nothing refused.
@@ -429,5 +430,5 @@ pub extern "C" fn turniploom_exposed(plain: &[u16], list: &[u16], out: &mut [u16
 pub extern "C" fn turniploom_version() -> Answer
     ensures { λ r. ⌜ r ≡ answerOf 0 2 0 0 ⌝ }
 {
-    code::tell(0, 2, 0, 0)
+    version::version()
 }

@@ -10,8 +10,9 @@ use Rattle.laws.proofs.Table.{cleared-length}
 use Rattle.paths.specs.Search.{Says, SearchSettles}
 use Rattle.paths.specs.Inner.{Searched}
 use Rattle.paths.proofs.Between.{none, settles}
-use Rattle.phis.specs.Phi.{Read, Dead}
-use Rattle.phis.specs.Inner.{PhiRoom}
+use Rattle.phi_paths.specs.Read.{Read}
+use Rattle.phis.specs.Phi.{Dead}
+use Rattle.phi_paths.specs.Inner.{PhiRoom}
 use Rattle.phis.proofs.dead.Statement.{statement}
 use Rattle.phis.proofs.dead.Tie as tie
 

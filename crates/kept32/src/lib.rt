@@ -35,7 +35,7 @@ pub fn kept32(
 }
 
 // The resume row of the level at k, less its result register.
-fn main_row(code: &[u16], regs: usize, rows: &[u32], words: usize, k: usize) -> [u32; 32]
+pub fn main_row(code: &[u16], regs: usize, rows: &[u32], words: usize, k: usize) -> [u32; 32]
     requires { ⌜ LevelsRoom 32 32 regs (now code) words (now rows) × (k < count (now code)) ⌝ }
     ensures { λ s. ⌜ Holds 32 s (minus (row (rowsBy 32 words (now (code .entry)) (now (rows .entry))) (resumeOf (now (code .entry)) k)) (resultOf regs (now (code .entry)) k)) ⌝ }
 {
@@ -112,7 +112,7 @@ fn keep_at(
 }
 
 // The sum of the list lengths.
-pub fn count_all(code: &[u16], regs: usize, tries: &[u32], rows: &[u32], words: usize) -> usize
+fn count_all(code: &[u16], regs: usize, tries: &[u32], rows: &[u32], words: usize) -> usize
     requires { ⌜ LevelsRoom 32 32 regs (now code) words (now rows) ⌝ }
     ensures { λ r. ⌜ (r ≡ length (listsTo regs (now (code .entry)) (now (tries .entry)) (rowsBy 32 words (now (code .entry)) (now (rows .entry))) (count (now (code .entry))))) × (r ≤ 67107840) ⌝ }
 {
@@ -127,7 +127,7 @@ pub fn count_all(code: &[u16], regs: usize, tries: &[u32], rows: &[u32], words: 
 }
 
 // `each_call`: the list of each position, and where it begins.
-pub fn each_call(
+fn each_call(
     code: &[u16],
     regs: usize,
     tries: &[u32],

@@ -1,6 +1,7 @@
 //! What the listing of a body shows, found by the archive's calls.
 
-use crate::{and, around::Around, callee::Callees, count, exposed::{self, Exposed, Exposures}, found::{self, Found}, notation::{Body, ins_text}, out::Out, own::Own, put};
+use crate::{and, around::Around, callee::Callees, count, exposed::{self, Exposed, Exposures}, found::{self, Found}, notation::{Body, ins_text}, out::Out,
+    own::Own, put};
 use model::rows;
 use turniploom::{DUNDER, Ins, Op, Refusal, op};
 
@@ -207,12 +208,20 @@ fn join(set: &mut [u64], row: &[u64]) -> bool {
 fn parts(found: &Found, k: usize, resume: usize, result: Option<u16>, handlers: &[usize]) -> Vec<Part> {
     let mut left = found.kept(k);
     let mut seen = vec![0u64; found.bits(resume).len()];
-    // Of what the rows have the list has what comes next in it.
+    // What a row has besides is next in the list.
     let mut take = |row: &[u64], without: Option<u16>| {
-        let mut more: Vec<u64> = row.iter().zip(&seen).map(|(r, s)| r & !s).collect();
-        if let Some(word) = without.and_then(|r| more.get_mut(usize::from(r) / 64).map(|w| (w, r))) { *word.0 &= !(1 << (word.1 % 64)) }
-        let mut registers = found::set(&more);
-        registers.retain(|r| left.split_first().filter(|(first, _)| *first == r).map(|(_, rest)| left = rest).is_some());
+        let mut registers = vec![];
+        for (base, (row, seen)) in (0..).step_by(64).zip(row.iter().zip(&mut seen)) {
+            let mut more = row & !*seen;
+            while more != 0 {
+                let r = base + more.trailing_zeros() as u16;
+                if without != Some(r) && left.first() == Some(&r) {
+                    left = &left[1..];
+                    registers.push(r);
+                }
+                more &= more - 1;
+            }
+        }
         for &r in &registers { seen[usize::from(r) / 64] |= 1 << (r % 64) }
         registers
     };

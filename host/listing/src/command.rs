@@ -1,7 +1,8 @@
 //! What the command does with its options: files and folders are read, listed and written; and how it ends.
 
-use crate::{body, chunk, diff, figures, json, notation::{self, Body, Chunk, Text}, options::{Form, Options, USE}, out::Out, page, paint, refused, run as runs, text, whose, why};
-use std::{env, fs, io::{self, IsTerminal, Write}, path::Path, process::ExitCode};
+use crate::{body, chunk, diff, figures, json, notation::{self, Body, Chunk, Text}, options::{Form, Options, USE}, out::Out,
+    page, paint, refused, run as runs, text, whose, why};
+use std::{env, fs, io::{self, IsTerminal, Write}, path::Path, process::ExitCode, thread};
 
 /// Why something was not listed.
 #[derive(Clone, Debug, PartialEq, Eq)]
@@ -100,15 +101,17 @@ fn told(error: &io::Error) -> String {
 }
 
 /// Writes the text and the page, the page in place of the text if it is for the standard output.
-fn written(text: impl FnOnce(&mut Out), page: impl FnOnce() -> String, options: &Options) -> Done<()> {
-    match options.html.as_deref() {
-        Some("-") => said(|out| out.push_str(&page()), &Options::default()),
-        Some(to) => {
-            said(text, options)?;
-            fs::write(to, page()).map_err(|e| Trouble::Unwritten(format!("listing: {to} can't be written: {}", told(&e))))
-        }
-        None => said(text, options),
-    }
+fn written(text: impl FnOnce(&mut Out), page: impl FnOnce(&mut Out), options: &Options) -> Done<()> {
+    let Some(to) = options.html.as_deref() else { return said(text, options) };
+    if to == "-" { return said(page, &Options::default()) }
+    said(text, options)?;
+    let unwritten = |e| Trouble::Unwritten(format!("listing: {to} can't be written: {}", told(&e)));
+    let (mut file, mut done) = (fs::File::create(to).map_err(unwritten)?, Ok(()));
+    let mut write = |text: &str| if done.is_ok() { done = file.write_all(text.as_bytes()) };
+    let mut out = Out::to(&mut write);
+    page(&mut out);
+    out.flush();
+    done.map_err(unwritten)
 }
 
 /// The files that are named, a folder's in order of their names.
@@ -190,10 +193,10 @@ impl Of {
         }
     }
 
-    pub fn table(&self) -> String {
+    pub fn put_table(&self, out: &mut Out) {
         match self {
-            Of::Body(of) => page::body(&of.1),
-            Of::Chunk(of) => page::chunk(&of.1),
+            Of::Body(of) => page::put_body(&of.1, out),
+            Of::Chunk(of) => out.push_str(&page::chunk(&of.1)),
         }
     }
 }
@@ -202,8 +205,10 @@ impl Of {
 fn listings(options: &Options) -> Done<Vec<Trouble>> {
     let listed: Vec<Listed> = files(options)?.into_iter().map(|file| Listed { of: of(&file, options), file }).collect();
     // What could be listed is written first, and then what could not.
-    written(|out| if options.form == Form::Json { json::put_files(&listed, out) } else { texts(&listed, options.form, out) }, || page::files(&listed), options)?;
-    Ok(listed.into_iter().filter_map(|l| l.of.err()).collect())
+    let text = |out: &mut Out| if options.form == Form::Json { json::put_files(&listed, out) } else { texts(&listed, options.form, out) };
+    written(text, |out| page::put_files(&listed, out), options)?;
+    // The command ends now: what is known of large bodies is left to the system, which takes it back faster than piece by piece.
+    Ok(listed.into_iter().filter_map(|l| l.of.map(std::mem::forget).err()).collect())
 }
 
 /// Writes each file that was listed, and whose proof it is.
@@ -231,19 +236,25 @@ fn in_figures(options: &Options) -> Done<Vec<Trouble>> {
         view.add(&file, &b).map_err(|r| Trouble::Refused(format!("{file}: {}", refused::body(r, &b))))?;
     }
     let text = format!("{}\n\n{}{}\n", view.heading(), figures::text(&view), whose::line());
-    written(|out| out.push_str(&text), || page::whole("Figures", &view.heading(), &figures::page(&view)), options)?;
+    written(|out| out.push_str(&text), |out| out.push_str(&page::whole("Figures", &view.heading(), &figures::page(&view))), options)?;
     Ok(vec![])
 }
 
 /// What differs between two files.
 fn differing(options: &Options) -> Done<Vec<Trouble>> {
     let [old, new] = &options.files[..] else { return Err(Trouble::Use("--diff wants two files".into())) };
-    let text = match (of(old, options)?, of(new, options)?) {
+    // Two large bodies take twice the time of one: each has a core.
+    let (of_old, of_new) = thread::scope(|scope| {
+        let of_new = scope.spawn(|| of(new, options));
+        (of(old, options), of_new.join().expect("no panic"))
+    });
+    let text = match (of_old?, of_new?) {
         (Of::Body(a), Of::Body(b)) => diff::bodies(&a.1, &b.1),
         (Of::Chunk(a), Of::Chunk(b)) => diff::chunks(&a.1, &b.1),
         _ => return Err(Trouble::Text(format!("{old} and {new}: one is a body, and the other a chunk"))),
     };
     let text = format!("{old} and {new}\n\n{text}{}\n", whose::line());
-    written(|out| out.push_str(&text), || page::whole("Differences", &format!("{old} and {new}"), &format!("<pre>{}</pre>\n", page::escaped(&text))), options)?;
+    let page = || page::whole("Differences", &format!("{old} and {new}"), &format!("<pre>{}</pre>\n", page::escaped(&text)));
+    written(|out| out.push_str(&text), |out| out.push_str(&page()), options)?;
     Ok(vec![])
 }

@@ -22,6 +22,7 @@ use Rattle.flow.proofs.Listed.{listed-wide}
 use Rattle.flow.proofs.Tries.{added-none, added-next, handlers-none}
 use Rattle.flow.proofs.Written.{Written, written-start, written-as, written-long, written-room, written-more, written-end}
 use Rattle.sets.proofs.Sets.{or-assoc, joined-append}
+use Rattle.lists.proofs.Tries.{join-out, list-out}
 
 -- ---- as many as the registers of all its rows together
 
@@ -139,6 +140,11 @@ module _ (bits n k words : ℕ) (rows tries : List ℕ) where
           ∙ h .all;
     }
 
+    -- a try that is not around k adds nothing
+    pub holding-skip : i + 1 < length tries → (a b : ℕ) → a ≡ getD tries i 0 → b ≡ getD tries (i + 1) 0 → (t : Bool) → t ≡ ltb a k && ltb k b → t ≡ false
+        → Holding s seen (i + 2)
+    holding-skip l a b p q t e out = holding-more l a b p q seen (join-out n k a b t e out R bits seen (h .small))
+
     pub holding-end : length tries ≤ i + 1 → Holds bits seen (bitOr (value bits s) (joined (row (rowsOf bits words (suc n) rows)) (handlersOf n k tries)))
     unfolding joined
     holding-end end = record {
@@ -196,3 +202,7 @@ module _ (bits n k words : ℕ) (rows tries : List ℕ) where
             (written-more L old m out at rest (p .so) (p .fits) here later split out′ at′ z)
             (ap (λ (x : ℕ). added (words * bits) R x (handlersOf n k (drop (i + 2) tries))) (sym (g .is)));
       }
+
+      -- a try that is not around k adds nothing
+      pub keeping-skip : (t : Bool) → t ≡ ltb a k && ltb k b → t ≡ false → Keeping s old m out seen at (i + 2)
+      keeping-skip t d z = keeping-more out at (list-out n k a b t d z R (words * bits) (value bits seen) out at keeping-try) seen (join-out n k a b t d z R bits seen (p .small))

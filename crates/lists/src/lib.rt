@@ -143,8 +143,12 @@ pub fn join_tries(
     while i + 1 < tries.len() {
         let s = wide_of(tries[i]);
         let h = wide_of(tries[i + 1]);
-        let more = join_try(all, rows, n, words, k, s, h);
-        all = more;
+        if around(s, k, h) {
+            let more = join_try(all, rows, n, words, k, s, h);
+            all = more;
+            i += 2;
+            continue;
+        }
         i += 2;
     }
     all
@@ -170,9 +174,13 @@ pub fn list_tries(
     while i + 1 < tries.len() {
         let s = wide_of(tries[i]);
         let h = wide_of(tries[i + 1]);
-        at = list_try(all, rows, n, words, k, s, h, out, at);
-        let more = join_try(all, rows, n, words, k, s, h);
-        all = more;
+        if around(s, k, h) {
+            at = list_try(all, rows, n, words, k, s, h, out, at);
+            let more = join_try(all, rows, n, words, k, s, h);
+            all = more;
+            i += 2;
+            continue;
+        }
         i += 2;
     }
     at

@@ -128,8 +128,12 @@ pub fn join_tries(
     while i + 1 < tries.len() {
         let s = lists::wide_of(tries[i]);
         let h = lists::wide_of(tries[i + 1]);
-        let more = join_try(all, rows, n, words, k, s, h);
-        all = more;
+        if lists::around(s, k, h) {
+            let more = join_try(all, rows, n, words, k, s, h);
+            all = more;
+            i += 2;
+            continue;
+        }
         i += 2;
     }
     all
@@ -155,9 +159,13 @@ pub fn list_tries(
     while i + 1 < tries.len() {
         let s = lists::wide_of(tries[i]);
         let h = lists::wide_of(tries[i + 1]);
-        at = list_try(all, rows, n, words, k, s, h, out, at);
-        let more = join_try(all, rows, n, words, k, s, h);
-        all = more;
+        if lists::around(s, k, h) {
+            at = list_try(all, rows, n, words, k, s, h, out, at);
+            let more = join_try(all, rows, n, words, k, s, h);
+            all = more;
+            i += 2;
+            continue;
+        }
         i += 2;
     }
     at

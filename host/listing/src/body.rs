@@ -1,6 +1,7 @@
 //! What the listing of a body shows, found by the archive's calls.
 
-use crate::{and, callee::Callees, count, exposed::{self, Exposed}, found::{self, Found}, notation::{Body, ins_text}, own::Own};
+use crate::{and, around::Around, callee::Callees, count, exposed::{self, Exposed, Exposures}, found::{self, Found}, notation::{Body, ins_text}, out::Out,
+    own::Own, put};
 use model::rows;
 use turniploom::{DUNDER, Ins, Op, Refusal, op};
 
@@ -16,7 +17,7 @@ pub struct View {
     pub start: usize,
     pub remarks: Vec<String>,
     /// What is exposed, with the ways by which it goes wrong.
-    pub exposed: Vec<Exposed>,
+    pub exposed: Exposures,
     /// Whether that was not asked for, since too much is inside tries.
     pub unasked: bool,
     /// The registers that no step of a replayed trace read; none if there is no trace.
@@ -46,7 +47,7 @@ pub struct Level {
     pub callee: Option<String>,
     /// Whether it is a call with no store where its result is due.
     pub unstored: bool,
-    /// What is kept for the resume point, and what each handler adds.
+    /// What is kept for the resume point, and what each handler adds that adds anything.
     pub kept: Vec<Part>,
     /// What is not kept, though a later exception may need it.
     pub exposed: Vec<u16>,
@@ -62,30 +63,32 @@ impl View {
     ///
     /// The refusal of the kept-register call.
     pub fn of(body: &Body) -> Result<View, Refusal> {
-        let found = Found::of(body)?;
+        let mut found = Found::of(body)?;
         let (code, n) = (&body.code, body.code.len());
         let tries = found::tries(body)?;
         let own: Vec<Own> = code.iter().map(Own::of).collect();
-        let (mut callees, mut exposed) = (Callees::of(code), found.exposed.iter().flatten().peekable());
+        let unasked = found.exposed.is_none();
+        let (exposes, mut exposed) = (found.exposes(), found.exposed.take().unwrap_or_default().into_iter().peekable());
+        let (mut callees, mut adding) = (Callees::of(code), Adding::of(&found, &tries));
         let mut lines: Vec<Line> = (0..n).map(|k| {
             let (used, given_up) = sets(code, k, &own[k], body.registers);
             let level = found.levels[k].map(|(resume, result)| Level {
-                resume, result, callee: callees.at(k), unstored: unstored(code, k, resume), kept: parts(&found, k, resume, result, &open(&tries, k)),
-                exposed: exposed.next_if(|e| e.0 == k).map_or(vec![], |e| e.1.clone()),
+                resume, result, callee: callees.at(k), unstored: unstored(code, k, resume), kept: parts(&found, k, resume, result, adding.at(k)),
+                exposed: exposed.next_if(|e| e.0 == k).map_or(vec![], |e| e.1),
             });
             let comment = body.comments.get(k).cloned().unwrap_or_default();
-            Line { text: ins_text(code, k), used, given_up, after: after(code, k, &own[k]), row: found.row(k).to_vec(), level, notes: vec![], comment }
+            Line { text: ins_text(code, k), used, given_up, after: after(code, k, &own[k]), row: found.row(k), level, notes: vec![], comment }
         }).collect();
-        lines.push(Line { text: "end".into(), row: found.row(n).to_vec(), ..Line::default() });
+        lines.push(Line { text: "end".into(), row: found.row(n), ..Line::default() });
         note(code, &own, &tries, &mut lines);
-        let exposed = exposed::of(&lines, code, &tries);
+        let exposed = exposed::of(&lines, code, &tries, body.registers);
         let columns = columns(&lines, body.registers);
         let width = if body.rows32 { ", rows of 32 bits" } else { "" };
         let heading = format!("{}, {}, {}{width}", count(n, "instruction"), count(body.registers, "register"), count(tries.len(), "try"));
         let start = found.start(body);
-        let mut remarks = remarks(body, &lines, &found, &own);
+        let mut remarks = remarks(body, &lines, &found, exposes, &own);
         if callees.unasked > 0 { remarks.push(format!("{} not asked for: the way back to what they call is too long.", count(callees.unasked, "callee"))) }
-        Ok(View { heading, columns, lines, tries, start, remarks, exposed, unasked: found.exposed.is_none(), unread: vec![] })
+        Ok(View { heading, columns, lines, tries, start, remarks, exposed, unasked, unread: vec![] })
     }
 
     /// Lays a recorded day beside the rows: how often each position was visited, and how often each register was read.
@@ -108,14 +111,32 @@ impl View {
     }
 
     /// What is said of a register that is exposed at a level.
-    pub fn exposed_at(&self, k: usize, r: u16) -> Option<&Exposed> {
-        self.exposed.iter().find(|e| e.register == r && e.levels.binary_search(&k).is_ok())
+    pub fn exposed_at(&self, k: usize, r: u16) -> Option<Exposed<'_>> {
+        self.exposed.iter().find(|e| e.register == r && e.levels.binary_search(&(k as u32)).is_ok())
+    }
+
+    /// How many warnings there are.
+    pub fn warned(&self) -> usize { self.exposed.len() + usize::from(self.unasked) }
+
+    /// Writes the warnings, a sentence each, between these.
+    pub fn put_warnings(&self, begin: &str, end: &str, out: &mut Out) {
+        let mut put = |says: &dyn Fn(&mut String)| {
+            out.push_str(begin);
+            out.push_str("WARNING: ");
+            says(out);
+            out.push('.');
+            out.push_str(end);
+            out.pass();
+        };
+        for e in self.exposed.iter() { put(&|out| e.put(out)) }
+        if self.unasked { put(&|out| out.push_str(UNASKED)) }
     }
 
     /// The warnings, a sentence each.
     pub fn warnings(&self) -> Vec<String> {
-        let unasked = self.unasked.then(|| UNASKED.into());
-        self.exposed.iter().map(Exposed::says).chain(unasked).map(|says| format!("WARNING: {says}.")).collect()
+        let mut out = Out::default();
+        self.put_warnings("", "\n", &mut out);
+        out.text().lines().map(String::from).collect()
     }
 }
 
@@ -146,24 +167,68 @@ fn sets(code: &[Ins], k: usize, own: &Own, registers: usize) -> (Vec<u16>, Vec<u
 /// Whether the level at `k` is one of the four calls, and no StoreTopR stands where it resumes.
 fn unstored(code: &[Ins], k: usize, resume: usize) -> bool { code[k].op.is_call() && code.get(resume).is_none_or(|i| i.op != op::StoreTopR) }
 
-/// The handlers of the tries around a position, in order.
-fn open(tries: &[(usize, usize)], k: usize) -> Vec<usize> { tries.iter().filter(|&&(s, h)| s < k && k < h).map(|t| t.1).collect() }
+/// Of the handlers around positions that are gone through in order, those whose rows have more than the rows of the ones before.
+struct Adding<'a> {
+    found: &'a Found,
+    around: Around<'a>,
+    /// What all handlers' rows have together.
+    all: Vec<u64>,
+    handlers: Vec<usize>,
+}
+
+impl<'a> Adding<'a> {
+    fn of(found: &'a Found, tries: &'a [(usize, usize)]) -> Adding<'a> {
+        let mut all = vec![0; found.bits(0).len()];
+        for &(_, h) in tries { join(&mut all, found.bits(h)); }
+        Adding { found, around: Around::of(tries), all, handlers: vec![] }
+    }
+
+    /// Those around a position.
+    fn at(&mut self, k: usize) -> &[usize] {
+        if self.around.go(k) {
+            self.handlers.clear();
+            let mut seen = vec![0; self.all.len()];
+            for h in self.around.handlers() {
+                if seen == self.all { break }
+                if join(&mut seen, self.found.bits(h)) { self.handlers.push(h) }
+            }
+        }
+        &self.handlers
+    }
+}
+
+/// Joins a row to a set: whether it has more.
+fn join(set: &mut [u64], row: &[u64]) -> bool {
+    let more = row.iter().zip(&*set).any(|(r, s)| r & !s != 0);
+    for (s, r) in set.iter_mut().zip(row) { *s |= r }
+    more
+}
 
 /// The kept list of the archive, taken apart by what each register is kept for.
 fn parts(found: &Found, k: usize, resume: usize, result: Option<u16>, handlers: &[usize]) -> Vec<Part> {
-    let mut left = found.kept[k].iter().copied().peekable();
-    let mut seen = vec![];
-    let mut take = |handler: Option<usize>, row: &mut dyn Iterator<Item = u16>| {
+    let mut left = found.kept(k);
+    let mut seen = vec![0u64; found.bits(resume).len()];
+    // What a row has besides is next in the list.
+    let mut take = |row: &[u64], without: Option<u16>| {
         let mut registers = vec![];
-        for r in row { if left.next_if_eq(&r).is_some() { registers.push(r) } }
-        Part { handler, registers }
+        for (base, (row, seen)) in (0..).step_by(64).zip(row.iter().zip(&mut seen)) {
+            let mut more = row & !*seen;
+            while more != 0 {
+                let r = base + more.trailing_zeros() as u16;
+                if without != Some(r) && left.first() == Some(&r) {
+                    left = &left[1..];
+                    registers.push(r);
+                }
+                more &= more - 1;
+            }
+        }
+        for &r in &registers { seen[usize::from(r) / 64] |= 1 << (r % 64) }
+        registers
     };
-    let mut parts = vec![take(None, &mut found.row(resume).iter().copied().filter(|&r| Some(r) != result))];
-    seen.extend(parts[0].registers.iter().copied());
+    let mut parts = vec![Part { handler: None, registers: take(found.bits(resume), result) }];
     for &h in handlers {
-        let part = take(Some(h), &mut found.row(h).iter().copied().filter(|r| !seen.contains(r)));
-        seen.extend(part.registers.iter().copied());
-        parts.push(part);
+        let registers = take(found.bits(h), None);
+        if !registers.is_empty() { parts.push(Part { handler: Some(h), registers }) }
     }
     parts
 }
@@ -181,8 +246,19 @@ fn after(code: &[Ins], k: usize, own: &Own) -> Vec<usize> {
 
 /// The first of many positions, and how many more there are.
 pub fn few(positions: &[usize]) -> String {
-    if positions.len() <= 9 { return and(positions) }
-    format!("{} and {} more", positions[..8].iter().map(usize::to_string).collect::<Vec<_>>().join(", "), positions.len() - 8)
+    let mut out = String::new();
+    put_few(&mut out, &positions.iter().map(|&k| k as u32).collect::<Vec<_>>());
+    out
+}
+
+/// Writes the same.
+pub fn put_few(out: &mut String, positions: &[u32]) {
+    let (shown, more) = if positions.len() <= 9 { (positions.len(), 0) } else { (8, positions.len() - 8) };
+    for (i, &k) in positions[..shown].iter().enumerate() {
+        if i > 0 { out.push_str(if more == 0 && i + 1 == shown { " and " } else { ", " }) }
+        put(out, k);
+    }
+    if more > 0 { out.push_str(&format!(" and {more} more")) }
 }
 
 /// Says what each line writes where that is not plain, where it jumps, and what lands on it.
@@ -216,7 +292,7 @@ fn columns(lines: &[Line], registers: usize) -> Vec<u16> {
     (0..registers as u16).filter(|&r| occurs[usize::from(r)]).collect()
 }
 
-fn remarks(body: &Body, lines: &[Line], found: &Found, own: &[Own]) -> Vec<String> {
+fn remarks(body: &Body, lines: &[Line], found: &Found, exposes: bool, own: &[Own]) -> Vec<String> {
     let (n, first, start) = (body.code.len(), found.first(), found.start(body));
     let from = match start {
         0 => String::new(),
@@ -224,27 +300,28 @@ fn remarks(body: &Body, lines: &[Line], found: &Found, own: &[Own]) -> Vec<Strin
         _ => format!(" Rows are looked for from {start} on, the first level; before it they are left blank."),
     };
     let mut remarks = vec![format!("{} of at most {}, {} abandoned.{from}", count(found.full as usize, "full sweep"), found.most, found.abandoned)];
-    if found.exposes() { remarks.insert(0, "A host whose calls may raise asks `kept_raising` in place of `kept`: it keeps what is exposed too.".into()) }
-    let untrue = untrue(lines, start);
+    if exposes { remarks.insert(0, "A host whose calls may raise asks `kept_raising` in place of `kept`: it keeps what is exposed too.".into()) }
+    let untrue = untrue(lines, found, start);
     if !untrue.is_empty() { remarks.push(format!("ROWS THAT BREAK THEIR EQUATION: {}", few(&untrue))) }
     let outside = outside(body, own);
     if !outside.is_empty() { remarks.push(format!("Not below the register count, so never kept: {}.", registers(&outside))) }
     remarks.extend(dunders(&body.code, found));
     remarks.extend(section(&body.code));
-    let exposed = if found.exposes() { "what is exposed, " } else { "" };
+    let exposed = if exposes { "what is exposed, " } else { "" };
     remarks.push(format!("By the archive: rows, lists, {exposed}levels, callees, jumps, uses and gives up."));
     remarks.push("By the listing's own reckoning: what is pending under a call, and so touches no register; paths.".into());
     remarks
 }
 
 /// The rows of the archive that are not what the sets on their lines make of the rows after.
-fn untrue(lines: &[Line], start: usize) -> Vec<usize> {
+fn untrue(lines: &[Line], found: &Found, start: usize) -> Vec<usize> {
+    let mut row = vec![0; found.bits(0).len()];
     (start..lines.len() - 1).filter(|&k| {
-        let live = lines[k].after.iter().flat_map(|&k| &lines[k].row).filter(|r| !lines[k].given_up.contains(r));
-        let mut row: Vec<u16> = live.chain(&lines[k].used).copied().collect();
-        row.sort();
-        row.dedup();
-        row != lines[k].row
+        row.fill(0);
+        for &j in &lines[k].after { join(&mut row, found.bits(j)); }
+        for &r in &lines[k].given_up { row[usize::from(r) / 64] &= !(1 << (r % 64)) }
+        for &r in &lines[k].used { row[usize::from(r) / 64] |= 1 << (r % 64) }
+        row != found.bits(k)
     }).collect()
 }
 
@@ -272,12 +349,12 @@ fn may_run_a_dunder(o: Op) -> bool {
 /// With no mark `dunder` at all: which instructions would be levels if the host's test named their opcodes.
 fn dunders(code: &[Ins], found: &Found) -> Option<String> {
     if code.iter().any(|i| i.marks & DUNDER != 0) { return None }
-    let may: Vec<String> = (0..code.len()).filter(|&k| found.levels[k].is_none() && may_run_a_dunder(code[k].op)).map(|k| format!("{k} {}",
-        code[k].op)).collect();
+    let may: Vec<usize> = (0..code.len()).filter(|&k| found.levels[k].is_none() && may_run_a_dunder(code[k].op)).collect();
+    let told: Vec<String> = may.iter().take(6).map(|&k| format!("{k} {}", code[k].op)).collect();
     let shown = match may.len() {
         0 => return None,
-        1..=6 => and(&may),
-        many => format!("{} and {} more", may[..5].join(", "), many - 5),
+        1..=6 => and(&told),
+        many => format!("{} and {} more", told[..5].join(", "), many - 5),
     };
     Some(format!("No mark `dunder` is given, which the host alone knows: if its dunder_op says so, these are levels too and keep registers: {shown}."))
 }
@@ -294,20 +371,32 @@ fn section(code: &[Ins]) -> Option<String> {
 
 impl Level {
     /// What the call does, where it comes back and where its result goes.
-    pub fn says(&self) -> String {
-        let result = self.result.map_or("no result register".into(), |r| format!("result in r{r}"));
-        let callee = self.callee.as_ref().map_or(String::new(), |c| format!("{c}, "));
-        let store = if self.unstored { format!("; its store is missing, a StoreTopR at {}", self.resume) } else { String::new() };
-        format!("{callee}resumes at {}, {result}{store}", self.resume)
+    pub fn says(&self) -> String { let mut says = String::new(); self.put_says(&mut says); says }
+
+    /// Writes the same.
+    pub fn put_says(&self, out: &mut String) {
+        if let Some(callee) = &self.callee { out.push_str(callee); out.push_str(", ") }
+        out.push_str("resumes at ");
+        put(out, self.resume as u32);
+        match self.result {
+            None => out.push_str(", no result register"),
+            Some(r) => { out.push_str(", result in r"); put(out, r.into()) }
+        }
+        if self.unstored { out.push_str("; its store is missing, a StoreTopR at "); put(out, self.resume as u32) }
     }
 
     /// What is kept, in words.
-    pub fn keeps(&self) -> String {
-        let told: Vec<String> = self.kept.iter().filter(|p| !p.registers.is_empty()).map(|p| {
-            let regs = registers(&p.registers);
-            p.handler.map_or(regs.clone(), |h| format!("{regs} for the handler at {h}"))
-        }).collect();
-        if told.is_empty() { "nothing".into() } else { told.join("; ") }
+    pub fn keeps(&self) -> String { let mut keeps = String::new(); self.put_keeps(&mut keeps); keeps }
+
+    /// Writes the same.
+    fn put_keeps(&self, out: &mut String) {
+        let from = out.len();
+        for part in self.kept.iter().filter(|p| !p.registers.is_empty()) {
+            if out.len() > from { out.push_str("; ") }
+            put_registers(out, &part.registers);
+            if let Some(h) = part.handler { out.push_str(" for the handler at "); put(out, h as u32) }
+        }
+        if out.len() == from { out.push_str("nothing") }
     }
 
     /// What is exposed, in words; nothing if nothing is.
@@ -316,26 +405,30 @@ impl Level {
         (!self.exposed.is_empty()).then(|| format!("{} {are} exposed", registers(&self.exposed)))
     }
 
-    /// What is kept and what is exposed, in words.
-    pub fn lists(&self) -> String { [Some(self.keeps()), self.exposes()].into_iter().flatten().collect::<Vec<_>>().join("; ") }
+    /// Writes what is kept and what is exposed.
+    pub fn put_lists(&self, out: &mut String) {
+        self.put_keeps(out);
+        if self.exposed.is_empty() { return }
+        out.push_str("; ");
+        put_registers(out, &self.exposed);
+        out.push_str(if self.exposed.len() == 1 { " is exposed" } else { " are exposed" });
+    }
 
     /// All that is kept, in the list's order.
     pub fn registers(&self) -> Vec<u16> { self.kept.iter().flat_map(|p| p.registers.iter().copied()).collect() }
 }
 
 /// Registers in a row: `r0 r3-r7`.
-pub fn registers(set: &[u16]) -> String {
-    let mut runs: Vec<(u16, u16)> = vec![];
-    for &r in set {
-        match runs.last_mut() {
-            Some(run) if r > 0 && run.1 == r - 1 => run.1 = r,
-            _ => runs.push((r, r)),
-        }
+pub fn registers(set: &[u16]) -> String { let mut out = String::new(); put_registers(&mut out, set); out }
+
+/// Writes them.
+pub fn put_registers(out: &mut String, mut set: &[u16]) {
+    while let Some(&first) = set.first() {
+        let run = set.iter().zip(first..).take_while(|(r, due)| *r == due).count();
+        let one = |out: &mut String, sign: &str, r: u16| { out.push_str(sign); put(out, r.into()) };
+        one(out, "r", first);
+        if run > 1 { one(out, if run == 2 { " r" } else { "-r" }, set[run - 1]) }
+        set = &set[run..];
+        if !set.is_empty() { out.push(' ') }
     }
-    let told = runs.iter().flat_map(|&(a, b)| match b - a {
-        0 => vec![format!("r{a}")],
-        1 => vec![format!("r{a}"), format!("r{b}")],
-        _ => vec![format!("r{a}-r{b}")],
-    });
-    told.collect::<Vec<_>>().join(" ")
 }

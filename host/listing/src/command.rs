@@ -1,7 +1,8 @@
 //! What the command does with its options: files and folders are read, listed and written; and how it ends.
 
-use crate::{body, chunk, diff, figures, json, notation::{self, Body, Chunk, Text}, options::{Form, Options, USE}, page, paint, refused, run as runs, text, whose, why};
-use std::{env, fs, io::{self, IsTerminal, Write}, path::Path, process::ExitCode};
+use crate::{body, chunk, diff, figures, json, notation::{self, Body, Chunk, Text}, options::{Form, Options, USE}, out::Out,
+    page, paint, refused, run as runs, text, whose, why};
+use std::{env, fs, io::{self, IsTerminal, Write}, path::Path, process::ExitCode, thread};
 
 /// Why something was not listed.
 #[derive(Clone, Debug, PartialEq, Eq)]
@@ -68,8 +69,8 @@ pub fn finished(done: Done<Vec<Trouble>>) -> ExitCode {
 /// What kept it from being done at all.
 pub fn run(options: &Options) -> Done<Vec<Trouble>> {
     match options.form {
-        Form::Help => said(&format!("{USE}\n"), options).map(|()| vec![]),
-        Form::Version => said(&format!("{}\n", whose::lines()), options).map(|()| vec![]),
+        Form::Help => said(|out| out.push_str(&format!("{USE}\n")), options).map(|()| vec![]),
+        Form::Version => said(|out| out.push_str(&format!("{}\n", whose::lines())), options).map(|()| vec![]),
         Form::Figures => in_figures(options),
         Form::Diff => differing(options),
         Form::Listing | Form::Kept | Form::Json => listings(options),
@@ -77,12 +78,17 @@ pub fn run(options: &Options) -> Done<Vec<Trouble>> {
 }
 
 /// Writes to the standard output, in colour where that is wanted.
-fn said(text: &str, options: &Options) -> Done<()> {
+fn said(put: impl FnOnce(&mut Out), options: &Options) -> Done<()> {
     let no_color = env::var("NO_COLOR").ok();
     let colour = options.form != Form::Json && options.colour.wanted(no_color.as_deref(), io::stdout().is_terminal());
-    let painted = if colour { paint::painted(text) } else { text.to_string() };
-    let mut out = io::stdout().lock();
-    out.write_all(painted.as_bytes()).and_then(|()| out.flush()).map_err(|e| match e.kind() {
+    let (mut stdout, mut done) = (io::stdout().lock(), Ok(()));
+    let mut write = |text: &str| if done.is_ok() {
+        done = if colour { stdout.write_all(paint::painted(text).as_bytes()) } else { stdout.write_all(text.as_bytes()) };
+    };
+    let mut out = Out::to(&mut write);
+    put(&mut out);
+    out.flush();
+    done.and_then(|()| stdout.flush()).map_err(|e| match e.kind() {
         io::ErrorKind::BrokenPipe => Trouble::Closed,
         _ => Trouble::Unwritten(format!("listing: the standard output can't be written: {}", told(&e))),
     })
@@ -95,15 +101,17 @@ fn told(error: &io::Error) -> String {
 }
 
 /// Writes the text and the page, the page in place of the text if it is for the standard output.
-fn written(text: &str, page: impl FnOnce() -> String, options: &Options) -> Done<()> {
-    match options.html.as_deref() {
-        Some("-") => said(&page(), &Options::default()),
-        Some(to) => {
-            said(text, options)?;
-            fs::write(to, page()).map_err(|e| Trouble::Unwritten(format!("listing: {to} can't be written: {}", told(&e))))
-        }
-        None => said(text, options),
-    }
+fn written(text: impl FnOnce(&mut Out), page: impl FnOnce(&mut Out), options: &Options) -> Done<()> {
+    let Some(to) = options.html.as_deref() else { return said(text, options) };
+    if to == "-" { return said(page, &Options::default()) }
+    said(text, options)?;
+    let unwritten = |e| Trouble::Unwritten(format!("listing: {to} can't be written: {}", told(&e)));
+    let (mut file, mut done) = (fs::File::create(to).map_err(unwritten)?, Ok(()));
+    let mut write = |text: &str| if done.is_ok() { done = file.write_all(text.as_bytes()) };
+    let mut out = Out::to(&mut write);
+    page(&mut out);
+    out.flush();
+    done.map_err(unwritten)
 }
 
 /// The files that are named, a folder's in order of their names.
@@ -171,24 +179,24 @@ impl Of {
     /// How many warnings it has.
     pub fn warnings(&self) -> usize {
         match self {
-            Of::Body(of) => of.1.warnings().len(),
+            Of::Body(of) => of.1.warned(),
             Of::Chunk(_) => 0,
         }
     }
 
-    fn text(&self, form: Form) -> String {
+    fn put(&self, form: Form, out: &mut Out) {
         match self {
-            Of::Body(of) if form == Form::Kept => text::levels(&of.1),
-            Of::Body(of) => text::body(&of.1),
-            Of::Chunk(_) if form == Form::Kept => "A chunk has no levels.\n".into(),
-            Of::Chunk(of) => text::chunk(&of.1),
+            Of::Body(of) if form == Form::Kept => text::put_levels(&of.1, out),
+            Of::Body(of) => text::put_body(&of.1, out),
+            Of::Chunk(_) if form == Form::Kept => out.push_str("A chunk has no levels.\n"),
+            Of::Chunk(of) => out.push_str(&text::chunk(&of.1)),
         }
     }
 
-    pub fn table(&self) -> String {
+    pub fn put_table(&self, out: &mut Out) {
         match self {
-            Of::Body(of) => page::body(&of.1),
-            Of::Chunk(of) => page::chunk(&of.1),
+            Of::Body(of) => page::put_body(&of.1, out),
+            Of::Chunk(of) => out.push_str(&page::chunk(&of.1)),
         }
     }
 }
@@ -196,17 +204,22 @@ impl Of {
 /// Lists every file, and tells which could not be.
 fn listings(options: &Options) -> Done<Vec<Trouble>> {
     let listed: Vec<Listed> = files(options)?.into_iter().map(|file| Listed { of: of(&file, options), file }).collect();
-    let text = match options.form {
-        Form::Json => json::files(&listed),
-        form => {
-            let good = listed.iter().filter_map(|l| Some((&l.file, l.of.as_ref().ok()?)));
-            let texts: Vec<String> = good.map(|(file, of)| format!("{file}: {}\n\n{}", of.heading(), of.text(form))).collect();
-            if texts.is_empty() { String::new() } else { format!("{}{}\n", texts.join("\n"), whose::line()) }
-        }
-    };
     // What could be listed is written first, and then what could not.
-    written(&text, || page::files(&listed), options)?;
-    Ok(listed.into_iter().filter_map(|l| l.of.err()).collect())
+    let text = |out: &mut Out| if options.form == Form::Json { json::put_files(&listed, out) } else { texts(&listed, options.form, out) };
+    written(text, |out| page::put_files(&listed, out), options)?;
+    // The command ends now: what is known of large bodies is left to the system, which takes it back faster than piece by piece.
+    Ok(listed.into_iter().filter_map(|l| l.of.map(std::mem::forget).err()).collect())
+}
+
+/// Writes each file that was listed, and whose proof it is.
+fn texts(listed: &[Listed], form: Form, out: &mut Out) {
+    let mut any = false;
+    for (file, of) in listed.iter().filter_map(|l| Some((&l.file, l.of.as_ref().ok()?))) {
+        out.push_str(&format!("{}{file}: {}\n\n", if any { "\n" } else { "" }, of.heading()));
+        of.put(form, out);
+        any = true;
+    }
+    if any { out.push_str(&format!("{}\n", whose::line())) }
 }
 
 /// The text of why a file was not listed.
@@ -223,19 +236,25 @@ fn in_figures(options: &Options) -> Done<Vec<Trouble>> {
         view.add(&file, &b).map_err(|r| Trouble::Refused(format!("{file}: {}", refused::body(r, &b))))?;
     }
     let text = format!("{}\n\n{}{}\n", view.heading(), figures::text(&view), whose::line());
-    written(&text, || page::whole("Figures", &view.heading(), &figures::page(&view)), options)?;
+    written(|out| out.push_str(&text), |out| out.push_str(&page::whole("Figures", &view.heading(), &figures::page(&view))), options)?;
     Ok(vec![])
 }
 
 /// What differs between two files.
 fn differing(options: &Options) -> Done<Vec<Trouble>> {
     let [old, new] = &options.files[..] else { return Err(Trouble::Use("--diff wants two files".into())) };
-    let text = match (of(old, options)?, of(new, options)?) {
+    // Two large bodies take twice the time of one: each has a core.
+    let (of_old, of_new) = thread::scope(|scope| {
+        let of_new = scope.spawn(|| of(new, options));
+        (of(old, options), of_new.join().expect("no panic"))
+    });
+    let text = match (of_old?, of_new?) {
         (Of::Body(a), Of::Body(b)) => diff::bodies(&a.1, &b.1),
         (Of::Chunk(a), Of::Chunk(b)) => diff::chunks(&a.1, &b.1),
         _ => return Err(Trouble::Text(format!("{old} and {new}: one is a body, and the other a chunk"))),
     };
     let text = format!("{old} and {new}\n\n{text}{}\n", whose::line());
-    written(&text, || page::whole("Differences", &format!("{old} and {new}"), &format!("<pre>{}</pre>\n", page::escaped(&text))), options)?;
+    let page = || page::whole("Differences", &format!("{old} and {new}"), &format!("<pre>{}</pre>\n", page::escaped(&text)));
+    written(|out| out.push_str(&text), |out| out.push_str(&page()), options)?;
     Ok(vec![])
 }

@@ -100,9 +100,9 @@ pub fn bodies(old: &View, new: &View) -> String {
 
 /// The warnings of what is exposed and was not.
 fn now(new: &View, were: &BTreeSet<(usize, u16)>) -> String {
-    let came = |e: &Exposed| {
-        let levels: Vec<usize> = e.levels.iter().copied().filter(|&k| !were.contains(&(k, e.register))).collect();
-        (!levels.is_empty()).then(|| format!("WARNING: {}.\n", Exposed { levels, ..e.clone() }.says()))
+    let came = |e: Exposed| {
+        let levels: Vec<u32> = e.levels.iter().copied().filter(|&k| !were.contains(&(k as usize, e.register))).collect();
+        (!levels.is_empty()).then(|| format!("WARNING: {}.\n", e.at(&levels).says()))
     };
     let unasked = if new.unasked { format!("WARNING: {UNASKED}.\n") } else { String::new() };
     new.exposed.iter().filter_map(came).collect::<String>() + &unasked

@@ -8,9 +8,12 @@ pub type AtLevels = Vec<(usize, Vec<u16>)>;
 
 /// Rows and lists, the levels and the sweeps.
 pub struct Found {
-    /// The rows, the end's too, and what is kept at each position.
-    pub rows: Vec<Vec<u16>>,
-    pub kept: Vec<Vec<u16>>,
+    /// The rows, the end's too, a bit for each register in so many words of 64.
+    bits: Vec<u64>,
+    words: usize,
+    /// What is kept at each position, one list after another, and where each begins.
+    list: Vec<u16>,
+    offsets: Vec<u32>,
     /// The levels with a register that is exposed, and those registers; none if it was not asked for.
     pub exposed: Option<AtLevels>,
     /// Where each level resumes, and its result register.
@@ -35,13 +38,23 @@ impl Found {
 
     fn read<W: Copy + Into<u64>>(body: &Body, tries: &[(usize, usize)], kept: Kept<W>, most: u64) -> Result<Found, Refusal> {
         let n = kept.offsets.len() - 1;
-        let levels = (0..n).map(|k| kept.level(k).map(|l| (l.resume(), l.result()))).collect();
-        let (rows, lists) = ((0..=n).map(|k| set(kept.row(k))).collect(), (0..n).map(|k| kept.at(k).to_vec()).collect());
-        Ok(Found { rows, kept: lists, exposed: exposed(body, tries, &kept)?, levels, full: kept.full, abandoned: kept.abandoned, most })
+        let mut levels = vec![None; n];
+        for l in kept.levels() { levels[l.at()] = Some((l.resume(), l.result())) }
+        let part = 64 / (8 * size_of::<W>());
+        let (words, joined) = (kept.words.div_ceil(part), |word: &[W]| word.iter().rev().fold(0u64, |all, &w| all.unbounded_shl(64 / part as u32) | w.into()));
+        let bits = kept.rows.chunks(kept.words).flat_map(|row| row.chunks(part)).map(joined).collect();
+        let exposed = exposed(body, tries, &kept)?;
+        Ok(Found { bits, words, list: kept.list, offsets: kept.offsets, exposed, levels, full: kept.full, abandoned: kept.abandoned, most })
     }
 
-    /// The row of a position, and of any past the end.
-    pub fn row(&self, k: usize) -> &[u16] { &self.rows[k.min(self.kept.len())] }
+    /// The row of a position, and of any past the end, in words.
+    pub fn bits(&self, k: usize) -> &[u64] { &self.bits[k.min(self.levels.len()) * self.words..][..self.words] }
+
+    /// The same as registers.
+    pub fn row(&self, k: usize) -> Vec<u16> { set(self.bits(k)) }
+
+    /// What is kept at a position.
+    pub fn kept(&self, k: usize) -> &[u16] { &self.list[self.offsets[k] as usize..self.offsets[k + 1] as usize] }
 
     /// From where on rows were looked for: the first level, or 0 by the wide route and after an abandoned sweep.
     pub fn start(&self, body: &Body) -> usize {
@@ -67,13 +80,12 @@ fn exposed<W: Copy + Into<u64>>(body: &Body, tries: &[(usize, usize)], kept: &Ke
 }
 
 /// The registers whose bits are set in a row's words.
-fn set<W: Copy + Into<u64>>(row: &[W]) -> Vec<u16> {
-    let bits = 8 * size_of::<W>() as u16;
-    let mut set = vec![];
+pub fn set(row: &[u64]) -> Vec<u16> {
+    let mut set = Vec::with_capacity(row.iter().map(|w| w.count_ones() as usize).sum());
     for (place, &word) in (0..).zip(row) {
-        let mut left: u64 = word.into();
+        let mut left = word;
         while left != 0 {
-            set.push(place * bits + left.trailing_zeros() as u16);
+            set.push(place * 64 + left.trailing_zeros() as u16);
             left &= left - 1;
         }
     }

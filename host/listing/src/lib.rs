@@ -1,5 +1,6 @@
 //! A listing of a body or a chunk for the people who write rules, and the notation it reads.
 
+pub mod around;
 pub mod body;
 pub mod callee;
 pub mod chunk;
@@ -12,6 +13,7 @@ pub mod json;
 pub mod lanes;
 pub mod notation;
 pub mod options;
+pub mod out;
 pub mod own;
 pub mod page;
 pub mod paint;
@@ -19,6 +21,7 @@ pub mod refused;
 pub mod run;
 pub mod text;
 pub mod unfolded;
+pub mod ways;
 pub mod whose;
 pub mod why;
 
@@ -43,4 +46,16 @@ pub fn count(n: usize, word: &str) -> String {
         1 => format!("1 {word}"),
         _ => format!("{n} {}", word.strip_suffix('y').map_or(format!("{word}s"), |w| format!("{w}ies"))),
     }
+}
+
+/// Writes a number, with no allocation: large listings have millions.
+pub fn put(out: &mut String, mut n: u32) {
+    let (mut digits, mut from) = ([0; 10], 10);
+    loop {
+        from -= 1;
+        digits[from] = b'0' + (n % 10) as u8;
+        n /= 10;
+        if n == 0 { break }
+    }
+    out.push_str(std::str::from_utf8(&digits[from..]).expect("digits"));
 }

@@ -1,35 +1,55 @@
 //! The listing as one self-contained page: for a wide screen and a phone, light and dark, on paper and read aloud.
 
-use crate::{body::{self, Level, registers}, chunk, command::Listed, count, lanes, notation::was, text, whose, why};
+use crate::{body::{self, Level, registers}, chunk, command::Listed, count, lanes, notation::was, out::Out, text, whose, why};
 use std::fmt::Write;
 
-pub fn escaped(text: &str) -> String { text.replace('&', "&amp;").replace('<', "&lt;").replace('>', "&gt;").replace('"', "&quot;") }
+pub fn escaped(text: &str) -> String {
+    let mut out = String::with_capacity(text.len());
+    let mut plain = 0;
+    for (k, c) in text.bytes().enumerate().filter(|(_, c)| matches!(c, b'&' | b'<' | b'>' | b'"')) {
+        out.push_str(&text[plain..k]);
+        plain = k + 1;
+        out.push_str(match c { b'&' => "&amp;", b'<' => "&lt;", b'>' => "&gt;", _ => "&quot;" });
+    }
+    out.push_str(&text[plain..]);
+    out
+}
 
 pub const STYLE: &str = include_str!("page.css");
 
 /// The whole page around what it shows.
 pub fn whole(title: &str, heading: &str, content: &str) -> String {
-    format!(
-        "<!doctype html>\n<html lang=\"en\">\n<head>\n<meta charset=\"utf-8\">\n<meta name=\"viewport\" content=\"width=device-width, initial-scale=1\">\n\
+    let mut out = Out::default();
+    put_whole(title, heading, &mut out, |out| out.push_str(content));
+    out.text()
+}
+
+/// Writes it.
+pub fn put_whole(title: &str, heading: &str, out: &mut Out, content: impl FnOnce(&mut Out)) {
+    write!(
+        out, "<!doctype html>\n<html lang=\"en\">\n<head>\n<meta charset=\"utf-8\">\n<meta name=\"viewport\" content=\"width=device-width, initial-scale=1\">\n\
         <meta name=\"color-scheme\" content=\"light dark\">\n<title>{0}</title>\n<style>\n{STYLE}</style>\n</head>\n<body>\n<main>\n<h1>{0}</h1>\n\
-        <p class=\"heading\">{1}</p>\n{content}</main>\n<footer>{2}</footer>\n</body>\n</html>\n",
-        escaped(title), escaped(heading), escaped(&whose::line()),
-    )
+        <p class=\"heading\">{1}</p>\n", escaped(title), escaped(heading),
+    ).unwrap();
+    content(out);
+    write!(out, "</main>\n<footer>{}</footer>\n</body>\n</html>\n", escaped(&whose::line())).unwrap();
 }
 
 fn name(file: &str) -> &str { file.rsplit('/').next().unwrap_or(file) }
 
-/// One page of all files: what they are, and each of them.
-pub fn files(listed: &[Listed]) -> String {
-    if let [one] = listed { return whole(name(&one.file), &heading(one), &shown(one)) }
-    let mut content = String::from("<nav aria-label=\"files\">\n<ol>\n");
-    for (k, l) in listed.iter().enumerate() { writeln!(content, "<li><a href=\"#f{k}\">{}</a>: {}</li>", escaped(&l.file), escaped(&heading(l))).unwrap() }
-    content += "</ol>\n</nav>\n";
-    for (k, l) in listed.iter().enumerate() {
-        write!(content, "<section id=\"f{k}\">\n<h2>{}</h2>\n<p class=\"heading\">{}</p>\n{}</section>\n", escaped(&l.file), escaped(&heading(l)),
-            shown(l)).unwrap();
-    }
-    whole(&count(listed.len(), "file"), "Bodies and chunks, each below with all that is known of it.", &content)
+/// Writes one page of all files: what they are, and each of them.
+pub fn put_files(listed: &[Listed], out: &mut Out) {
+    if let [one] = listed { return put_whole(name(&one.file), &heading(one), out, |out| shown(one, out)) }
+    put_whole(&count(listed.len(), "file"), "Bodies and chunks, each below with all that is known of it.", out, |out| {
+        out.push_str("<nav aria-label=\"files\">\n<ol>\n");
+        for (k, l) in listed.iter().enumerate() { writeln!(out, "<li><a href=\"#f{k}\">{}</a>: {}</li>", escaped(&l.file), escaped(&heading(l))).unwrap() }
+        out.push_str("</ol>\n</nav>\n");
+        for (k, l) in listed.iter().enumerate() {
+            write!(out, "<section id=\"f{k}\">\n<h2>{}</h2>\n<p class=\"heading\">{}</p>\n", escaped(&l.file), escaped(&heading(l))).unwrap();
+            shown(l, out);
+            out.push_str("</section>\n");
+        }
+    });
 }
 
 /// What a file is, and how many warnings it has.
@@ -41,14 +61,14 @@ fn heading(listed: &Listed) -> String {
     }
 }
 
-fn shown(listed: &Listed) -> String {
+fn shown(listed: &Listed, out: &mut Out) {
     match &listed.of {
-        Ok(of) => of.table(),
-        Err(_) => format!("<p class=\"warning\">{}</p>\n", escaped(listed.trouble().unwrap_or_default())),
+        Ok(of) => of.put_table(out),
+        Err(_) => writeln!(out, "<p class=\"warning\">{}</p>", escaped(listed.trouble().unwrap_or_default())).unwrap(),
     }
 }
 
-fn paragraphs(class: &str, of: &[String]) -> String { of.iter().map(|r| format!("<p{class}>{}</p>\n", escaped(r))).collect() }
+fn paragraphs(of: &[String]) -> String { of.iter().map(|r| format!("<p>{}</p>\n", escaped(r))).collect() }
 
 /// The most registers that are drawn; more are told in words. With many registers or lines a row is one line of marks, else a cell for each.
 const WIDEST: usize = 256;
@@ -63,11 +83,15 @@ enum Chart {
     Words,
 }
 
-pub fn body(view: &body::View) -> String {
+/// The table of a body, with what is said below it.
+pub fn body(view: &body::View) -> String { let mut out = Out::default(); put_body(view, &mut out); out.text() }
+
+/// Writes it.
+pub fn put_body(view: &body::View, out: &mut Out) {
     let columns = view.columns.len();
     let chart = if columns > WIDEST { Chart::Words } else if columns <= COLUMNS && columns * view.lines.len() <= CELLS { Chart::Cells } else { Chart::Marks };
     let lanes = lanes::of(view.lines.len() - 1, &view.tries);
-    let mut out = String::from("<div class=\"chart\" role=\"region\" aria-label=\"the chart\" tabindex=\"0\">\n<table class=\"body\">\n");
+    out.push_str("<div class=\"chart\" role=\"region\" aria-label=\"the chart\" tabindex=\"0\">\n<table class=\"body\">\n");
     write!(out, "<caption><span>Instructions with their levels, what each uses and gives up, and the registers needed before \
         it.</span></caption>\n<thead>\n{}</thead>\n<tbody>\n", head(view, chart, lanes.many())).unwrap();
     for (k, l) in view.lines.iter().enumerate() {
@@ -76,15 +100,18 @@ pub fn body(view: &body::View) -> String {
         write!(out, "<td class=\"note\">{}</td><td class=\"set\">{}</td><td class=\"set\">{}</td>", note(view, k, chart), registers(&l.used),
             registers(&l.given_up)).unwrap();
         match chart {
-            Chart::Cells => for &r in &view.columns { out += &cell(view, k, r) },
+            Chart::Cells => for &r in &view.columns { out.push_str(&cell(view, k, r)) },
             Chart::Marks => write!(out, "<td class=\"marks\" aria-hidden=\"true\">{}</td>", marks(view, k)).unwrap(),
             Chart::Words => write!(out, "<td class=\"set\">{}</td>", if k < view.start { "not looked for".into() } else { registers(&l.row) }).unwrap(),
         }
-        out += "</tr>\n";
+        out.push_str("</tr>\n");
+        out.pass();
     }
-    out += "</tbody>\n</table>\n</div>\n";
-    if chart != Chart::Words && columns > 0 { out += &legend(view, chart) }
-    out + &paragraphs(" class=\"warning\"", &view.warnings()) + &paragraphs("", &view.remarks)
+    out.push_str("</tbody>\n</table>\n</div>\n");
+    if chart != Chart::Words && columns > 0 { out.push_str(&legend(view, chart)) }
+    // A warning has no letter that a page escapes.
+    view.put_warnings("<p class=\"warning\">", "</p>\n", out);
+    out.push_str(&paragraphs(&view.remarks));
 }
 
 /// The head cells, those of the registers too.
@@ -199,5 +226,5 @@ pub fn chunk(view: &chunk::View) -> String {
         writeln!(out, "<td class=\"note\">{}{comment}</td></tr>", escaped(&l.notes.join("; "))).unwrap();
     }
     let ships = format!("<h2>As it ships, folded and cleared</h2>\n<pre>{}</pre>\n", escaped(&view.ships.to_string()));
-    out + "</tbody>\n</table>\n</div>\n" + &paragraphs("", &view.remarks) + &ships
+    out + "</tbody>\n</table>\n</div>\n" + &paragraphs(&view.remarks) + &ships
 }

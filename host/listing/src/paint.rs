@@ -48,10 +48,12 @@ fn of(mark: char) -> Option<&'static str> {
 
 /// The text with its marks and warnings in colour.
 pub fn painted(text: &str) -> String {
-    let mut out = String::new();
+    let mut out = String::with_capacity(2 * text.len());
     for line in text.split_inclusive('\n') {
         if line.starts_with("WARNING") || line.contains("BREAK THEIR EQUATION") {
-            out += &format!("\x1b[31;1m{}\x1b[0m\n", line.trim_end_matches('\n'));
+            out += "\x1b[31;1m";
+            out += line.trim_end_matches('\n');
+            out += "\x1b[0m\n";
             continue;
         }
         let mut now = None;
@@ -59,7 +61,7 @@ pub fn painted(text: &str) -> String {
             let next = of(c);
             if next != now {
                 if now.is_some() { out += "\x1b[0m" }
-                if let Some(code) = next { out += &format!("\x1b[{code}m") }
+                if let Some(code) = next { out += "\x1b["; out += code; out.push('m') }
                 now = next;
             }
             out.push(c);

@@ -96,7 +96,7 @@ fn nothing_exposed_nothing_said() {
     assert_eq!((found.exposed.as_deref(), found.exposes()), (Some(&[][..]), false));
 }
 
-fn warnings(source: &str) -> Vec<String> { view(source).exposed.iter().map(Exposed::says).collect() }
+fn warnings(source: &str) -> Vec<String> { view(source).exposed.iter().map(|e| e.says()).collect() }
 
 /// `Raise` is no level, and goes to the handler all the same.
 #[test]
@@ -145,11 +145,11 @@ fn many_levels_and_registers() {
     for _ in 0..14 { text += "; CallR a0 x0; StoreTopR a1" }
     text += "; SetupExcept a34; CallR a0 x0; StoreTopR a1; ReturnR b1; PushRegs a5 b6 x2; ReturnR b1";
     let view = view(&text);
-    let told: Vec<String> = view.exposed.iter().map(Exposed::says).collect();
+    let told: Vec<String> = view.exposed.iter().map(|e| e.says()).collect();
     let due = |r: u16| format!("levels 2, 4, 6, 8, 10, 12, 14, 16 and 6 more do not keep r{r}: their callees may overwrite it; if 31 raises, the handler at \
         34 reads it at 34");
     assert_eq!(told, [due(5), due(6)]);
-    assert_eq!(view.exposed[0].levels, (1..15).map(|k| 2 * k).collect::<Vec<_>>());
+    assert_eq!(view.exposed.iter().next().unwrap().levels, (1..15).map(|k| 2 * k).collect::<Vec<u32>>());
     let shown = text::body(&view);
     assert_eq!((shown.matches("▽▽").count(), shown.matches("  r0; r5 r6 are exposed\n").count()), (14, 14), "{shown}");
     let page = page::body(&view);
@@ -188,7 +188,7 @@ fn past_a_marked_instruction() {
     let both = "registers 4; try 3 6; CallR a0 x0; StoreTopR a1; ReturnR a3 b1 dunder; SetupExcept a6; CallR a0 x0; ReturnR b1; ReturnR b2";
     assert_eq!(warnings(both)[1], "level 0 does not keep r2: its callee may overwrite it; by its mark `dunder` 2 goes on at 3; if 4 raises, the \
         handler at 6 reads it at 6");
-    assert_eq!(view(marked).exposed[0].leaves, [Leave { at: 2, to: 3, raises: false }]);
+    assert_eq!(view(marked).exposed.iter().next().unwrap().leaves().collect::<Vec<_>>(), [Leave { at: 2, to: 3, raises: false }]);
 }
 
 /// What came to be exposed and what is no longer, with the warnings of what came.
@@ -315,16 +315,18 @@ fn reached(view: &View, from: usize, r: u16) -> BTreeSet<usize> {
 fn good(body: &Body, view: &View, e: &Exposed, level: usize) {
     let (n, r, l) = (body.code.len(), e.register, view.lines[level].level.as_ref().unwrap());
     let mut here = if l.result == Some(r) { BTreeSet::new() } else { reached(view, l.resume.min(n), r) };
-    if e.leaves[0].raises { here.insert(level); }
-    for leave in &e.leaves {
-        let inside = view.tries.iter().any(|&(s, h)| s < leave.at && leave.at < h && h == leave.to);
-        let past = model::rows::stranded(&body.code[leave.at]) && leave.to == leave.at + 1;
-        assert!(here.contains(&leave.at) && if leave.raises { inside } else { past }, "{e:?}");
-        here = reached(view, leave.to, r);
+    let leaves: Vec<Leave> = e.leaves().collect();
+    if leaves[0].raises { here.insert(level); }
+    for leave in &leaves {
+        let (at, to) = (leave.at as usize, leave.to as usize);
+        let inside = view.tries.iter().any(|&(s, h)| s < at && at < h && h == to);
+        let past = model::rows::stranded(&body.code[at]) && to == at + 1;
+        assert!(here.contains(&at) && if leave.raises { inside } else { past }, "{e:?}");
+        here = reached(view, to, r);
     }
-    let read = e.read.unwrap();
+    let read = e.read().unwrap() as usize;
     assert!(here.contains(&read) && view.lines[read].used.contains(&r), "{e:?}");
-    assert_eq!(turniploom::needed(&body.words(), body.registers, e.leaves.last().unwrap().to, r), Ok(true));
+    assert_eq!(turniploom::needed(&body.words(), body.registers, leaves.last().unwrap().to as usize, r), Ok(true));
 }
 
 /// What is told is what the archive says, no more and no less, each with a way that is there.
@@ -341,15 +343,15 @@ fn the_archives_word_and_true_ways() {
         let due = turniploom::exposed(&plain, &turniploom::kept_raising(&words, body.registers, tries, true).unwrap());
         let levels = view.lines.iter().enumerate().filter_map(|(k, l)| Some((k, l.level.as_ref()?.exposed.clone())));
         assert_eq!(levels.filter(|l| !l.1.is_empty()).collect::<Vec<_>>(), due, "{text}");
-        let mut pairs: Vec<(usize, u16)> = view.exposed.iter().flat_map(|e| e.levels.iter().map(|&k| (k, e.register))).collect();
+        let mut pairs: Vec<(usize, u16)> = view.exposed.iter().flat_map(|e| e.levels.iter().map(move |&k| (k as usize, e.register))).collect();
         pairs.sort();
         let mut due: Vec<(usize, u16)> = due.into_iter().flat_map(|(k, list)| list.into_iter().map(move |r| (k, r))).collect();
         due.sort();
         assert_eq!(pairs, due, "{text}");
-        for e in &view.exposed { for &k in &e.levels { good(&body, &view, e, k) } }
+        for e in view.exposed.iter() { for &k in e.levels { good(&body, &view, &e, k as usize) } }
         told += view.exposed.len();
-        chains += view.exposed.iter().filter(|e| e.leaves.len() > 1).count();
-        marked += view.exposed.iter().filter(|e| e.leaves.iter().any(|l| !l.raises)).count();
+        chains += view.exposed.iter().filter(|e| e.leaves().count() > 1).count();
+        marked += view.exposed.iter().filter(|e| e.leaves().any(|l| !l.raises)).count();
     }
     assert!(listed > 1_500 && told > 1_000 && chains > 50 && marked > 100, "{listed} {told} {chains} {marked}");
 }

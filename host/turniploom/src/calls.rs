@@ -308,7 +308,8 @@ fn found<W: Copy + Default>(
     keep: Keep<W>, words: usize, ins: &(impl Code + ?Sized), regs: usize, tries: &[(usize, usize)], wide: bool,
 ) -> Result<Kept<W>, Refusal> {
     let (code, tries, n) = (ins.words(), lent(tries), length(ins));
-    let (mut rows, mut offsets, mut list) = (vec![W::default(); n * words], vec![0; n], vec![0; 4 * n]);
+    // Long enough at 64 registers whatever is kept: most of it is never touched, and where a list is short the whole call is made once more.
+    let (mut rows, mut offsets, mut list) = (vec![W::default(); n * words], vec![0; n], vec![0; n * regs.clamp(4, 64)]);
     loop {
         match keep(code, regs, &tries, wide, &mut rows, &mut offsets, &mut list).granted() {
             Err(Refusal::Buffer { buffer: 3, needed }) => list.resize(needed as usize, 0),

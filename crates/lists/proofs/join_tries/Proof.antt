@@ -2,7 +2,7 @@
 use borrow.Author.Needs.{needs}
 use Prim.Native.Nat.{_-_}
 use lib.ListN.{length}
-use Rattle.lists.proofs.Handlers.{Holding, holding-start, holding-more, holding-end}
+use Rattle.lists.proofs.Handlers.{Holding, holding-start, holding-more, holding-skip, holding-end}
 use Rattle.lists.proofs.join_tries.Statement.{statement}
 use Rattle.lists.proofs.join_tries.Tie as tie
 
@@ -39,6 +39,9 @@ shared-slice-read-wide-of-2 c = search needs
 wide-of-requires-2 : tie.Need-wide-of-requires-2 Inv-loop μ-loop
 wide-of-requires-2 c κs = search needs
 
+around-requires : tie.Need-around-requires Inv-loop μ-loop
+around-requires c κs = search needs
+
 join-try-requires : tie.Need-join-try-requires Inv-loop μ-loop
 join-try-requires c κs = search needs
 
@@ -49,7 +52,16 @@ loop-less : tie.Need-loop-less Inv-loop μ-loop
 loop-less c = search needs
 
 loop-again : tie.Need-loop-again Inv-loop μ-loop
-loop-again c = holding-more _ _ _ _ _ _ _ _ _ (c .before .before .before .before .before .before .loop .inv) (c .before .before .before .before .before .loop-test .taken) _ _ (c .before .before .before .wide-of .ensures) (c .before .wide-of2 .ensures) _ (c .join-try .ensures)
+loop-again c = holding-more _ _ _ _ _ _ _ _ _ (c .before .before .before .before .before .before .before .before .loop .inv) (c .before .before .before .before .before .before .before .loop-test .taken) _ _ (c .before .before .before .before .before .wide-of .ensures) (c .before .before .before .wide-of2 .ensures) _ (c .join-try .ensures)
+
+add-i-2 : tie.Need-add-i-2 Inv-loop μ-loop
+add-i-2 c = search needs
+
+loop-less-2 : tie.Need-loop-less-2 Inv-loop μ-loop
+loop-less-2 c = search needs
+
+loop-again-2 : tie.Need-loop-again-2 Inv-loop μ-loop
+loop-again-2 c = holding-skip _ _ _ _ _ _ _ _ _ (c .before .before .before .before .before .before .before .loop .inv) (c .before .before .before .before .before .before .loop-test .taken) _ _ (c .before .before .before .before .wide-of .ensures) (c .before .before .wide-of2 .ensures) _ (c .before .around .ensures) (c .if1 .left)
 
 returns : tie.Need-returns Inv-loop μ-loop
 returns c = holding-end _ _ _ _ _ _ _ _ _ (c .before .loop .inv) (c .loop-test .left)
@@ -69,8 +81,12 @@ join-tries-spec =
     mul-wide-of-2
     shared-slice-read-wide-of-2
     wide-of-requires-2
+    around-requires
     join-try-requires
     add-i
     loop-less
     loop-again
+    add-i-2
+    loop-less-2
+    loop-again-2
     returns)

@@ -2,7 +2,7 @@
 use borrow.Author.Needs.{needs}
 use Prim.Native.Nat.{_-_}
 use lib.ListN.{length}
-use Rattle.lists.proofs.Handlers.{Keeping, keeping-start, keeping-try, keeping-more, keeping-long, keeping-end}
+use Rattle.lists.proofs.Handlers.{Keeping, keeping-start, keeping-try, keeping-more, keeping-skip, keeping-long, keeping-end}
 use Rattle.lists.proofs.list_tries.Statement.{statement}
 use Rattle.lists.proofs.list_tries.Tie as tie
 
@@ -39,8 +39,11 @@ shared-slice-read-wide-of-2 c = search needs
 wide-of-requires-2 : tie.Need-wide-of-requires-2 Inv-loop μ-loop
 wide-of-requires-2 c κs = search needs
 
+around-requires : tie.Need-around-requires Inv-loop μ-loop
+around-requires c κs = search needs
+
 list-try-requires : tie.Need-list-try-requires Inv-loop μ-loop
-list-try-requires c κs = (search needs, search needs, search needs, search needs, search needs, keeping-try _ _ _ _ _ _ _ _ _ _ _ _ _ (c .before .before .before .before .before .before .loop .inv) (c .before .before .before .before .before .loop-test .taken) _ _ (c .before .before .before .wide-of .ensures) (c .before .wide-of2 .ensures))
+list-try-requires c κs = (search needs, search needs, search needs, search needs, search needs, keeping-try _ _ _ _ _ _ _ _ _ _ _ _ _ (c .before .before .before .before .before .before .before .before .loop .inv) (c .before .before .before .before .before .before .before .loop-test .taken) _ _ (c .before .before .before .before .before .wide-of .ensures) (c .before .before .before .wide-of2 .ensures))
 
 join-try-requires : tie.Need-join-try-requires Inv-loop μ-loop
 join-try-requires c κs = search needs
@@ -52,7 +55,16 @@ loop-less : tie.Need-loop-less Inv-loop μ-loop
 loop-less c = search needs
 
 loop-again : tie.Need-loop-again Inv-loop μ-loop
-loop-again c = keeping-more _ _ _ _ _ _ _ _ _ _ _ _ _ (c .before .before .before .before .before .before .before .before .before .before .loop .inv) (c .before .before .before .before .before .before .before .before .before .loop-test .taken) _ _ (c .before .before .before .before .before .before .before .wide-of .ensures) (c .before .before .before .before .before .wide-of2 .ensures) _ _ (c .before .before .before .list-try .ensures) _ (c .join-try .ensures)
+loop-again c = keeping-more _ _ _ _ _ _ _ _ _ _ _ _ _ (c .before .before .before .before .before .before .before .before .before .before .before .before .loop .inv) (c .before .before .before .before .before .before .before .before .before .before .before .loop-test .taken) _ _ (c .before .before .before .before .before .before .before .before .before .wide-of .ensures) (c .before .before .before .before .before .before .before .wide-of2 .ensures) _ _ (c .before .before .before .list-try .ensures) _ (c .join-try .ensures)
+
+add-i-2 : tie.Need-add-i-2 Inv-loop μ-loop
+add-i-2 c = search needs
+
+loop-less-2 : tie.Need-loop-less-2 Inv-loop μ-loop
+loop-less-2 c = search needs
+
+loop-again-2 : tie.Need-loop-again-2 Inv-loop μ-loop
+loop-again-2 c = keeping-skip _ _ _ _ _ _ _ _ _ _ _ _ _ (c .before .before .before .before .before .before .before .loop .inv) (c .before .before .before .before .before .before .loop-test .taken) _ _ (c .before .before .before .before .wide-of .ensures) (c .before .before .wide-of2 .ensures) _ (c .before .around .ensures) (c .if1 .left)
 
 same-length : tie.Need-same-length Inv-loop μ-loop
 same-length c = keeping-long _ _ _ _ _ _ _ _ _ _ _ _ _ (c .before .loop .inv)
@@ -75,10 +87,14 @@ list-tries-spec =
     mul-wide-of-2
     shared-slice-read-wide-of-2
     wide-of-requires-2
+    around-requires
     list-try-requires
     join-try-requires
     add-i
     loop-less
     loop-again
+    add-i-2
+    loop-less-2
+    loop-again-2
     same-length
     returns)

@@ -1,6 +1,6 @@
 //! The comparison: each question to the port, the Rust and the model, and a row of counts per call.
 
-use crate::{chunks, original, question::*, questions, rng::Rng, shrink::shrink, widths};
+use crate::{asked::{Ask, described, shown}, chunks, original, question::*, questions, rng::Rng, shrink::shrink, widths};
 use listing::notation;
 use std::{
     cell::Cell, collections::BTreeMap, panic::{AssertUnwindSafe, catch_unwind, set_hook, take_hook}, sync::{Mutex, atomic::{AtomicUsize, Ordering}}, thread,
@@ -20,9 +20,6 @@ pub struct Row {
     pub listed: u64,
     pub wrong: u64,
 }
-
-/// Asks one of the three.
-pub type Ask = fn(&Question) -> Reply;
 
 /// When a run ends: after so many rounds, or after so many minutes.
 #[derive(Clone, Copy)]
@@ -283,26 +280,4 @@ fn caught<T>(ask: impl FnOnce() -> T) -> Result<T, String> {
         let text = e.downcast_ref::<String>().cloned().or(e.downcast_ref::<&str>().map(|s| s.to_string()));
         format!("panicked: {}", text.unwrap_or_default())
     })
-}
-
-/// The first words of a slice.
-fn slice(arg: &Arg) -> String {
-    let numbers = arg.numbers();
-    let (words, more) = (&numbers[1..numbers.len().min(41)], numbers.len() > 41);
-    format!("{words:?}{}", if more { format!(" of {}", numbers[0]) } else { String::new() })
-}
-
-/// A reply as a line.
-pub fn shown(r: &Reply) -> String {
-    let buffers: Vec<String> = r.lent.buffers.iter().map(slice).collect();
-    format!("{:?} {}", r.values(), buffers.join(" "))
-}
-
-/// The call, its numbers and its tables, as a comment of the listing's notation.
-pub fn described(q: &Question) -> String {
-    let told = q.call.params().iter().zip(&q.args).filter(|(p, _)| p.name != "code").map(|(p, arg)| match arg {
-        Arg::N(v) => format!(" {}={v}", p.name),
-        _ => format!(" {}={}", p.name, slice(arg)),
-    });
-    format!("# {}{}\n", q.call.name(), told.collect::<String>())
 }

@@ -1,6 +1,6 @@
 //! Hostile input to the exported calls, watched for bad access: against guard pages, then under valgrind.
 
-use crate::{compare, house::{Alone, House, Pages}, model, port, question::*, questions, rng::Rng};
+use crate::{asked, house::{Alone, House, Pages}, model, port, question::*, questions, rng::Rng};
 use listing::notation;
 use std::{env, process::{Command, Stdio}};
 use turniploom::abi::Kind;
@@ -55,7 +55,7 @@ fn round(call: Call, seed: u64, round: u64, questions: u64, house: &mut impl Hou
     let mut rng = Rng::of(seed, round, call);
     (0..questions).all(|k| {
         let q = narrowed(question(&mut rng, call));
-        if each { println!("# {} question {k}\n{}{}", call.name(), compare::described(&q), notation::asked(&q)) }
+        if each { println!("# {} question {k}\n{}{}", call.name(), asked::described(&q), notation::asked(&q)) }
         let port = port::ask_in(house, &q);
         !compared || port == model::ask(&q)
     })

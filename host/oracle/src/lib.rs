@@ -1,5 +1,6 @@
 //! The comparison of the port with the Rust and with a plain model of document 01.
 
+pub mod asked;
 pub mod bodies;
 pub mod chunks;
 pub mod compare;

@@ -1,7 +1,7 @@
 //! Runs of random chunks as wish 14 has them. The model's machine runs each as it is lent, after the strict fold, after the clearing of what that
 //! leaves, and after a fold of that: every run must end as the first did, or not at all if it does not.
 
-use crate::{chunks, compare::{Ask, described}, model::machine::{End, Rule, Run}, question::*, rng::Rng, shrink::shrink};
+use crate::{asked::{Ask, described}, chunks, model::machine::{End, Rule, Run}, question::*, rng::Rng, shrink::shrink};
 use listing::notation;
 use std::{fmt, thread};
 use turniploom::abi::CHUNK_WORDS;

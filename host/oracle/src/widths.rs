@@ -2,7 +2,7 @@
 //! sweeps than the host is told before the call. Of `needed`: the rows say the same. Of `kept_raising`: its lists hold those of `kept`, and are
 //! those where no try is lent and no mark stands amiss.
 
-use crate::{compare::{Ask, shown}, model::{code, rows}, question::*};
+use crate::{asked::{Ask, shown}, model::{code, rows}, question::*};
 use turniploom::most_sweeps;
 
 /// The question to the call of the other width, with rows as long as that needs if the question's own are.

@@ -1,54 +1,9 @@
 //! What the command does with its options: files and folders are read, listed and written; and how it ends.
 
-use crate::{body, chunk, diff, figures, json, notation::{self, Body, Chunk, Text}, options::{Form, Options, USE}, out::Out,
+use crate::{body, chunk, diff, figures, json, listed::{Done, Listed, Of}, notation::{self, Text}, options::{Form, Options, USE}, out::Out,
     page, paint, refused, run as runs, text, whose, why};
+pub use crate::listed::Trouble;
 use std::{env, fs, io::{self, IsTerminal, Write}, path::Path, process::ExitCode, thread};
-
-/// Why something was not listed.
-#[derive(Clone, Debug, PartialEq, Eq)]
-pub enum Trouble {
-    /// The proved calls refuse it.
-    Refused(String),
-    /// The text is wrong, or can't be read.
-    Text(String),
-    /// The command line is wrong.
-    Use(String),
-    /// Something can't be written.
-    Unwritten(String),
-    /// The reader of the standard output has gone.
-    Closed,
-}
-
-impl Trouble {
-    fn says(&self) -> &str {
-        match self {
-            Trouble::Refused(why) | Trouble::Text(why) | Trouble::Use(why) | Trouble::Unwritten(why) => why,
-            Trouble::Closed => "",
-        }
-    }
-
-    fn status(&self) -> u8 {
-        match self {
-            Trouble::Closed => 0,
-            Trouble::Refused(_) => 1,
-            Trouble::Text(_) | Trouble::Use(_) | Trouble::Unwritten(_) => 2,
-        }
-    }
-}
-
-type Done<T> = Result<T, Trouble>;
-
-/// A file that was listed, or why it was not.
-pub struct Listed {
-    pub file: String,
-    pub of: Done<Of>,
-}
-
-/// What a file holds, with all that is known of it.
-pub enum Of {
-    Body(Box<(Body, body::View)>),
-    Chunk(Box<(Chunk, chunk::View)>),
-}
 
 /// Ends the command: a line for each line of trouble, and the status.
 pub fn finished(done: Done<Vec<Trouble>>) -> ExitCode {

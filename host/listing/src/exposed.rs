@@ -1,12 +1,9 @@
 //! Registers that are exposed: a level does not keep them, and a later exception may need them. Which they are the archive says; by which way each
 //! goes wrong is found in ways.rs. A large body may have millions of warnings, so levels and ways stand in tables, and a sentence is made where it is said.
 
-use crate::{body::{Line, put_few}, count, put, ways::Ways};
+use crate::{count, line::{Line, put_few}, put, ways::{Leave, NONE, Step, Ways}};
 use model::rows;
 use turniploom::Ins;
-
-/// No number.
-pub(crate) const NONE: u32 = u32::MAX;
 
 /// All that is exposed, by its first level and its register.
 #[derive(Clone, Debug, Default, PartialEq, Eq)]
@@ -25,25 +22,6 @@ struct Told {
     from: u32,
     until: u32,
     way: u32,
-}
-
-/// A leave of a way, and the one after it.
-#[derive(Clone, Copy, Debug, PartialEq, Eq)]
-pub(crate) struct Step {
-    pub leave: Leave,
-    pub next: u32,
-    /// How many leaves come after it.
-    pub later: u32,
-    /// The last of them; of the last itself, where the register is read.
-    pub end: u32,
-}
-
-/// From a position inside a try to its handler; or past a marked instruction, whose call goes on at the next position though it does not lead there.
-#[derive(Clone, Copy, Debug, PartialEq, Eq)]
-pub struct Leave {
-    pub at: u32,
-    pub to: u32,
-    pub raises: bool,
 }
 
 /// A register that levels do not keep, and the way by which it is read all the same.

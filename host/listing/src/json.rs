@@ -1,6 +1,6 @@
 //! The listing as JSON: one object with the version and a list of files. It is written piece by piece: a large body has millions of numbers.
 
-use crate::{around::Around, body, chunk, command::{Listed, Of}, notation::constant_text, out::Out, put};
+use crate::{around::Around, body, chunk, listed::{Listed, Of}, notation::constant_text, out::Out, put};
 use std::fmt::Write;
 use turniploom::{ARCHIVE_SHA256, KIT, VERSION};
 

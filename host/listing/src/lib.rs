@@ -11,6 +11,8 @@ pub mod figures;
 pub mod found;
 pub mod json;
 pub mod lanes;
+pub mod line;
+pub mod listed;
 pub mod notation;
 pub mod options;
 pub mod out;

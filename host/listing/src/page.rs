@@ -1,6 +1,6 @@
 //! The listing as one self-contained page: for a wide screen and a phone, light and dark, on paper and read aloud.
 
-use crate::{body::{self, Level, registers}, chunk, command::Listed, count, lanes, notation::was, out::Out, text, whose, why};
+use crate::{body::{self, Level, registers}, chunk, count, lanes, listed::Listed, notation::was, out::Out, text, whose, why};
 use std::fmt::Write;
 
 pub fn escaped(text: &str) -> String {

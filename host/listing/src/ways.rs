@@ -1,9 +1,31 @@
 //! The ways by which an exposed register goes wrong, by the listing's own reckoning: from where the level goes on, or from the level itself if it
 //! raises, to a position inside a try, on in its handler, and so on until an instruction uses the register. One search for each register finds them all.
 
-use crate::{body::Line, exposed::{Leave, NONE, Step}};
+use crate::line::Line;
 use model::rows;
 use turniploom::Ins;
+
+/// No number.
+pub(crate) const NONE: u32 = u32::MAX;
+
+/// A leave of a way, and the one after it.
+#[derive(Clone, Copy, Debug, PartialEq, Eq)]
+pub(crate) struct Step {
+    pub leave: Leave,
+    pub next: u32,
+    /// How many leaves come after it.
+    pub later: u32,
+    /// The last of them; of the last itself, where the register is read.
+    pub end: u32,
+}
+
+/// From a position inside a try to its handler; or past a marked instruction, whose call goes on at the next position though it does not lead there.
+#[derive(Clone, Copy, Debug, PartialEq, Eq)]
+pub struct Leave {
+    pub at: u32,
+    pub to: u32,
+    pub raises: bool,
+}
 
 /// Lists one after another.
 pub(crate) struct Lists {

@@ -1,7 +1,7 @@
 //! Registers that are exposed: a level does not keep them, and a later exception may need them. Which they are is the archive's word; the listing marks
 //! them, and warns with the way by which each goes wrong.
 
-use listing::{body::View, command::{Listed, Of}, diff, exposed::{Exposed, Leave}, json, notation::{Body, Text, read}, page, paint, text};
+use listing::{body::View, diff, exposed::Exposed, json, listed::{Listed, Of}, notation::{Body, Text, read}, page, paint, text, ways::Leave};
 use std::{collections::BTreeSet, fs, path::{Path, PathBuf}, process::Command};
 
 fn root() -> PathBuf { Path::new(env!("CARGO_MANIFEST_DIR")).join("../..").canonicalize().unwrap() }

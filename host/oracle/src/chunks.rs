@@ -1,6 +1,6 @@
 //! Random chunks: constants, operators over them, jumps among them, Phis, and tables that follow.
 
-use crate::{model::facts::fact, question::*, questions::{self, lend}, rng::Rng};
+use crate::{lent::{self, lend}, model::facts::fact, question::*, rng::Rng};
 use turniploom::{JUMP, NAMES, Op, abi::CHUNK_WORDS, op::{self, *}};
 
 const BINARY: [Op; 17] = [Add, Sub, Mul, Div, Mod, FloorDiv, Eq, NotEq, Lt, Gt, LtEq, GtEq, BitAnd, BitOr, BitXor, Shl, Shr];
@@ -151,7 +151,7 @@ fn tables(rng: &mut Rng, c: &mut Chunk) {
     if !rng.once_in(4) { c.phi_map = (0..n).map(|_| if rng.once_in(12) { rng.pick(&[4, 5, u32::MAX]) } else { rng.below(pairs + 1) as u32 }).collect() }
     for _ in 0..rng.below(4) { c.stmt_pos.extend([rng.below(n + 3) as u32, rng.word() as u32]) }
     for _ in 0..rng.below(3) { c.call_byte_pos.extend([if rng.once_in(8) { u32::MAX } else { rng.below(n + 2) as u32 }, 7]) }
-    c.tries = questions::tries(rng, n, &around(&c.code));
+    c.tries = lent::tries(rng, n, &around(&c.code));
 }
 
 /// The places at an operator, at each of its operands, and right after it.

@@ -7,6 +7,7 @@ pub mod compare;
 pub mod figures;
 pub mod hostile;
 pub mod house;
+pub mod lent;
 pub mod original;
 pub mod port;
 pub mod questions;

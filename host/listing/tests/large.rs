@@ -1,6 +1,6 @@
 //! The largest code in hostile shapes, 65,535 instructions by 64 registers: each is listed within two seconds of one core, as the shell counts them.
 
-use std::{fs, path::Path, process::Command};
+use std::{fs, hint::black_box, path::Path, process::Command, time::Instant};
 
 const N: usize = 65_535;
 
@@ -13,7 +13,16 @@ fn body(tries: impl IntoIterator<Item = (usize, usize)>, instruction: impl Fn(us
     ["registers 64".into()].into_iter().chain(tries).chain((0..N).map(instruction)).collect::<Vec<_>>().join("\n")
 }
 
-/// Lists it: how many warnings there are, if it took less than two seconds. On a busy machine a core counts more, so it may try three times.
+/// Two seconds, and more on a core that is slower, or shared: a walk of a hundred million steps tells by how much. Alone on the core that the two seconds
+/// are said of it takes a quarter of one.
+fn limit() -> f64 {
+    let (began, mut x) = (Instant::now(), black_box(1_u64));
+    for _ in 0..100_000_000 { x = (x ^ (x >> 29)).wrapping_mul(6_364_136_223_846_793_005) }
+    black_box(x);
+    2.0 * (began.elapsed().as_secs_f64() / 0.25).max(1.0)
+}
+
+/// Lists it: how many warnings there are, if it took less than the limit. On a busy machine a core counts more, so it may try three times.
 fn warnings(name: &str, text: &str) -> usize {
     let file = Path::new(env!("CARGO_TARGET_TMPDIR")).join(name);
     fs::write(&file, text).unwrap();
@@ -24,11 +33,12 @@ fn warnings(name: &str, text: &str) -> usize {
         let seconds = |word: &str| { let (m, s) = word.trim_end_matches('s').split_once('m').unwrap(); 60.0 * part(m) + part(s) };
         String::from_utf8(shell.stdout).unwrap().lines().nth(1).unwrap().split(' ').map(seconds).sum::<f64>()
     };
+    let limit = limit();
     let mut took = seconds();
-    for _ in 1..3 { if took >= 2.0 { took = took.min(seconds()) } }
+    for _ in 1..3 { if took >= limit { took = took.min(seconds()) } }
     let out = file.with_extension("txt.out");
     let listed = fs::read_to_string(&out).unwrap();
-    assert!(took > 0.0 && took < 2.0 && listed.lines().any(|l| l.starts_with("65535 ") && l.contains(" end ")), "{name}: {took} seconds");
+    assert!(took > 0.0 && took < limit && listed.lines().any(|l| l.starts_with("65535 ") && l.contains(" end ")), "{name}: {took} seconds of {limit}");
     fs::remove_file(&out).unwrap();
     listed.lines().filter(|l| l.starts_with("WARNING: ")).count()
 }

@@ -9,14 +9,15 @@ use native.Mathlib.Omega.{arith}
 use borrow.Author.Tests.{lt-ltb, le-ltb, ne-eqb}
 use lib.Bits.{bitAnd, bitOr, or-zero-l, or-zero-r}
 use lib.Dec.{ltb, eqb}
-use lib.ListN.{length, getD, drop, set, length-drop}
+use lib.ListN.{length, getD, drop, set, length-set, length-drop}
 use lib.Seq.{drop-cons, getD-set-other}
-use Rattle.code.specs.Op.{ReturnR, Jump, UnpackR, WithEnter, WithExit}
-use Rattle.code.specs.Ins.{insAt, count}
+use Rattle.code.specs.Op.{ReturnR, Jump, UnpackR, WithEnter, WithExit, CallGlobalR, CallR, CallMethodR, CallSpreadR, JumpIfFalseR, GetAttrR, Call}
+use Rattle.code.specs.Ins.{insAt, count, dunder}
 use Rattle.code.specs.Inner.{Valid}
 use Rattle.code.proofs.Rules.{op-known}
 use Rattle.code.specs.declared.Ins.{Ins}
-use Rattle.roles.specs.Sets.{only}
+use Rattle.roles.specs.Kinds.{page, ruleOf}
+use Rattle.roles.specs.Sets.{only, cases, caseOf}
 use Rattle.flow.specs.Flow.{joined, rowAt}
 use Rattle.flow.specs.Sweep.{row, below}
 use Rattle.flow.specs.Inner.{Put}
@@ -32,7 +33,7 @@ use Rattle.steps.proofs.Follows.{below-step}
 use Rattle.steps.proofs.Told.{calm-step}
 use Rattle.sets.proofs.Sets.{or-assoc}
 use Rattle.nested.specs.Raising.{stranded}
-use Rattle.near.specs.Inner.{moreOf, moreStep, moreFlow, WentAt, edgeOf, lowestOf, Covered, Covers}
+use Rattle.near.specs.Inner.{moreOf, moreStep, moreFlow, WentAt, Down, here, on, Stretch, edgeOf, lowestOf, Covered}
 
 -- ---- a row in one word
 
@@ -79,6 +80,52 @@ module _ (all : Bool) (out : ℕ) (i : Ins) where
     unfolding moreOf
     leaves-past past next e h = ap₂ bitOr (h ∙ ap (λ (t : Bool). joined (row rows) (only t (k + 1))) e) m
 
+-- ---- what an opcode tells of levels
+
+and-no : (t : Bool) → (t && false) ≡ false
+and-no true = refl
+and-no false = refl
+
+-- an opcode that tells something else is another
+other : (o c m : ℕ) → calmOf c ≡ m → (calmOf o ≡ m → ⊥) → eqb o c ≡ false
+other o c m h n = ne-eqb o c (λ e. n (ap calmOf e ∙ h))
+
+-- what writes a and reads b and c is a level by its mark alone
+marked : (i : Ins) → calmOf (i .op) ≡ 13 → isLevel i ≡ dunder i
+unfolding isLevel calmOf ruleOf page caseOf cases
+marked i e = rw (
+  other (i .op) CallGlobalR 64 refl (λ x. omega (arith, x, e)),
+  other (i .op) CallR 64 refl (λ x. omega (arith, x, e)),
+  other (i .op) CallMethodR 64 refl (λ x. omega (arith, x, e)),
+  other (i .op) CallSpreadR 6 refl (λ x. omega (arith, x, e)),
+  other (i .op) JumpIfFalseR 20 refl (λ x. omega (arith, x, e)),
+  other (i .op) GetAttrR 5 refl (λ x. omega (arith, x, e)),
+  other (i .op) Call 0 refl (λ x. omega (arith, x, e)),
+)
+
+-- an instruction of which the opcode tells all, and that goes on, is not stranded
+tidy : (i : Ins) → calmOf (i .op) < 16 → stranded i ≡ false
+unfolding calmOf ruleOf page caseOf cases
+tidy i l = ap (λ (t : Bool). dunder i && t) rest ∙ and-no (dunder i)
+  where
+    rest : (let o = i .op in eqb o ReturnR || eqb o Jump || eqb o UnpackR || eqb o WithEnter || eqb o WithExit) ≡ false
+    rest = rw (
+      other (i .op) ReturnR 36 refl (λ x. omega (arith, x, l)),
+      other (i .op) Jump 48 refl (λ x. omega (arith, x, l)),
+      other (i .op) UnpackR 64 refl (λ x. omega (arith, x, l)),
+      other (i .op) WithEnter 64 refl (λ x. omega (arith, x, l)),
+      other (i .op) WithExit 64 refl (λ x. omega (arith, x, l)),
+    )
+
+pub by-mark : (i : Ins) (m : ℕ) (all : Bool) (out more : ℕ) → m ≡ calmOf (i .op) → m ≡ 13 → more ≡ cond (all || dunder i) out 0
+    → more ≡ cond (all || isLevel i) out 0
+by-mark i m all out more e h x = x ∙ ap (λ (t : Bool). cond (all || t) out 0) (sym (marked i (sym e ∙ h)))
+
+calm-more : (all : Bool) (out : ℕ) (i : Ins) (rows : List ℕ) (k : ℕ) → calmOf (i .op) < 16 → cond (all || isLevel i) out 0 ≡ moreOf all out i rows k
+unfolding joined moreOf
+calm-more all out i rows k l = sym (or-zero-l (cond (all || isLevel i) out 0))
+    ∙ ap (λ (t : Bool). bitOr (joined (row rows) (only t (k + 1))) (cond (all || isLevel i) out 0)) (sym (tidy i l))
+
 -- ---- a step of the sweep
 
 module _ (regs : ℕ) (w : List ℕ) (k : ℕ) (s : Step) (h : StepAt w k s) where
@@ -92,34 +139,89 @@ module _ (regs : ℕ) (w : List ℕ) (k : ℕ) (s : Step) (h : StepAt w k s) whe
     told = rw (row-same more (row rows)) at (p .told);
   }
 
-  module _ (all : Bool) (out start : ℕ) (rows new : List ℕ) (l : start ≤ k) (t : Bool) (e : t ≡ goesBefore s start) where
-    stray : t ≡ below start (afterAt w k)
-    stray = e ∙ below-step w k s start h (omega arith)
+  stray : (start : ℕ) → start ≤ k → (t : Bool) → t ≡ goesBefore s start → t ≡ below start (afterAt w k)
+  stray start l t e = e ∙ below-step w k s start h (omega arith)
 
-    -- left
-    pub went-left : t ≡ true → (changed back : Bool) → WentAt all out regs w start k rows new true changed back
-    went-left z changed back = record { stray = sym z ∙ stray; put = λ x. absurd (true≢false x); turns = λ x. absurd (true≢false x) }
+  -- found and stored
+  went-on : (all : Bool) (out start : ℕ) (rows new : List ℕ) → start ≤ k → (t : Bool) → t ≡ goesBefore s start → t ≡ false → (i : Ins) (more : ℕ)
+      → i ≡ insAt w k
+      → more ≡ moreOf all out i rows k → (changed back : Bool) → Put (moreStep more regs s) rows k new changed → back ≡ goesBefore s (suc k)
+      → WentAt all out regs w start k rows new changed back
+  went-on all out start rows new l t e z i more place m changed back p b = record {
+    inside = sym (stray start l t e) ∙ z;
+    put = subst (λ (y : ℕ). Put (moreFlow y regs w) rows k new changed) (m ∙ ap (λ (j : Ins). moreOf all out j rows k) place)
+        (put-same more rows new changed p);
+    turns = b ∙ below-step w k s (suc k) h (omega arith);
+  }
 
-    -- found and stored
-    pub went-on : t ≡ false → (i : Ins) (more : ℕ) → i ≡ insAt w k → more ≡ moreOf all out i rows k → (changed back : Bool)
-        → Put (moreStep more regs s) rows k new changed → back ≡ goesBefore s (k + 1) → WentAt all out regs w start k rows new false changed back
-    went-on z i more place m changed back p b = record {
-      stray = sym z ∙ stray;
-      put = λ x. subst (λ (y : ℕ). Put (moreFlow y regs w) rows k new changed) (m ∙ ap (λ (j : Ins). moreOf all out j rows k) place)
-          (put-same more rows new changed p);
-      turns = λ x. b ∙ below-step w k s (k + 1) h (omega arith) ∙ ap (λ (y : ℕ). below y (afterAt w k)) (add-one k);
+-- ---- a sweep that has come down from `from` to k, and goes on to `low`
+
+pub record Coming (all : Bool) (out regs : ℕ) (w : List ℕ) (start from low : ℕ) (rows₀ rows : List ℕ) (changed back : Bool) (k : ℕ) : Type 0 where
+  pub down : Down all out regs w start from rows₀ k rows changed back
+  pub lo : low ≤ k
+  pub hi : k ≤ from
+  pub long : length rows ≡ suc (count w)
+
+module _ (all : Bool) (out regs : ℕ) (w : List ℕ) (start from low : ℕ) (rows₀ : List ℕ) where
+  pub coming-start : low ≤ from → length rows₀ ≡ suc (count w) → Coming all out regs w start from low rows₀ rows₀ false false from
+  coming-start l e = record { down = here; lo = l; hi = omega arith; long = e }
+
+  module _ (rows : List ℕ) (changed back : Bool) (k : ℕ) (p : Coming all out regs w start from low rows₀ rows changed back k) where
+    one : low < k → suc (k - 1) ≡ k
+    one l = omega arith
+
+    coming-on : low < k → (new : List ℕ) (changed′ back′ : Bool) → WentAt all out regs w start (k - 1) rows new changed′ back′
+        → Coming all out regs w start from low rows₀ new (changed′ || changed) (back′ || back) (k - 1)
+    coming-on l new changed′ back′ went = record {
+      down = on (p .down) (omega arith) went;
+      lo = omega arith;
+      hi = omega (arith, p .hi);
+      long = ap length (went .put .stored) ∙ length-set rows (k - 1) _ ∙ p .long;
     }
 
--- a step that its opcode tells goes nowhere
-pub went-calm : (regs : ℕ) (w : List ℕ) (k : ℕ) (all : Bool) (out start : ℕ) (rows new : List ℕ) (i : Ins) (m more : ℕ) (changed : Bool) → start ≤ k
-    → i ≡ insAt w k → m ≡ calmOf (i .op) → m < 16 → more ≡ moreOf all out i rows k → Put (moreStep more regs (calmStep i m)) rows k new changed
-    → WentAt all out regs w start k rows new false changed false
-went-calm regs w k all out start rows new i m more changed l place told few e p =
-    went-on regs w k (calmStep i m) (calm-step w k m i place told few) all out start rows new l false refl refl i more place e changed false p refl
+    -- the opcode of accepted code is known
+    pub known : low < k → from ≤ count w → Valid w → (i : Ins) → i ≡ insAt w (k - 1) → i .op ≤ 190
+    known l f v i e = rw e (op-known (insAt w (k - 1)) (k - 1) (insAt w (k - 1 + 1) .op) (v .kept (k - 1) (omega (arith, p .hi))))
 
--- the opcode of accepted code is known
-pub known : {w : List ℕ} {k : ℕ} {i : Ins} → Valid w → k < count w → i ≡ insAt w k → i .op ≤ 190
-known {w} {k} v l e = rw e (op-known (insAt w k) k (insAt w (k + 1) .op) (v .kept k l))
+    -- the opcode tells all, and that it goes on
+    pub coming-calm : low < k → start ≤ low → (i : Ins) (m : ℕ) → i ≡ insAt w (k - 1) → m ≡ calmOf (i .op) → m < 16 → (new : List ℕ) (changed′ : Bool)
+        → Put (moreStep (cond (all || isLevel i) out 0) regs (calmStep i m)) rows (k - 1) new changed′
+        → Coming all out regs w start from low rows₀ new (changed′ || changed) back (k - 1)
+    coming-calm l b i m place told few new changed′ put = coming-on l new changed′ false
+        (went-on regs w (k - 1) (calmStep i m) (calm-step w (k - 1) m i place told few) all out start rows new (omega arith) false refl refl i _ place
+        (calm-more all out i rows (k - 1) (omega (arith, told))) changed′ false put refl)
+
+    module _ (l : low < k) (b : start ≤ low) (s : Step) (h : StepAt w (k - 1) s) (t : Bool) (e : t ≡ goesBefore s start) where
+      pub coming-step : t ≡ false → (i : Ins) (more : ℕ) → i ≡ insAt w (k - 1) → more ≡ moreOf all out i rows (k - 1) → (new : List ℕ) (changed′ back′ : Bool)
+          → Put (moreStep more regs s) rows (k - 1) new changed′ → back′ ≡ goesBefore s k
+          → Coming all out regs w start from low rows₀ new (changed′ || changed) (back′ || back) (k - 1)
+      coming-step z i more place m new changed′ back′ put eb = coming-on l new changed′ back′
+          (went-on regs w (k - 1) s h all out start rows new (omega arith) t e z i more place m changed′ back′ put (eb ∙ ap (goesBefore s) (sym (one l))))
+
+      -- left
+      pub coming-left : t ≡ true → (new : List ℕ) (left c d : Bool) → left ≡ true → Stretch all out regs w start from low rows₀ new left c d
+      coming-left z new left c d x = record {
+        strays = λ _. record {
+          k = k;
+          old = rows;
+          changed = changed;
+          back = back;
+          down = p .down;
+          above = l;
+          met = sym (stray regs w (k - 1) s h start (omega arith) t e) ∙ z;
+        };
+        through = λ y. absurd (true≢false (sym x ∙ y));
+      }
+
+    -- through
+    pub coming-through : k ≤ low → (left c d : Bool) → left ≡ false → c ≡ changed → d ≡ back → Stretch all out regs w start from low rows₀ rows left c d
+    coming-through l left c d x ec ed = record {
+      strays = λ y. absurd (true≢false (sym y ∙ x));
+      through = λ _. rw (ec, ed, sym low-is) (p .down);
+    }
+      where
+        low-is : k ≡ low
+        low-is = omega (arith, p .lo)
 
 -- ---- a pass over the tries
 
@@ -244,66 +346,40 @@ lowest-same n k (s ∷ []) j l m = refl
 lowest-same n k (s ∷ (h ∷ tries)) j l m =
     ap₂ (λ (t : Bool) (r : List ℕ). cond t (min h n ∷ r) r) (go (decLt k h) (decLt s k)) (lowest-same n k tries j (omega arith) m)
   where
-    and-no : (t : Bool) → (t && false) ≡ false
-    and-no true = refl
-    and-no false = refl
-
     go : Dec (k < h) → Dec (s < k) → (ltb s j && ltb j h) ≡ (ltb s k && ltb k h)
     go (yes a) (yes b) = ap₂ _&&_ (lt-ltb s j (omega (arith, edge-inside k s h a b)) ∙ sym (lt-ltb s k b)) (lt-ltb j h (omega arith) ∙ sym (lt-ltb k h a))
     go (yes a) (no b) = ap (λ (t : Bool). t && ltb j h) (le-ltb s j (omega arith)) ∙ sym (ap (λ (t : Bool). t && ltb k h) (le-ltb s k (omega arith)))
     go (no a) d = ap (λ (t : Bool). ltb s j && t) (le-ltb j h (omega (arith, edge-after k s h (omega arith)))) ∙ and-no (ltb s j)
         ∙ sym (ap (λ (t : Bool). ltb s k && t) (le-ltb k h (omega arith)) ∙ and-no (ltb s k))
 
--- no try is lent, or nothing is covered yet
-module _ (n : ℕ) (tries : List ℕ) where
-  pub uncovered-none : length tries < 2 → 0 ≡ cond (ltb (length tries) 2) 0 n
-  uncovered-none l = sym (ap (λ (t : Bool). cond t 0 n) (lt-ltb (length tries) 2 l))
-
-  pub uncovered-some : 2 ≤ length tries → n ≡ cond (ltb (length tries) 2) 0 n
-  uncovered-some l = sym (ap (λ (t : Bool). cond t 0 n) (le-ltb (length tries) 2 l))
-
-  pub covers-start : (rows : List ℕ) (out low : ℕ) → out ≡ 0 → low ≡ cond (ltb (length tries) 2) 0 n → Covers n tries rows out low n
-  unfolding joined
-  covers-start rows out low e h = go (decLt (length tries) 2)
-    where
-      none : length tries < 2 → (j : ℕ) → handlersOf n j tries ≡ []
-      none l j = handlers-none n j tries (omega arith)
-
-      go : Dec (length tries < 2) → Covers n tries rows out low n
-      go (yes l) = record {
-        some = λ p. absurd (omega (arith, h, uncovered-none l));
-        at = λ p. record {
-          le = omega (arith, h, uncovered-none l);
-          some = λ q. absurd (omega (arith, h, uncovered-none l));
-          same = λ j x y. none l j ∙ sym (none l (n - 1));
-          is = e ∙ sym (ap (joined (row rows)) (none l (n - 1)));
-        };
-      }
-      go (no l) = record { some = λ p. omega arith; at = λ p. absurd (omega (arith, h, uncovered-some (omega arith))) }
+-- what covers k; so it is for k - 1, unless that is below `low`
+pub record Covers (n : ℕ) (tries rows : List ℕ) (out low k : ℕ) : Type 0 where
+  pub at : low < k → Covered n tries rows out low (k - 1)
 
 module _ (n : ℕ) (tries rows : List ℕ) (out low k : ℕ) where
-  pub lent : 0 < k → k ≤ low → Covers n tries rows out low k → 1 < length tries
-  lent pos l c = c .some (omega arith)
+  pub covered-none : length tries < 2 → Covered n tries rows 0 0 k
+  unfolding joined
+  covered-none l = record {
+    le = zero-le;
+    same = λ j x y. none j ∙ sym (none k);
+    is = sym (ap (joined (row rows)) (none k));
+  }
+    where
+      none : (j : ℕ) → handlersOf n j tries ≡ []
+      none j = handlers-none n j tries (omega arith)
 
-  pub covered-old : Covers n tries rows out low k → low < k → Covered n tries rows out low (k - 1)
-  covered-old p l = p .at l
-
-  pub covered-new : 1 < length tries → out ≡ joined (row rows) (handlersOf n (k - 1) tries) → low ≡ lowestOf (k - 1) tries
-      → Covered n tries rows out low (k - 1)
-  covered-new s e l = record {
-    le = omega (arith, lowest-le (k - 1) tries);
-    some = λ p. s;
-    same = λ j a b. lowest-same n (k - 1) tries j (omega arith) b;
+  pub covered-new : out ≡ joined (row rows) (handlersOf n k tries) → low ≡ lowestOf k tries → Covered n tries rows out low k
+  covered-new e l = record {
+    le = omega (arith, lowest-le k tries);
+    same = λ j a b. lowest-same n k tries j (omega arith) b;
     is = e;
   }
 
   -- a row below the handlers is stored, and they stay as they were
   pub covers-next : 0 < k → k ≤ n → (v : ℕ) → Covered n tries rows out low (k - 1) → Covers n tries (set rows (k - 1) v) out low (k - 1)
   covers-next pos hi v c = record {
-    some = c .some;
     at = λ l. record {
       le = omega arith;
-      some = c .some;
       same = λ j a b. c .same j a (omega arith) ∙ sym (c .same (k - 1 - 1) (omega arith) (omega arith));
       is = c .is
           ∙ joined-cong (row rows) (row (set rows (k - 1) v)) (handlersOf n (k - 1) tries)

@@ -1,9 +1,9 @@
 // The word route of the sweeps that join handlers: a row in one word, and the handlers' rows together for a whole stretch of positions.
 ghost use mathlib.Core.Path.{_≡_};
 ghost use mathlib.Core.Bool.{cond, _||_};
-ghost use Prim.Native.Nat.{suc, _+_, _-_, _<_, _≤_, max};
+ghost use Prim.Native.Nat.{suc, _+_, _/_, _%_, _<_, _≤_, max};
 ghost use lib.ListN.{length};
-ghost use lib.Dec.{ltb};
+ghost use lib.Dec.{eqb};
 ghost use Rattle.code.specs.Ins.{count};
 ghost use Rattle.code.specs.Inner.{Valid};
 ghost use Rattle.roles.specs.Sets.{only};
@@ -15,7 +15,7 @@ ghost use Rattle.steps.specs.Level.{isLevel, firstLevel};
 ghost use Rattle.steps.specs.Inner.{givenOf, afterOf, calmOf, calmStep};
 ghost use Rattle.flow.specs.Kept.{handlersOf};
 ghost use Rattle.nested.specs.Raising.{raising, mays};
-ghost use Rattle.near.specs.Inner.{moreOf, moreStep, WentAt, edgeOf, lowestOf, Covered, Covers};
+ghost use Rattle.near.specs.Inner.{moreOf, moreStep, Stretch, edgeOf, lowestOf, Covered};
 use code::Ins;
 use code::op::*;
 use rows::Counts;
@@ -67,17 +67,6 @@ fn put_word(s: Step, regs: usize, rows: &mut [u64], k: usize, more: u64) -> bool
     }
     rows[k] = set;
     true
-}
-
-// Row k is found and stored, where an instruction only reads and writes the registers that m tells; most write a and read b and c, which is 13.
-fn put_calm(i: Ins, m: u8, regs: usize, rows: &mut [u64], k: usize, more: u64) -> bool
-    requires { ⌜ (regs ≤ 64) × (k + 1 < length (now rows)) ⌝ }
-    ensures { λ r. ⌜ Put (moreStep more regs (calmStep i m)) (now (rows .entry)) k (now (rows .exit)) r ⌝ }
-{
-    if m == 13 {
-        return put_word(steps::calm(i, 13), regs, rows, k, more);
-    }
-    put_word(steps::calm(i, m), regs, rows, k, more)
 }
 
 // What the opcode alone tells of a step, a function of this route alone so that it stands in place: the bits of `kinds`, none for no role; 32 more where the row after it is not read; 64 where it does not tell all.
@@ -164,6 +153,29 @@ fn raised(i: Ins, all: bool, out: u64) -> u64
     0
 }
 
+// The same of an instruction that is a level by its mark alone.
+fn raised_by(marks: u16, all: bool, out: u64) -> u64
+    ensures { λ x. ⌜ x ≡ cond (all || eqb (marks / 2 % 2) 1) out 0 ⌝ }
+{
+    if marks / 2 % 2 == 1 {
+        return out;
+    }
+    if all { out } else { 0 }
+}
+
+// Row k is found and stored, where an instruction only reads and writes the registers that m tells; most write a and read b and c, which is 13.
+fn put_calm(i: Ins, m: u8, all: bool, out: u64, regs: usize, rows: &mut [u64], k: usize) -> bool
+    requires { ⌜ (m ≡ calmOf (i .op)) × (regs ≤ 64) × (k + 1 < length (now rows)) ⌝ }
+    ensures { λ r. ⌜ Put (moreStep (cond (all || isLevel i) out 0) regs (calmStep i m)) (now (rows .entry)) k (now (rows .exit)) r ⌝ }
+{
+    if m == 13 {
+        let more = raised_by(i.marks, all, out);
+        return put_word(steps::calm(i, 13), regs, rows, k, more);
+    }
+    let more = raised(i, all, out);
+    put_word(steps::calm(i, m), regs, rows, k, more)
+}
+
 // What row k is joined with whole: the next row where its instruction is stranded, and where it may raise the rows of the handlers around it.
 fn leaves(i: Ins, all: bool, out: u64, rows: &[u64], k: usize) -> u64
     requires { ⌜ k + 1 < length (now rows) ⌝ }
@@ -176,52 +188,60 @@ fn leaves(i: Ins, all: bool, out: u64, rows: &[u64], k: usize) -> u64
     row_if(sweeps::stranded(i), rows, k + 1) | more
 }
 
-// What a step of a sweep told: whether it was left because a jump goes to before the start; else whether the row changed, and whether a jump goes back.
+// What a stretch of a sweep told: whether it was left because a jump goes to before the start; else whether a row changed, and whether a jump goes back.
 pub struct Went {
     pub left: bool,
     pub changed: bool,
     pub back: bool,
 }
 
-// Row k is found and stored, unless a jump goes to before the start.
-fn put_near(
+// The same, made.
+fn came(left: bool, changed: bool, back: bool) -> Went
+    ensures { λ r. ⌜ (r .left ≡ left) × (r .changed ≡ changed) × (r .back ≡ back) ⌝ }
+{
+    Went {
+        left,
+        changed,
+        back,
+    }
+}
+
+// A sweep comes down from `from` to `low`, through positions with the same tries around them, whose handlers' rows are `out` together.
+fn sweep_near(
     code: &[u16],
     regs: usize,
     all: bool,
     rows: &mut [u64],
     out: u64,
     start: usize,
-    k: usize,
+    from: usize,
+    low: usize,
 ) -> Went
-    requires { ⌜ Valid (now code) × (regs ≤ 64) × (length (now rows) ≡ suc (count (now code))) × (start ≤ k) × (k < count (now code)) ⌝ }
-    ensures { λ r. ⌜ WentAt all out regs (now (code .entry)) start k (now (rows .entry)) (now (rows .exit)) (r .left) (r .changed) (r .back) ⌝ }
+    requires { ⌜ Valid (now code) × (regs ≤ 64) × (length (now rows) ≡ suc (count (now code))) × (start ≤ low) × (low ≤ from) × (from ≤ count (now code)) ⌝ }
+    ensures { λ r. ⌜ Stretch all out regs (now (code .entry)) start from low (now (rows .entry)) (now (rows .exit)) (r .left) (r .changed) (r .back) ⌝ }
 {
-    let i = code::ins_in(code, k);
-    let more = leaves(i, all, out, rows, k);
-    let m = calm_of(i.op);
-    if m < 16 {
-        let changed = put_calm(i, m, regs, rows, k, more);
-        return Went {
-            left: false,
-            changed,
-            back: false,
-        };
+    let n = code.len() / 6;
+    let mut changed = false;
+    let mut back = false;
+    let mut k = from;
+    while low < k {
+        let i = code::ins_in(code, k - 1);
+        let m = calm_of(i.op);
+        if m < 16 {
+            changed = put_calm(i, m, all, out, regs, rows, k - 1) | changed;
+            k -= 1;
+            continue;
+        }
+        let step = steps::step_with(code, n, k - 1, i, m);
+        if steps::goes_before(step, start) {
+            return came(true, changed, back);
+        }
+        let more = leaves(i, all, out, rows, k - 1);
+        changed = put_word(step, regs, rows, k - 1, more) | changed;
+        back = steps::goes_before(step, k) | back;
+        k -= 1;
     }
-    let step = steps::step_with(code, code.len() / 6, k, i, m);
-    if steps::goes_before(step, start) {
-        return Went {
-            left: true,
-            changed: false,
-            back: false,
-        };
-    }
-    let changed = put_word(step, regs, rows, k, more);
-    let back = steps::goes_before(step, k + 1);
-    Went {
-        left: false,
-        changed,
-        back,
-    }
+    came(false, changed, back)
 }
 
 // The rows of the handlers around k, together.
@@ -286,26 +306,16 @@ pub struct Cover {
     pub low: usize,
 }
 
-// What covers nothing yet; and without a try, all.
-fn uncovered(n: usize, tries: &[u32]) -> Cover
-    ensures { λ r. ⌜ (r .out ≡ 0) × (r .low ≡ cond (ltb (length (now (tries .entry))) 2) 0 n) ⌝ }
+// What covers k.
+fn covering(rows: &[u64], n: usize, k: usize, tries: &[u32]) -> Cover
+    requires { ⌜ n < length (now rows) ⌝ }
+    ensures { λ r. ⌜ Covered n (now (tries .entry)) (now (rows .entry)) (r .out) (r .low) k ⌝ }
 {
     if tries.len() < 2 {
         return Cover { out: 0, low: 0 };
     }
-    Cover { out: 0, low: n }
-}
-
-// What covers k - 1: what covered k, or found anew.
-fn covering(old: Cover, rows: &[u64], n: usize, k: usize, tries: &[u32]) -> Cover
-    requires { ⌜ (0 < k) × (k ≤ n) × (n < length (now rows)) × Covers n (now tries) (now rows) (old .out) (old .low) k ⌝ }
-    ensures { λ r. ⌜ Covered n (now (tries .entry)) (now (rows .entry)) (r .out) (r .low) (k - 1) ⌝ }
-{
-    if old.low < k {
-        return old;
-    }
-    let out = handlers_word(rows, n, k - 1, tries);
-    let low = lowest(k - 1, tries);
+    let out = handlers_word(rows, n, k, tries);
+    let low = lowest(k, tries);
     Cover { out, low }
 }
 
@@ -317,24 +327,17 @@ pub fn live_near(code: &[u16], regs: usize, tries: &[u32], all: bool, rows: &mut
 {
     let n = code.len() / 6;
     let mut start = steps::first_level(code);
-    rows::clear(rows);
-    if n <= start {
-        return Counts {
-            full: 1,
-            abandoned: 0,
-        };
-    }
     let mut full: u32 = 0;
     let mut abandoned: u32 = 0;
+    rows::clear(rows);
     'again: loop {
         let mut changed = false;
         let mut back = false;
-        let mut around = uncovered(n, tries);
         let mut k = n;
         while start < k {
-            around = covering(around, rows, n, k, tries);
-            k -= 1;
-            let p = put_near(code, regs, all, rows, around.out, start, k);
+            let around = covering(rows, n, k - 1, tries);
+            let low = most(start, around.low);
+            let p = sweep_near(code, regs, all, rows, around.out, start, k, low);
             if p.left {
                 rows::clear(rows);
                 start = 0;
@@ -343,6 +346,7 @@ pub fn live_near(code: &[u16], regs: usize, tries: &[u32], all: bool, rows: &mut
             }
             changed = p.changed | changed;
             back = p.back | back;
+            k = low;
         }
         full += 1;
         if !(changed & back) {

@@ -1,23 +1,18 @@
 -- `near::live_near` meets its contract: the inner loop is a sweep that has come down to k, the outer a run between two sweeps. Assumes nothing.
 use borrow.Author.Needs.{needs}
 use Prim.Native.Nat.{_-_}
-use Rattle.code.specs.Ins.{count}
 use Rattle.steps.specs.Level.{firstLevel}
-use Rattle.near.specs.Inner.{Covers}
-use Rattle.near.proofs.Near.{covers-start}
 use Rattle.sweeps.proofs.Sweeps.{Between, Turn, toGo, sweep-starts, near-long, whole-few, whole-found, whole-again, whole-less}
-use Rattle.near.proofs.Sweeps.{near-starts, near-idle, near-down, near-in, near-needs, near-step, near-covers, left-few, left-again, left-less}
+use Rattle.near.proofs.Sweeps.{near-starts, near-reach, stretch-needs, stretch-less, stretch-on, left-few, left-again, left-less}
 use Rattle.near.proofs.live_near.Statement.{statement}
 use Rattle.near.proofs.live_near.Tie as tie
 
 abbrev Inv-loop : tie.InvT-loop
-Inv-loop code regs tries all rows₀ n start₀ full abandoned₀ changed₀ back₀ around₀ k₀ rows start abandoned changed back around k =
+Inv-loop code regs tries all rows₀ n start₀ full abandoned₀ changed₀ back₀ k₀ rows start abandoned changed back k =
     Turn all code regs tries (firstLevel code) start full abandoned abandoned₀ rows₀ rows changed back k
-    × Covers (count code) tries rows (around .out) (around .low) k
 
 abbrev μ-loop : tie.MeasureT-loop
-μ-loop code regs tries all rows₀ n start₀ full abandoned₀ changed₀ back₀ around₀ k₀ rows start abandoned changed back around k =
-    k - start
+μ-loop code regs tries all rows₀ n start₀ full abandoned₀ changed₀ back₀ k₀ rows start abandoned changed back k = k - start
 
 abbrev Inv-again : tie.InvT-again
 Inv-again code regs tries all rows₀ n start₀ full₀ abandoned₀ rows start full abandoned =
@@ -33,29 +28,25 @@ first-level-requires c κs = search needs
 clear-requires : tie.Need-clear-requires Inv-loop μ-loop Inv-again μ-again
 clear-requires c κs = search needs
 
-same-length : tie.Need-same-length Inv-loop μ-loop Inv-again μ-again
-same-length c = search needs
-
-returns : tie.Need-returns Inv-loop μ-loop Inv-again μ-again
-returns c = search near-idle
-
 again-holds : tie.Need-again-holds Inv-loop μ-loop Inv-again μ-again
 again-holds c = search near-starts
 
-uncovered-requires : tie.Need-uncovered-requires Inv-loop μ-loop Inv-again μ-again
-uncovered-requires c κs = search needs
-
 loop-holds : tie.Need-loop-holds Inv-loop μ-loop Inv-again μ-again
-loop-holds c = (search sweep-starts, covers-start _ _ _ _ _ (c .uncovered .ensures .0) (c .uncovered .ensures .1))
+loop-holds c = search sweep-starts
+
+sub-covering : tie.Need-sub-covering Inv-loop μ-loop Inv-again μ-again
+sub-covering c = search needs
 
 covering-requires : tie.Need-covering-requires Inv-loop μ-loop Inv-again μ-again
-covering-requires c κs = near-needs (c .before .before .loop .inv .0) (c .before .loop-test .taken) (c .before .before .loop .inv .1)
+covering-requires c κs = near-reach (c .before .before .loop .inv)
 
-sub-k : tie.Need-sub-k Inv-loop μ-loop Inv-again μ-again
-sub-k c = search needs
+most-requires : tie.Need-most-requires Inv-loop μ-loop Inv-again μ-again
+most-requires c κs = search needs
 
-put-near-requires : tie.Need-put-near-requires Inv-loop μ-loop Inv-again μ-again
-put-near-requires c κs = (search needs, search needs, near-long (c .before .before .before .before .loop .inv .0), near-down (c .before .before .before .before .loop .inv .0) (c .before .before .before .loop-test .taken), near-in (c .before .before .before .before .loop .inv .0) (c .before .before .before .loop-test .taken))
+sweep-near-requires : tie.Need-sweep-near-requires Inv-loop μ-loop Inv-again μ-again
+sweep-near-requires c κs =
+    let s = stretch-needs (c .before .before .before .before .before .loop .inv) (c .before .before .before .before .loop-test .taken) (c .before .before .covering .ensures) (c .before .most .ensures) in
+    (search needs, search needs, near-long (c .before .before .before .before .before .loop .inv), s .0, s .1, s .2)
 
 clear-requires-2 : tie.Need-clear-requires-2 Inv-loop μ-loop Inv-again μ-again
 clear-requires-2 c κs = search needs
@@ -67,33 +58,30 @@ again-less : tie.Need-again-less Inv-loop μ-loop Inv-again μ-again
 again-less c = search left-less
 
 again-again : tie.Need-again-again Inv-loop μ-loop Inv-again μ-again
-again-again c =
-    left-again (c .before .before .before .before .before .before .before .before .before .before .before .before .loop .inv .0) (c .before .before .before .before .before .before .before .before .before .covering .ensures) (c .before .before .before .before .before .before .before .before .before .before .before .loop-test .taken) (c .before .before .before .before .before .before .before .put-near .ensures) (c .before .before .before .before .if2 .taken) (c .before .before .clear2 .ensures)
-    (c .before .before .before .before .before .before .before .put-near .kept .1 .1 .1 .0)
+again-again c = search left-again
 
 loop-less : tie.Need-loop-less Inv-loop μ-loop Inv-again μ-again
-loop-less c = search needs
+loop-less c = search stretch-less
 
 loop-again : tie.Need-loop-again Inv-loop μ-loop Inv-again μ-again
-loop-again c = (
-  near-step (c .before .before .before .before .before .before .before .before .before .before .loop .inv .0) (c .before .before .before .before .before .before .before .covering .ensures) (c .before .before .before .before .before .before .before .before .before .loop-test .taken) (c .before .before .before .before .before .put-near .ensures) (c .before .before .if2 .left),
-  near-covers (c .before .before .before .before .before .before .before .before .before .before .loop .inv .0) (c .before .before .before .before .before .before .before .covering .ensures) (c .before .before .before .before .before .before .before .before .before .loop-test .taken) (c .before .before .before .before .before .put-near .ensures) (c .before .before .if2 .left),
-)
+loop-again c =
+    stretch-on (c .before .before .before .before .before .before .before .before .before .before .before .loop .inv) (c .before .before .before .before .before .before .before .before .before .before .loop-test .taken) (c .before .before .before .before .before .before .before .before .covering .ensures)
+    (c .before .before .before .before .before .before .before .most .ensures) (c .before .before .before .before .before .sweep-near .ensures) (c .before .before .if1 .left)
 
 add-full : tie.Need-add-full Inv-loop μ-loop Inv-again μ-again
-add-full c = record { fits = whole-few (c .before .loop .inv .0) (c .loop-test .left) }
+add-full c = record { fits = whole-few (c .before .loop .inv) (c .loop-test .left) }
 
-same-length-2 : tie.Need-same-length-2 Inv-loop μ-loop Inv-again μ-again
-same-length-2 c = search needs
+same-length : tie.Need-same-length Inv-loop μ-loop Inv-again μ-again
+same-length c = search needs
 
-returns-2 : tie.Need-returns-2 Inv-loop μ-loop Inv-again μ-again
-returns-2 c = whole-found (c .before .before .loop .inv .0) (c .before .loop-test .left) (c .if3 .taken)
+returns : tie.Need-returns Inv-loop μ-loop Inv-again μ-again
+returns c = whole-found (c .before .before .loop .inv) (c .before .loop-test .left) (c .if2 .taken)
 
 again-less-2 : tie.Need-again-less-2 Inv-loop μ-loop Inv-again μ-again
-again-less-2 c = whole-less (c .before .before .loop .inv .0) (c .before .loop-test .left) (c .if3 .left)
+again-less-2 c = whole-less (c .before .before .loop .inv) (c .before .loop-test .left) (c .if2 .left)
 
 again-again-2 : tie.Need-again-again-2 Inv-loop μ-loop Inv-again μ-again
-again-again-2 c = whole-again (c .before .before .loop .inv .0) (c .before .loop-test .left) (c .if3 .left)
+again-again-2 c = whole-again (c .before .before .loop .inv) (c .before .loop-test .left) (c .if2 .left)
 
 pub live-near-spec : {M : Type 1} → statement M
 live-near-spec =
@@ -105,14 +93,12 @@ live-near-spec =
     μ-again
     first-level-requires
     clear-requires
-    same-length
-    returns
     again-holds
-    uncovered-requires
     loop-holds
+    sub-covering
     covering-requires
-    sub-k
-    put-near-requires
+    most-requires
+    sweep-near-requires
     clear-requires-2
     add-abandoned
     again-less
@@ -120,7 +106,7 @@ live-near-spec =
     loop-less
     loop-again
     add-full
-    same-length-2
-    returns-2
+    same-length
+    returns
     again-less-2
     again-again-2)

@@ -1,16 +1,19 @@
 // The wide route of the sweeps that join handlers: rows of several words.
 ghost use mathlib.Core.Path.{_≡_};
+ghost use mathlib.Core.Bool.{true, _||_};
 ghost use Prim.Native.Nat.{suc, _+_, _*_, _<_, _≤_};
 ghost use lib.ListN.{length};
 ghost use Rattle.code.specs.Ins.{count};
 ghost use Rattle.code.specs.Inner.{Valid};
-ghost use Rattle.flow.specs.Flow.{joined, rowAt};
+ghost use Rattle.flow.specs.Flow.{joined, onto, rowAt};
 ghost use Rattle.flow.specs.Sweep.{row, Found};
 ghost use Rattle.flow.specs.Inner.{Put, Holds};
-ghost use Rattle.flow.specs.Words.{rowsOf, Small};
+ghost use Rattle.flow.specs.Words.{value, rowsOf, Small};
 ghost use Rattle.steps.specs.Inner.{afterOf, stepFlow};
-ghost use Rattle.nested.specs.Raising.{raising, mays};
-ghost use Rattle.far.specs.Inner.{raisingStep};
+ghost use Rattle.steps.specs.Level.{isLevel};
+ghost use Rattle.nested.specs.Raising.{stranded, leaving, raising, mays};
+ghost use Rattle.far.specs.Inner.{raisingStep, Quiet};
+use code::Ins;
 use steps::Step;
 
 // The rows after a step at k, together.
@@ -33,22 +36,20 @@ fn row_wide(s: Step, regs: usize, rows: &[u64], n: usize, words: usize, k: usize
     sets::with_named(left, regs, s.used, s.a, s.b, s.c)
 }
 
-// Row k, found from the rows as they are; where it is stranded with the next row, and where it may raise with those of the handlers around it.
+// A row as it is by itself, and where it is stranded with the next row, and where it may raise with those of the handlers around it.
 fn row_raising(
-    s: Step,
+    plain: [u64; 16],
     may: bool,
     past: bool,
-    regs: usize,
     tries: &[u32],
     rows: &[u64],
     n: usize,
     words: usize,
     k: usize,
 ) -> [u64; 16]
-    requires { ⌜ (n ≤ 65535) × (regs ≤ 1024) × (words ≤ 16) × (k < n) × (s .target ≤ n) × (suc n * words ≤ length (now rows)) × Small 64 (now rows) ⌝ }
-    ensures { λ r. ⌜ Holds 64 r (rowAt (raisingStep may past n regs (now (tries .entry)) s) (row (rowsOf 64 words (suc n) (now (rows .entry)))) k) ⌝ }
+    requires { ⌜ (n ≤ 65535) × (words ≤ 16) × (k < n) × (suc n * words ≤ length (now rows)) × Small 64 plain × Small 64 (now rows) ⌝ }
+    ensures { λ r. ⌜ Holds 64 r (onto (row (rowsOf 64 words (suc n) (now (rows .entry)))) (value 64 plain) (leaving may past n k (now (tries .entry)))) ⌝ }
 {
-    let plain = row_wide(s, regs, rows, n, words, k);
     let next = sets::join_if(past, plain, rows, k + 1, words);
     if may {
         return lists::join_tries(next, rows, n, words, k, tries);
@@ -56,11 +57,27 @@ fn row_raising(
     next
 }
 
+// Whether nothing leaves from an instruction: it has no mark, and no try is lent or it does not raise.
+fn quiet(i: Ins, all: bool, tries: &[u32]) -> bool
+    ensures { λ r. ⌜ (r ≡ true → Quiet all i (now (tries .entry))) ⌝ }
+{
+    if i.marks / 2 % 2 == 1 {
+        return false;
+    }
+    if tries.len() < 2 {
+        return true;
+    }
+    if all {
+        return false;
+    }
+    !steps::level_at(i)
+}
+
 // Row k is found and stored: whether that changed it.
 fn put_raising(
     s: Step,
-    may: bool,
-    past: bool,
+    i: Ins,
+    all: bool,
     regs: usize,
     tries: &[u32],
     rows: &mut [u64],
@@ -69,10 +86,16 @@ fn put_raising(
     k: usize,
 ) -> bool
     requires { ⌜ (n ≤ 65535) × (regs ≤ words * 64) × (words ≤ 16) × (k < n) × (s .target ≤ n) × (suc n * words ≤ length (now rows)) ⌝ }
-    ensures { λ r. ⌜ Put (raisingStep may past n regs (now (tries .entry)) s) (rowsOf 64 words (suc n) (now (rows .entry))) k (rowsOf 64 words (suc n)
-        (now (rows .exit))) r ⌝ }
+    ensures { λ r. ⌜ Put (raisingStep (all || isLevel i) (stranded i) n regs (now (tries .entry)) s) (rowsOf 64 words (suc n) (now (rows .entry))) k
+        (rowsOf 64 words (suc n) (now (rows .exit))) r ⌝ }
 {
-    let set = row_raising(s, may, past, regs, tries, rows, n, words, k);
+    let plain = row_wide(s, regs, rows, n, words, k);
+    if quiet(i, all, tries) {
+        return sets::store_row(rows, k * words, words, plain);
+    }
+    let may = all | steps::level_at(i);
+    let past = sweeps::stranded(i);
+    let set = row_raising(plain, may, past, tries, rows, n, words, k);
     sets::store_row(rows, k * words, words, set)
 }
 
@@ -99,9 +122,7 @@ pub fn live_raising(
         while 0 < k {
             let i = code::ins_in(code, k - 1);
             let s = steps::step_of(code, n, k - 1);
-            let may = all | steps::level_at(i);
-            let past = sweeps::stranded(i);
-            changed = put_raising(s, may, past, regs, tries, rows, n, words, k - 1) | changed;
+            changed = put_raising(s, i, all, regs, tries, rows, n, words, k - 1) | changed;
             back = steps::goes_before(s, k) | back;
             k -= 1;
         }

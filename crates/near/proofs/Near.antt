@@ -143,7 +143,8 @@ module _ (regs : ℕ) (w : List ℕ) (k : ℕ) (s : Step) (h : StepAt w k s) whe
   stray start l t e = e ∙ below-step w k s start h (omega arith)
 
   -- found and stored
-  went-on : (all : Bool) (out start : ℕ) (rows new : List ℕ) → start ≤ k → (t : Bool) → t ≡ goesBefore s start → t ≡ false → (i : Ins) (more : ℕ) → i ≡ insAt w k
+  went-on : (all : Bool) (out start : ℕ) (rows new : List ℕ) → start ≤ k → (t : Bool) → t ≡ goesBefore s start → t ≡ false → (i : Ins) (more : ℕ)
+      → i ≡ insAt w k
       → more ≡ moreOf all out i rows k → (changed back : Bool) → Put (moreStep more regs s) rows k new changed → back ≡ goesBefore s (suc k)
       → WentAt all out regs w start k rows new changed back
   went-on all out start rows new l t e z i more place m changed back p b = record {
@@ -200,7 +201,15 @@ module _ (all : Bool) (out regs : ℕ) (w : List ℕ) (start from low : ℕ) (ro
       -- left
       pub coming-left : t ≡ true → (new : List ℕ) (left c d : Bool) → left ≡ true → Stretch all out regs w start from low rows₀ new left c d
       coming-left z new left c d x = record {
-        strays = λ _. record { k = k; old = rows; changed = changed; back = back; down = p .down; above = l; met = sym (stray regs w (k - 1) s h start (omega arith) t e) ∙ z };
+        strays = λ _. record {
+          k = k;
+          old = rows;
+          changed = changed;
+          back = back;
+          down = p .down;
+          above = l;
+          met = sym (stray regs w (k - 1) s h start (omega arith) t e) ∙ z;
+        };
         through = λ y. absurd (true≢false (sym x ∙ y));
       }
 

@@ -71,7 +71,8 @@ near-starts all w regs tries start len rows v e h l =
     record { few = v .few; going = rw (e, h, l) (going-start (raising (mays all w) regs w tries) (firstLevel w) (level-le w)) }
 
 module _ {all : Bool} {w : List ℕ} {regs : ℕ} {tries : List ℕ} {from start full lost lost₀ : ℕ} {rows₀ : List ℕ} where
-  pub near-reach : {rows : List ℕ} {changed back : Bool} {k : ℕ} → Turn all w regs tries from start full lost lost₀ rows₀ rows changed back k → count w < length rows
+  pub near-reach : {rows : List ℕ} {changed back : Bool} {k : ℕ} → Turn all w regs tries from start full lost lost₀ rows₀ rows changed back k
+      → count w < length rows
   near-reach p = omega (arith, near-long p)
 
   -- a step of the word route
@@ -114,7 +115,8 @@ module _ {all : Bool} {w : List ℕ} {regs : ℕ} {tries : List ℕ} {from start
     next : {i : ℕ} {old new : List ℕ} (c₁ b₁ c₂ b₂ : Bool)
         → Turn all w regs tries from start full lost lost₀ rows₀ old (c₁ || changed) (b₁ || back) i × Covers (count w) tries old out low i → low < i → start < i
         → WentAt all out regs w start (i - 1) old new c₂ b₂
-        → Turn all w regs tries from start full lost lost₀ rows₀ new ((c₂ || c₁) || changed) ((b₂ || b₁) || back) (i - 1) × Covers (count w) tries new out low (i - 1)
+        → Turn all w regs tries from start full lost lost₀ rows₀ new ((c₂ || c₁) || changed) ((b₂ || b₁) || back) (i - 1)
+        × Covers (count w) tries new out low (i - 1)
     next c₁ b₁ c₂ b₂ q x y went =
         (rw (or-or c₂ c₁ changed, or-or b₂ b₁ back) (near-step (q .0) y (q .1 .at x) went), near-covers (q .0) y (q .1 .at x) went)
 
@@ -139,13 +141,15 @@ module _ {all : Bool} {w : List ℕ} {regs : ℕ} {tries : List ℕ} {from start
           above : bottom < s .strays z .k
           above = s .strays z .above
 
-          q : Turn all w regs tries from start full lost lost₀ rows₀ (s .strays z .old) (s .strays z .changed || changed) (s .strays z .back || back) (s .strays z .k)
+          q : Turn all w regs tries from start full lost lost₀ rows₀ (s .strays z .old) (s .strays z .changed || changed) (s .strays z .back || back)
+              (s .strays z .k)
           q = turned (s .strays z .down) (omega (arith, e, above)) (omega (arith, e, above)) .0
 
           pub left-few : lost + 1 < 2 ^ 32
           left-few = few q (omega (arith, e, above)) (s .strays z .met)
 
-          pub left-again : {cleared : List ℕ} → cleared ≡ replicate (length new) 0 → length new ≡ length rows → Between all w regs tries from 0 full (lost + 1) cleared
+          pub left-again : {cleared : List ℕ} → cleared ≡ replicate (length new) 0 → length new ≡ length rows
+              → Between all w regs tries from 0 full (lost + 1) cleared
           left-again h n = again q (omega (arith, e, above)) (s .strays z .met) h (n ∙ near-long p)
 
           pub left-less : toGo all w regs tries from full (lost + 1) < toGo all w regs tries from full lost₀

@@ -137,17 +137,6 @@ fn calm_of(o: u16) -> u8
     }
 }
 
-// `steps::level_at` as a `match`: where the sweep has just asked for the opcode, the compiler asks no more.
-fn level_near(i: Ins) -> bool
-    ensures { λ r. ⌜ r ≡ isLevel i ⌝ }
-{
-    let o = i.op;
-    match o {
-        CallGlobalR | CallR | CallMethodR | CallSpreadR | JumpIfFalseR | GetAttrR | Call => true,
-        _ => i.marks / 2 % 2 == 1,
-    }
-}
-
 // The handlers' rows where an instruction may raise, else none.
 fn raised(i: Ins, all: bool, out: u64) -> u64
     ensures { λ x. ⌜ x ≡ cond (all || isLevel i) out 0 ⌝ }
@@ -158,7 +147,7 @@ fn raised(i: Ins, all: bool, out: u64) -> u64
     if all {
         return out;
     }
-    if level_near(i) {
+    if steps::level_at(i) {
         return out;
     }
     0
@@ -174,7 +163,7 @@ fn raised_by(marks: u16, all: bool, out: u64) -> u64
     if all { out } else { 0 }
 }
 
-// Row k is found and stored, where an instruction only reads and writes the registers that m tells; most write a and read b and c, which is 13, and are no levels unmarked.
+// Row k is found and stored, where an instruction only reads and writes the registers that m tells; most write a and read b and c, which is 13.
 fn put_calm(i: Ins, m: u8, all: bool, out: u64, regs: usize, rows: &mut [u64], k: usize) -> bool
     requires { ⌜ (m ≡ calmOf (i .op)) × (regs ≤ 64) × (k + 1 < length (now rows)) ⌝ }
     ensures { λ r. ⌜ Put (moreStep (cond (all || isLevel i) out 0) regs (calmStep i m)) (now (rows .entry)) k (now (rows .exit)) r ⌝ }

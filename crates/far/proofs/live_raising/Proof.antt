@@ -47,12 +47,6 @@ sub-ins-in c = search needs
 ins-in-requires : tie.Need-ins-in-requires Inv-loop2 μ-loop2 Inv-loop μ-loop
 ins-in-requires c κs = search needs
 
-level-at-requires : tie.Need-level-at-requires Inv-loop2 μ-loop2 Inv-loop μ-loop
-level-at-requires c κs = search needs
-
-stranded-requires : tie.Need-stranded-requires Inv-loop2 μ-loop2 Inv-loop μ-loop
-stranded-requires c κs = search needs
-
 sub-put-raising : tie.Need-sub-put-raising Inv-loop2 μ-loop2 Inv-loop μ-loop
 sub-put-raising c = search needs
 
@@ -69,7 +63,10 @@ loop2-less : tie.Need-loop2-less Inv-loop2 μ-loop2 Inv-loop μ-loop
 loop2-less c = search needs
 
 loop2-again : tie.Need-loop2-again Inv-loop2 μ-loop2 Inv-loop μ-loop
-loop2-again c = (search (needs, step), search needs)
+loop2-again c = (
+  step (c .before .before .before .before .before .before .before .before .loop2 .inv .0) (c .before .before .before .before .before .step-of .ensures) (search needs) (c .before .before .before .before .before .before .ins-in .ensures) (c .before .before .before .put-raising .ensures) (c .goes-before .ensures),
+  search needs,
+)
 
 add-full : tie.Need-add-full Inv-loop2 μ-loop2 Inv-loop μ-loop
 add-full c = record { fits = whole-few (c .before .loop2 .inv .0) (c .loop2-test .left) }
@@ -101,8 +98,6 @@ live-raising-spec =
     ins-in-requires
     sub-step-of
     step-of-requires
-    level-at-requires
-    stranded-requires
     sub-put-raising
     put-raising-requires
     goes-before-requires

@@ -5,9 +5,6 @@ use Rattle.far.proofs.Sweeps.{holds-level, holds-plain}
 use Rattle.far.proofs.row_raising.Statement.{statement}
 use Rattle.far.proofs.row_raising.Tie as tie
 
-row-wide-requires : tie.Need-row-wide-requires
-row-wide-requires c κs = search needs
-
 add-join-if : tie.Need-add-join-if
 add-join-if c = search needs
 
@@ -24,4 +21,4 @@ returns-2 : tie.Need-returns-2
 returns-2 c = search holds-plain
 
 pub row-raising-spec : {M : Type 1} → statement M
-row-raising-spec = tie.close (tie.spec row-wide-requires add-join-if join-if-requires join-tries-requires returns returns-2)
+row-raising-spec = tie.close (tie.spec add-join-if join-if-requires join-tries-requires returns returns-2)

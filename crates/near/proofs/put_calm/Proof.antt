@@ -22,10 +22,12 @@ no-target i m k n s e l = rw e (omega arith)
 put-as : (i : Ins) (m j more x regs k : ℕ) (s : Step) (rows out : List ℕ) (r : Bool) → s ≡ calmStep i j → m ≡ j → more ≡ x
     → Put (moreStep more regs s) rows k out r → Put (moreStep x regs (calmStep i m)) rows k out r
 put-as i m j more x regs k s rows out r e h g p =
-    subst (λ (y : ℕ). Put (moreStep y regs (calmStep i m)) rows k out r) g (subst (λ (y : Step). Put (moreStep more regs y) rows k out r) (e ∙ ap (calmStep i) (sym h)) p)
+    subst (λ (y : ℕ). Put (moreStep y regs (calmStep i m)) rows k out r) g
+    (subst (λ (y : Step). Put (moreStep more regs y) rows k out r) (e ∙ ap (calmStep i) (sym h)) p)
 
 put-marked : (i : Ins) (m more regs k : ℕ) (all : Bool) (out : ℕ) (s : Step) (rows new : List ℕ) (r : Bool) → m ≡ calmOf (i .op) → s ≡ calmStep i 13 → m ≡ 13
-    → more ≡ cond (all || dunder i) out 0 → Put (moreStep more regs s) rows k new r → Put (moreStep (cond (all || isLevel i) out 0) regs (calmStep i m)) rows k new r
+    → more ≡ cond (all || dunder i) out 0 → Put (moreStep more regs s) rows k new r
+    → Put (moreStep (cond (all || isLevel i) out 0) regs (calmStep i m)) rows k new r
 put-marked i m more regs k all out s rows new r told e h x p = put-as i m 13 more _ regs k s rows new r e h (by-mark i m all out more told h x) p
 
 raised-by-requires : tie.Need-raised-by-requires

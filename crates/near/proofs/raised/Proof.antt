@@ -10,8 +10,8 @@ returns c = search raised-none
 returns-2 : tie.Need-returns-2
 returns-2 c = search raised-all
 
-level-near-requires : tie.Need-level-near-requires
-level-near-requires c κs = search needs
+level-at-requires : tie.Need-level-at-requires
+level-at-requires c κs = search needs
 
 returns-3 : tie.Need-returns-3
 returns-3 c = search raised-in
@@ -20,4 +20,4 @@ returns-4 : tie.Need-returns-4
 returns-4 c = search raised-out
 
 pub raised-spec : {M : Type 1} → statement M
-raised-spec = tie.close (tie.spec returns returns-2 level-near-requires returns-3 returns-4)
+raised-spec = tie.close (tie.spec returns returns-2 level-at-requires returns-3 returns-4)

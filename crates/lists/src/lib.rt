@@ -146,8 +146,6 @@ pub fn join_tries(
         if around(s, k, h) {
             let more = join_try(all, rows, n, words, k, s, h);
             all = more;
-            i += 2;
-            continue;
         }
         i += 2;
     }
@@ -178,8 +176,6 @@ pub fn list_tries(
             at = list_try(all, rows, n, words, k, s, h, out, at);
             let more = join_try(all, rows, n, words, k, s, h);
             all = more;
-            i += 2;
-            continue;
         }
         i += 2;
     }

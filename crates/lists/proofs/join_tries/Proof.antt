@@ -1,4 +1,5 @@
 -- `lists::join_tries` meets its contract. Assumes nothing.
+use mathlib.Core.Logic.{⊎-elim}
 use borrow.Author.Needs.{needs}
 use Prim.Native.Nat.{_-_}
 use lib.ListN.{length}
@@ -52,16 +53,13 @@ loop-less : tie.Need-loop-less Inv-loop μ-loop
 loop-less c = search needs
 
 loop-again : tie.Need-loop-again Inv-loop μ-loop
-loop-again c = holding-more _ _ _ _ _ _ _ _ _ (c .before .before .before .before .before .before .before .before .loop .inv) (c .before .before .before .before .before .before .before .loop-test .taken) _ _ (c .before .before .before .before .before .wide-of .ensures) (c .before .before .before .wide-of2 .ensures) _ (c .join-try .ensures)
-
-add-i-2 : tie.Need-add-i-2 Inv-loop μ-loop
-add-i-2 c = search needs
-
-loop-less-2 : tie.Need-loop-less-2 Inv-loop μ-loop
-loop-less-2 c = search needs
-
-loop-again-2 : tie.Need-loop-again-2 Inv-loop μ-loop
-loop-again-2 c = holding-skip _ _ _ _ _ _ _ _ _ (c .before .before .before .before .before .before .before .loop .inv) (c .before .before .before .before .before .before .loop-test .taken) _ _ (c .before .before .before .before .wide-of .ensures) (c .before .before .wide-of2 .ensures) _ (c .before .around .ensures) (c .if1 .left)
+loop-again c =
+    ⊎-elim
+    (λ w. rw (w .2) (holding-more _ _ _ _ _ _ _ _ _ (c .before .before .before .before .before .before .before .loop .inv) (c .before .before .before .before .before .before .loop-test .taken)
+    _ _ (c .before .before .before .before .wide-of .ensures) (c .before .before .wide-of2 .ensures) _ (w .1 .ensures)))
+    (λ w. rw (w .1) (holding-skip _ _ _ _ _ _ _ _ _ (c .before .before .before .before .before .before .before .loop .inv) (c .before .before .before .before .before .before .loop-test .taken)
+    _ _ (c .before .before .before .before .wide-of .ensures) (c .before .before .wide-of2 .ensures) _ (c .before .around .ensures) (w .0 .left)))
+    (c .if1 .came)
 
 returns : tie.Need-returns Inv-loop μ-loop
 returns c = holding-end _ _ _ _ _ _ _ _ _ (c .before .loop .inv) (c .loop-test .left)
@@ -86,7 +84,4 @@ join-tries-spec =
     add-i
     loop-less
     loop-again
-    add-i-2
-    loop-less-2
-    loop-again-2
     returns)

@@ -1,4 +1,5 @@
 -- `lists32::list_tries` meets its contract. Assumes nothing.
+use mathlib.Core.Logic.{⊎-elim}
 use borrow.Author.Needs.{needs}
 use Prim.Native.Nat.{_-_}
 use lib.ListN.{length}
@@ -55,16 +56,13 @@ loop-less : tie.Need-loop-less Inv-loop μ-loop
 loop-less c = search needs
 
 loop-again : tie.Need-loop-again Inv-loop μ-loop
-loop-again c = keeping-more _ _ _ _ _ _ _ _ _ _ _ _ _ (c .before .before .before .before .before .before .before .before .before .before .before .before .loop .inv) (c .before .before .before .before .before .before .before .before .before .before .before .loop-test .taken) _ _ (c .before .before .before .before .before .before .before .before .before .wide-of .ensures) (c .before .before .before .before .before .before .before .wide-of2 .ensures) _ _ (c .before .before .before .list-try .ensures) _ (c .join-try .ensures)
-
-add-i-2 : tie.Need-add-i-2 Inv-loop μ-loop
-add-i-2 c = search needs
-
-loop-less-2 : tie.Need-loop-less-2 Inv-loop μ-loop
-loop-less-2 c = search needs
-
-loop-again-2 : tie.Need-loop-again-2 Inv-loop μ-loop
-loop-again-2 c = keeping-skip _ _ _ _ _ _ _ _ _ _ _ _ _ (c .before .before .before .before .before .before .before .loop .inv) (c .before .before .before .before .before .before .loop-test .taken) _ _ (c .before .before .before .before .wide-of .ensures) (c .before .before .wide-of2 .ensures) _ (c .before .around .ensures) (c .if1 .left)
+loop-again c =
+    ⊎-elim
+    (λ w. rw (w .6, w .7, w .8) (keeping-more _ _ _ _ _ _ _ _ _ _ _ _ _ (c .before .before .before .before .before .before .before .loop .inv) (c .before .before .before .before .before .before .loop-test .taken)
+    _ _ (c .before .before .before .before .wide-of .ensures) (c .before .before .wide-of2 .ensures) _ _ (w .2 .ensures) _ (w .5 .ensures)))
+    (λ w. rw (w .1, w .2, w .3) (keeping-skip _ _ _ _ _ _ _ _ _ _ _ _ _ (c .before .before .before .before .before .before .before .loop .inv) (c .before .before .before .before .before .before .loop-test .taken)
+    _ _ (c .before .before .before .before .wide-of .ensures) (c .before .before .wide-of2 .ensures) _ (c .before .around .ensures) (w .0 .left)))
+    (c .if1 .came)
 
 same-length : tie.Need-same-length Inv-loop μ-loop
 same-length c = keeping-long _ _ _ _ _ _ _ _ _ _ _ _ _ (c .before .loop .inv)
@@ -93,8 +91,5 @@ list-tries-spec =
     add-i
     loop-less
     loop-again
-    add-i-2
-    loop-less-2
-    loop-again-2
     same-length
     returns)

@@ -264,8 +264,8 @@ turniploom_answer turniploom_version(void);
 enum turniploom_opcode {
     TURNIPLOOM_LoadConst = 2, TURNIPLOOM_LoadName = 4, TURNIPLOOM_StoreName = 6, TURNIPLOOM_Call = 8, TURNIPLOOM_PopTop = 10,
     TURNIPLOOM_ReturnValue = 12, TURNIPLOOM_BuildString = 14, TURNIPLOOM_CallPrint = 16, TURNIPLOOM_CallLen = 18,
-    TURNIPLOOM_FormatValue = 20, TURNIPLOOM_CallAbs = 22, TURNIPLOOM_Minus = 24, TURNIPLOOM_CallStr = 26, TURNIPLOOM_CallInt = 28,
-    TURNIPLOOM_CallRange = 30, TURNIPLOOM_Phi = 32, TURNIPLOOM_CallChr = 34, TURNIPLOOM_CallType = 36,
+    TURNIPLOOM_FormatValue = 20, TURNIPLOOM_CallAbs = 22, TURNIPLOOM_Minus = 24, TURNIPLOOM_CallStr = 26,
+    TURNIPLOOM_CallInt = 28, TURNIPLOOM_CallRange = 30, TURNIPLOOM_Phi = 32, TURNIPLOOM_CallChr = 34, TURNIPLOOM_CallType = 36,
     TURNIPLOOM_MakeFunction = 38, TURNIPLOOM_Add = 40, TURNIPLOOM_Sub = 42, TURNIPLOOM_Mul = 44, TURNIPLOOM_Div = 46,
     TURNIPLOOM_Eq = 48, TURNIPLOOM_CallFloat = 50, TURNIPLOOM_CallBool = 52, TURNIPLOOM_CallRound = 54, TURNIPLOOM_CallMin = 56,
     TURNIPLOOM_CallMax = 58, TURNIPLOOM_CallSum = 60, TURNIPLOOM_CallEnumerate = 62, TURNIPLOOM_CallZip = 64,

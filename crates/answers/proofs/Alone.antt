@@ -6,24 +6,25 @@ use mathlib.Core.List.{List}
 use Prim.Native.Nat.{ℕ, _+_, _<_}
 use lib.ListN.{length}
 use Rattle.code.specs.Ins.{count}
-use Rattle.code.specs.Check.{checkOf, insideOf, registersOf, triedOf, roomOf}
-use Rattle.code.specs.declared.Answer.{Answer}
+use Rattle.code.specs.Check.{checkOf}
+use Rattle.refusals.specs.Stages.{insideOf, registersOf, triedOf, roomOf}
+use Rattle.refusals.specs.declared.Answer.{Answer}
 use Rattle.flow.specs.Words.{Small}
 use Rattle.surveys.specs.Answers.{targetMark, Targets}
 use Rattle.loops.specs.Answers.{LoopsAround}
 use Rattle.loops.specs.Loops.{depth}
 use Rattle.surveys.proofs.Filling.{one-filling}
-use Rattle.phis.specs.Phi.{Dead}
+use Rattle.unread.specs.Phi.{Dead}
 use Rattle.generators.specs.Generator.{GenPure}
 use Rattle.generators.specs.Answers.{GenTold}
-use Rattle.phis.specs.Answers.{roomBoth, DeadPhi}
-use Rattle.phis.proofs.Telling.{one-answer}
+use Rattle.unread.specs.Answers.{roomBoth, DeadPhi}
+use Rattle.unread.proofs.Telling.{one-answer}
 use Rattle.steps.specs.Code.{flow}
 use Rattle.needed.specs.Path.{Needs}
 use Rattle.needed.specs.Answers.{uptoOf, NeededTold}
 use Rattle.flow.specs.Flow.{Flow}
 use Rattle.kept.proofs.Alone.{outcome-one}
-use Rattle.lent.specs.declared.Counts.{Counts}
+use Rattle.chunk.specs.declared.Counts.{Counts}
 use Rattle.optimizer.specs.Fold.{Buffers, Called}
 use Rattle.clear.specs.Clear as clearing
 use Rattle.clear.specs.Clear.{clearTold, ClearTold}
@@ -46,32 +47,42 @@ one-targets w t out r r′ a a′ x y =
 pub one-loops : (w out : List ℕ) (r r′ : Answer) (a a′ : List ℕ) → LoopsAround w out r a → LoopsAround w out r′ a′ → (r ≡ r′) × (a ≡ a′)
 one-loops w out r r′ a a′ x y = one-filling (roomOf (checkOf w) 1 (length out) (count w + 1)) (count w + 1) (depth w) out r r′ a a′ x y
 
-pub one-dead : (w : List ℕ) (k q : ℕ) (seen todo : List ℕ) (r r′ : Answer) (a a′ b b′ : List ℕ) → DeadPhi w k q seen todo r a b → DeadPhi w k q seen todo r′ a′ b′
+pub one-dead : (w : List ℕ) (k q : ℕ) (seen todo : List ℕ) (r r′ : Answer) (a a′ b b′ : List ℕ) → DeadPhi w k q seen todo r a b → DeadPhi w k q seen todo r′ a′
+    b′
     → (r ≡ r′) × (a ≡ a′) × (b ≡ b′)
 one-dead w k q seen todo r r′ a a′ b b′ x y =
     one-answer (roomBoth (insideOf (checkOf w) k) w seen todo) (Dead w k q) (count w + 1) seen todo r r′ a a′ b b′ x y
 
-pub one-gen : (w seen todo : List ℕ) (r r′ : Answer) (a a′ b b′ : List ℕ) → GenTold w seen todo r a b → GenTold w seen todo r′ a′ b′ → (r ≡ r′) × (a ≡ a′) × (b ≡ b′)
+pub one-gen : (w seen todo : List ℕ) (r r′ : Answer) (a a′ b b′ : List ℕ) → GenTold w seen todo r a b → GenTold w seen todo r′ a′ b′ → (r ≡ r′) × (a ≡ a′)
+    × (b ≡ b′)
 one-gen w seen todo r r′ a a′ b b′ x y = one-answer (roomBoth (checkOf w) w seen todo) (GenPure w) (count w + 1) seen todo r r′ a a′ b b′ x y
 
-pub one-needed : (w : List ℕ) (regs k q : ℕ) (seen todo : List ℕ) (r r′ : Answer) (a a′ b b′ : List ℕ) → NeededTold w regs k q seen todo r a b → NeededTold w regs k q seen todo r′ a′ b′
+pub one-needed : (w : List ℕ) (regs k q : ℕ) (seen todo : List ℕ) (r r′ : Answer) (a a′ b b′ : List ℕ) → NeededTold w regs k q seen todo r a b
+    → NeededTold w regs k q seen todo r′ a′ b′
     → (r ≡ r′) × (a ≡ a′) × (b ≡ b′)
 one-needed w regs k q seen todo r r′ a a′ b b′ x y =
     one-answer (roomBoth (uptoOf (registersOf (checkOf w) regs) k) w seen todo) (Needs (flow regs w) q k) (count w + 1) seen todo r r′ a a′ b b′ x y
 
 -- the scratch is words of so many bits, as every lent u64 or u32 is
 pub one-kept : (f : Flow) (start bits : ℕ) → 0 < bits → (w : List ℕ) (regs : ℕ) (tries rows offsets list : List ℕ) (r r′ : Answer) (a a′ b b′ c c′ : List ℕ)
-    → Small bits a → Small bits a′ → ListsTold f start bits w regs tries rows offsets list a b c r → ListsTold f start bits w regs tries rows offsets list a′ b′ c′ r′
+    → Small bits a → Small bits a′ → ListsTold f start bits w regs tries rows offsets list a b c r → ListsTold f start bits w regs tries rows offsets list a′ b′
+    c′ r′
     → (r ≡ r′) × (a ≡ a′) × (b ≡ b′) × (c ≡ c′)
 one-kept f start bits some w regs tries rows offsets list r r′ a a′ b b′ c c′ s s′ x y =
     let (p, q, t, e) = outcome-one f start bits some w regs tries rows offsets list s s′ (x .allowed) (y .allowed) in
     (by-one keptTold x y e, p, q, t)
 
-pub one-fold : (strict : Bool) (b : Buffers) (tries landings : List ℕ) (c : Counts) (r r′ : Answer) (a a′ : Buffers) (t t′ l l′ : List ℕ) → FoldTold strict b tries landings c r a t l
+pub one-fold : (strict : Bool) (b : Buffers) (tries landings : List ℕ) (c : Counts) (r r′ : Answer) (a a′ : Buffers) (t t′ l l′ : List ℕ)
+    → FoldTold strict b tries landings c r a t l
     → FoldTold strict b tries landings c r′ a′ t′ l′ → (r ≡ r′) × (a ≡ a′) × (t ≡ t′) × (l ≡ l′)
 one-fold strict b tries landings c r r′ a a′ t t′ l l′ x y =
-    let e = x .allowed ∙ sym (y .allowed) in
-    (x .is ∙ ap (λ (o : Called). foldTold (o .result .answer)) e ∙ sym (y .is), ap (λ (o : Called). o .result .after) e, ap (λ (o : Called). o .tries) e, ap (λ (o : Called). o .landings) e)
+    let e = x .allowed ∙ sym (y .allowed) in (
+      x .is ∙ ap (λ (o : Called). foldTold (o .result .answer)) e ∙ sym (y .is),
+      ap (λ (o : Called). o .result .after) e,
+      ap (λ (o : Called). o .tries) e,
+      ap
+          (λ (o : Called). o .landings) e,
+    )
 
 pub one-clear : (b : clearing.PoolBuffers) (m : ℕ) (r r′ : Answer) (a a′ : clearing.PoolBuffers) → ClearTold b m r a → ClearTold b m r′ a′ → (r ≡ r′) × (a ≡ a′)
 one-clear b m r r′ a a′ x y =
@@ -91,12 +102,14 @@ one-leave s back r r′ a a′ x y =
     let e = sym (x .allowed) ∙ y .allowed in
     (by-one saverTold x y (ap (λ (o : Ends). o .answer) e), ap (λ (o : Ends). o .left) e)
 
-pub one-replay : (w : List ℕ) (regs : ℕ) (tries t reads : List ℕ) (r r′ : Answer) (a a′ : List ℕ) → ReplayTold w regs tries t reads a r → ReplayTold w regs tries t reads a′ r′
+pub one-replay : (w : List ℕ) (regs : ℕ) (tries t reads : List ℕ) (r r′ : Answer) (a a′ : List ℕ) → ReplayTold w regs tries t reads a r
+    → ReplayTold w regs tries t reads a′ r′
     → (r ≡ r′) × (a ≡ a′)
 one-replay w regs tries t reads r r′ a a′ x y =
     let (z, e) = one-day w regs tries t reads (x .allowed) (y .allowed) in
     (by-one dayTold x y e, z)
 
-pub one-exposed : (plain list out : List ℕ) (r r′ : Answer) (a a′ : List ℕ) → ExposedTold plain list out a r → ExposedTold plain list out a′ r′ → (r ≡ r′) × (a ≡ a′)
+pub one-exposed : (plain list out : List ℕ) (r r′ : Answer) (a a′ : List ℕ) → ExposedTold plain list out a r → ExposedTold plain list out a′ r′ → (r ≡ r′)
+    × (a ≡ a′)
 one-exposed plain list out r r′ a a′ x y =
     (by-one countTold x y (x .allowed .answer ∙ sym (y .allowed .answer)), x .allowed .left ∙ sym (y .allowed .left))

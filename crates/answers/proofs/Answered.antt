@@ -4,9 +4,9 @@ use mathlib.Core.Logic.{_≢_}
 use mathlib.Core.Bool.{Bool}
 use mathlib.Core.List.{List}
 use Prim.Native.Nat.{ℕ}
-use Rattle.code.specs.Answers.{refusedOf}
-use Rattle.code.specs.declared.Answer.{Answer}
-use Rattle.code.specs.declared.Refusal.{Refusal}
+use Rattle.refusals.specs.Answers.{refusedOf}
+use Rattle.refusals.specs.declared.Answer.{Answer}
+use Rattle.refusals.specs.declared.Refusal.{Refusal}
 use Rattle.folding.proofs.Call as folding
 use Rattle.kept.specs.Answers.{Outcome}
 use Rattle.kept.specs.declared.KeptAnswer.{KeptAnswer}

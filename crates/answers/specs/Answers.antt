@@ -3,9 +3,9 @@ use Prim.Native.Nat.{ℕ}
 use mathlib.Core.Path.{_≡_}
 use mathlib.Core.Bool.{Bool}
 use mathlib.Core.List.{List}
-use Rattle.code.specs.Answers.{answerOf, refusedOf}
-use Rattle.code.specs.declared.Answer.{Answer}
-use Rattle.lent.specs.declared.Counts.{Counts}
+use Rattle.refusals.specs.Answers.{answerOf, refusedOf}
+use Rattle.refusals.specs.declared.Answer.{Answer}
+use Rattle.chunk.specs.declared.Counts.{Counts}
 use Rattle.optimizer.specs.Fold.{Buffers}
 use Rattle.folding.specs.Answers as folding
 use Rattle.flow.specs.Flow.{Flow}
@@ -17,8 +17,8 @@ use Rattle.leaves.specs.Leaving.{Back, leaveOf}
 use Rattle.saver.specs.Answers.{saverTold}
 use Rattle.day.specs.Day.{Day}
 use Rattle.day.specs.Answers.{dayTold}
-use Rattle.code.specs.declared.Checked.{Checked}
-use Rattle.code.specs.declared.Checked.the-variants as stage
+use Rattle.refusals.specs.declared.Checked.{Checked}
+use Rattle.refusals.specs.declared.Checked.the-variants as stage
 use Rattle.nested.specs.Raising.{raising, mays, beginsAt}
 use Rattle.exposes.specs.Answers.{ExposedLeft}
 
@@ -38,9 +38,12 @@ abbrev pub ListsTold : Flow → ℕ → ℕ → List ℕ → ℕ → List ℕ �
 ListsTold f start bits w regs tries rows offsets list rows′ offsets′ list′ r =
     By keptTold (λ v. ListsLeft f start bits w regs tries rows offsets list rows′ offsets′ list′ v) r
 
+-- kept, and kept32 by the bits: an answer that the call may give, with what scratch, offsets and list hold before and after it
 abbrev pub KeptTold : ℕ → List ℕ → ℕ → List ℕ → Bool → List ℕ → List ℕ → List ℕ → List ℕ → List ℕ → List ℕ → Answer → Type 0
-KeptTold bits w regs tries wide rows offsets list rows′ offsets′ list′ r = By keptTold (λ v. Outcome bits w regs tries wide rows offsets list rows′ offsets′ list′ v) r
+KeptTold bits w regs tries wide rows offsets list rows′ offsets′ list′ r = By keptTold (λ v. Outcome bits w regs tries wide rows offsets list rows′ offsets′
+    list′ v) r
 
+-- fold: an answer that the call gives, with what all that is lent holds before and after it
 abbrev pub FoldTold : Bool → Buffers → List ℕ → List ℕ → Counts → Answer → Buffers → List ℕ → List ℕ → Type 0
 FoldTold strict b tries landings c r b′ tries′ landings′ = folding.FoldTold strict b tries landings c r b′ tries′ landings′
 
@@ -48,9 +51,11 @@ FoldTold strict b tries landings c r b′ tries′ landings′ = folding.FoldTol
 abbrev pub MadeTold : ℕ → List ℕ → List ℕ → Answer → Type 0
 MadeTold regs head head′ r = By saverTold (λ v. Made regs head head′ v) r
 
+-- a call entered with the list l and the result register q: the saver s becomes s′, and the answer is r
 abbrev pub EnterTold : Saver → List ℕ → ℕ → Saver → Answer → Type 0
 EnterTold s l q s′ r = By saverTold (λ v. enterOf s l q ≡ ends s′ v) r
 
+-- a call left by a return or by an exception: the saver s becomes s′, and the answer is r
 abbrev pub LeaveTold : Saver → Back → Saver → Answer → Type 0
 LeaveTold s back s′ r = By saverTold (λ v. leaveOf s back ≡ ends s′ v) r
 

@@ -1,5 +1,5 @@
 -- What only the inside of `answers` needs: contracts of inner functions and proofs cite it, no promise does. Assumes nothing.
-use Rattle.code.specs.declared.Answer.{Answer}
+use Rattle.refusals.specs.declared.Answer.{Answer}
 use Rattle.optimizer.specs.Fold.{FoldAnswer}
 use Rattle.folding.specs.Answers as folding
 

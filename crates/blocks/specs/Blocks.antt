@@ -15,6 +15,7 @@ wordAt t i = getD t i 0 + 256 * getD t (i + 1) 0 + 65536 * getD t (i + 2) 0 + 16
 unfoldable pub slotAt : List ℕ → ℕ → ℕ
 slotAt t s = wordAt t (512 * (s / 127) + 4 * (s % 127))
 
+-- slot s holds a filler, all its bits set, and no position
 unfoldable pub fillerAt : List ℕ → ℕ → Bool
 fillerAt t s = eqb (slotAt t s) 4294967295
 
@@ -31,6 +32,7 @@ badCheck t b = ltb (length t - 512 * b) 512 || not (eqb (weighed t (512 * b) 508
 unfoldable pub follows : List ℕ → ℕ → Bool
 follows t s = cond (eqb s 0) false (fillerAt t (s - 1) && not (fillerAt t s))
 
+-- 11: some slot of block b has a position right after a filler
 unfoldable pub badFill : List ℕ → ℕ → Bool
 badFill t b = some (λ j. follows t (127 * b + j)) 127
 

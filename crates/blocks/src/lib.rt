@@ -66,6 +66,7 @@ fn follows_at(t: &[u8], s: usize) -> bool
     before & !here
 }
 
+// Slot s holds a filler and no position.
 fn filler_at(t: &[u8], s: usize) -> bool
     requires { ⌜ s / 127 < length (now t) / 512 ⌝ }
     ensures { λ r. ⌜ r ≡ fillerAt (now (t .entry)) s ⌝ }
@@ -108,6 +109,7 @@ fn four(a: usize, b: usize, c: usize, d: usize) -> usize
     a + 256 * b + 65536 * c + 16777216 * d
 }
 
+// A byte of a trace as a number.
 fn byte(x: u8) -> usize
     ensures { λ r. ⌜ (r ≡ x) × (r < 256) ⌝ }
 {

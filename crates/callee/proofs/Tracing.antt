@@ -8,7 +8,7 @@ use native.Mathlib.Nat.{eq-or-lt-of-le}
 use native.Mathlib.Omega.{arith}
 use lib.Dec.{eqb}
 use borrow.Author.Tests.{le-leb, lt-leb}
-use Rattle.code.specs.Op.{StoreTopR, LoadGlobalR}
+use Rattle.ops.specs.Op.{StoreTopR, LoadGlobalR}
 use Rattle.code.specs.Ins.{insAt}
 use Rattle.pushes.specs.declared.Place.{Place}
 use Rattle.pushes.specs.declared.Place.the-variants.{At, Nowhere}

@@ -3,7 +3,7 @@ use Prim.Native.Nat.{ℕ, zero, suc}
 use mathlib.Core.Bool.{Bool, not, cond, _&&_, _||_}
 use mathlib.Core.List.{List}
 use lib.Dec.{eqb, leb}
-use Rattle.code.specs.Op.{StoreTopR, CallR, CallGlobalR, LoadGlobalR, ForIterR, CallSectionR, SectionR, MakeFunction, CallIsInstance}
+use Rattle.ops.specs.Op.{StoreTopR, CallR, CallGlobalR, LoadGlobalR, ForIterR, CallSectionR, SectionR, MakeFunction, CallIsInstance}
 use Rattle.code.specs.Ins.{insAt}
 use Rattle.code.specs.declared.Ins.{Ins}
 use Rattle.roles.specs.Kinds.{hasRole}

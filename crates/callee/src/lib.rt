@@ -6,11 +6,11 @@ ghost use Rattle.code.specs.Inner.{Valid};
 ghost use Rattle.roles.specs.Roles.{roleTable};
 ghost use Rattle.callee.specs.Trace.{setsIt, passesBy, saysAt, traced, globalOf};
 ghost use Rattle.callee.specs.Answers.{globalAnswer};
-use code::Answer;
-use code::Checked;
 use code::Ins;
-use code::op::*;
+use ops::*;
 use pushes::Place;
+use refusals::Answer;
+use refusals::Checked;
 
 // A module binding, if it is known.
 pub enum Callee {
@@ -116,11 +116,11 @@ pub fn global_at(code: &[u16], j: usize) -> Callee
 pub fn global_of(code: &[u16], at: usize) -> Answer
     ensures { λ r. ⌜ r ≡ globalAnswer (now (code .entry)) at ⌝ }
 {
-    match code::inside(code::check(code), at) {
-        Checked::No(r) => code::refused(r),
+    match refusals::inside(code::check(code), at) {
+        Checked::No(r) => refusals::refused(r),
         Checked::Count(_) => match global_at(code, at) {
-            Callee::Bound(b) => code::tell(1, b as u64, 0, 0),
-            Callee::Unknown => code::tell(0, 0, 0, 0),
+            Callee::Bound(b) => refusals::tell(1, b as u64, 0, 0),
+            Callee::Unknown => refusals::tell(0, 0, 0, 0),
         },
     }
 }

@@ -1,4 +1,2 @@
--- The laws that several proofs cite.
-pub mod Words
-pub mod Store
-pub mod Nan
+pub mod Checks
+pub mod Kept

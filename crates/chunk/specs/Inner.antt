@@ -1,12 +1,13 @@
--- What only the inside of `chunk` needs: contracts of inner functions and proofs cite it, no promise does. Assumes nothing.
-use Prim.Native.Nat.{ℕ, _≤_, _<_}
-use mathlib.Core.List.{List}
-use lib.ListN.{length}
+-- What only the inside of `lent` needs: contracts of inner functions and proofs cite it, no promise does. Assumes nothing.
+use Prim.Native.Nat.{ℕ, _+_, _/_}
+use mathlib.Core.Bool.{Bool, false, cond, _&&_}
+use lib.Dec.{leb, ltb}
+use Rattle.chunk.specs.declared.Counts.{Counts}
+use Rattle.chunk.specs.declared.Lens.{Lens}
 
--- the constants are there, with room for one more where one may come
-pub record PushRoom (kinds words : List ℕ) (count : ℕ) : Type 0 where
-  pub few : count ≤ 65536
-  pub kinds-there : count ≤ length kinds
-  pub words-there : count ≤ length words
-  pub kinds-more : count < 65535 → count < length kinds
-  pub words-more : count < 65535 → count < length words
+-- room for any chunk of n instructions
+unfoldable pub ample : ℕ → Counts → Lens → Bool
+ample n c l =
+    cond (ltb 65536 (c .constants)) false
+    (leb (c .constants + n) (l .kinds) && leb (c .constants + n) (l .words) && (leb n (l .map) && leb n (l .sources / 2) && leb (c .sources) (l .sources))
+    && leb n (l .dead) && ltb n (l .remap))

@@ -1,3 +1,4 @@
--- The constant pool: what a constant is as an operand, and where a result goes.
-pub mod Pool
+pub mod Chunk
+pub mod Tables
+pub mod Check
 pub mod Inner

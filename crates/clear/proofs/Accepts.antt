@@ -9,18 +9,18 @@ use lib.ListN.{length}
 use borrow.Author.Tests.{le-ltb}
 use Rattle.laws.specs.All.{every, many}
 use Rattle.laws.proofs.Branch.{and-true}
-use Rattle.code.specs.Check.{pairs, firstBadTry, triedOf, roomOf}
-use Rattle.code.specs.declared.Refusal.the-variants.{Try}
-use Rattle.code.specs.Op.{Phi}
-use Rattle.code.specs.declared.Checked.{Checked}
-use Rattle.code.specs.declared.Checked.the-variants.{Count, No}
-use Rattle.code.proofs.Stages.{room-before, room-there}
-use Rattle.lent.specs.Chunk.{chunkCount, isPhi}
-use Rattle.lent.specs.Tables.{constantKept, within, constantsKept, mapKept, pairsKept, tableOf}
-use Rattle.lent.specs.Check.{chunkCheckOf, tablesOf, tallyOf, constantRoom, sourceRoom, roomsOf, readyOf}
-use Rattle.lent.specs.declared.Counts.{Counts}
-use Rattle.lent.specs.declared.Lens.{Lens}
-use Rattle.lent.proofs.Kept.{few, kinds-there, words-there}
+use Rattle.refusals.specs.Stages.{pairs, firstBadTry, triedOf, roomOf}
+use Rattle.refusals.specs.declared.Refusal.the-variants.{Try}
+use Rattle.ops.specs.Op.{Phi}
+use Rattle.refusals.specs.declared.Checked.{Checked}
+use Rattle.refusals.specs.declared.Checked.the-variants.{Count, No}
+use Rattle.refusals.proofs.Stages.{room-before, room-there}
+use Rattle.chunk.specs.Chunk.{chunkCount, isPhi}
+use Rattle.chunk.specs.Tables.{constantKept, within, constantsKept, mapKept, pairsKept, tableOf}
+use Rattle.chunk.specs.Check.{chunkCheckOf, tablesOf, tallyOf, constantRoom, sourceRoom, roomsOf, readyOf}
+use Rattle.chunk.specs.declared.Counts.{Counts}
+use Rattle.chunk.specs.declared.Lens.{Lens}
+use Rattle.chunk.proofs.Kept.{few, kinds-there, words-there}
 use Rattle.named.specs.Unused.{constantNamed, before, pooled, recoded}
 use Rattle.laws.proofs.Counting.{many-ext}
 use Rattle.clear.proofs.Tested.{table-met, check-met, whole-of}
@@ -117,7 +117,8 @@ module _ (n : ℕ) (w tries kinds words : List ℕ) (c : Counts) (l : Lens) wher
   accepted-after landings e =
       let r₇ = room-met n (roomsOf (tablesOf (triedOf (chunkCheckOf w) tries) (chunkCount w) kinds words c l) w c l) 7 landings (chunkCount w + 1) e in
       let s₆ =
-      rooms-again (tablesOf (triedOf (chunkCheckOf w) tries) (chunkCount w) kinds words c l) (tablesOf (triedOf (chunkCheckOf w′) tries) (chunkCount w′) kinds′ words′
+      rooms-again (tablesOf (triedOf (chunkCheckOf w) tries) (chunkCount w) kinds words c l) (tablesOf (triedOf (chunkCheckOf w′) tries) (chunkCount w′) kinds′
+      words′
       (countsAfter w c) l) tables-again (r₇ .0)
       in
       room-on n (roomsOf (tablesOf (triedOf (chunkCheckOf w′) tries) (chunkCount w′) kinds′ words′ (countsAfter w c) l) w′ (countsAfter w c) l) 7 landings

@@ -9,14 +9,14 @@ use lib.Dec.{eqb, ltb}
 use lib.ListN.{length, getD}
 use borrow.Author.Tests.{lt-ltb, le-ltb}
 use Rattle.laws.specs.Some.{some}
-use Rattle.code.specs.Op.{LoadConst}
-use Rattle.lent.specs.Chunk.{stride, chunkCount, opAt, markAt, operandAt, marksJump, names, isPhi, lands}
+use Rattle.ops.specs.Op.{LoadConst}
+use Rattle.chunk.specs.Chunk.{stride, chunkCount, opAt, markAt, operandAt, marksJump, names, isPhi, lands}
 use Rattle.values.specs.Folds.{foldBinop}
 use Rattle.values.specs.declared.Val.{Val}
 use Rattle.values.specs.declared.Maybe.{Maybe}
 use Rattle.values.specs.declared.Maybe.the-variants.{Is, Nothing}
 use Rattle.values.specs.declared.Op.{Op}
-use Rattle.chunk.specs.Pool.{constToVal}
+use Rattle.pool.specs.Pool.{constToVal}
 use Rattle.landings.specs.Landings.{landsAny, handlesAny, barred}
 use Rattle.fold.specs.Pass.{byScan}
 use Rattle.fold.specs.Plan.{Chunk, kindOf, prevLive, operandOf, skipsInto, blocked, withFound, withVal, foldUnary, tryFoldBinop, tryFoldUnary, planFor, planAt}

@@ -11,12 +11,12 @@ use mir.Syntax.{w64}
 use mir.Val.{ofZ}
 use lib.Ieee.{binary64, toBits}
 use borrow.Author.Tests.{eqb-true}
-use Rattle.code.specs.Op.{LoadConst, LoadTrue, LoadFalse, Phi}
-use Rattle.lent.specs.Chunk.{chunkCount, operandAt, names}
+use Rattle.ops.specs.Op.{LoadConst, LoadTrue, LoadFalse, Phi}
+use Rattle.chunk.specs.Chunk.{chunkCount, operandAt, names}
 use Rattle.values.specs.declared.Val.{Val}
 use Rattle.values.specs.declared.Val.the-variants.{Int, Float as Real, Bool as Truth}
-use Rattle.chunk.specs.Pool.{Stored, stored, findOrPush, findOrPushConst}
-use Rattle.chunk.specs.declared.Kept.the-variants.{At}
+use Rattle.pool.specs.Pool.{Stored, stored, findOrPush, findOrPushConst}
+use Rattle.pool.specs.declared.Kept.the-variants.{At}
 use Rattle.fold.specs.Plan.{Chunk, chunk, planAt}
 use Rattle.fold.specs.Pass.{loadOf, constLoad, markOf, put, landed, applied, tryFold}
 use Rattle.fold.specs.Inner.{OperatorRoom}
@@ -186,7 +186,8 @@ applied-sim bars i s t z few r r′ (Put p q v) e f =
     put-sim z p q i (omega (arith, x .first, r .readable .here)) v few (m .kinds-more few) (m .words-more few) (m′ .kinds-more (omega arith))
     (m′ .words-more (omega arith))
 
-pub try-sim : {limit : ℕ} (bars : ℕ → Bool) (i : ℕ) (s t : Chunk) → Sim limit s t → s .constants ≤ limit → s .constants < 65535 → OperatorRoom s i → OperatorRoom t i
+pub try-sim : {limit : ℕ} (bars : ℕ → Bool) (i : ℕ) (s t : Chunk) → Sim limit s t → s .constants ≤ limit → s .constants < 65535 → OperatorRoom s i
+    → OperatorRoom t i
     → Sim limit (tryFold bars i s) (tryFold bars i t)
 try-sim {limit} bars i s t z low few r r′ = go (eqb (getD (s .dead) i 0) 0) refl
   where

@@ -17,7 +17,7 @@ use Rattle.laws.specs.Some.{some}
 use Rattle.laws.proofs.Branch.{and-true}
 use Rattle.laws.proofs.Many.{many-few}
 use Rattle.laws.proofs.Some.{passes-at}
-use Rattle.lent.specs.Chunk.{chunkCount, operandAt, names}
+use Rattle.chunk.specs.Chunk.{chunkCount, operandAt, names}
 use Rattle.named.specs.Unused.{namesIt, constantNamed, packedAt, packedList, pooled}
 
 below-suc : (i m : ℕ) → i < suc m → i ≤ m

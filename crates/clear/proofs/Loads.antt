@@ -13,7 +13,7 @@ use borrow.Author.Tests.{lt-ltb, le-ltb, ltb-true, ltb-false}
 use Rattle.laws.specs.Each.{each}
 use Rattle.laws.proofs.Many.{many-few}
 use Rattle.laws.proofs.Each.{each-length}
-use Rattle.lent.specs.Chunk.{stride, chunkCount, opAt, markAt, operandAt, originAt, names}
+use Rattle.chunk.specs.Chunk.{stride, chunkCount, opAt, markAt, operandAt, originAt, names}
 use Rattle.named.specs.Unused.{constantNamed, before, pooled, renumbered, renamedOperand, insOf, recoded, loaded}
 use Rattle.clear.proofs.Kept.{named-by, in-order, pooled-kept}
 
@@ -115,7 +115,8 @@ loads-same w l m k h n = go (ltb (operandAt w k) m) refl
         ∙ ap (λ (x : ℕ). x ∷ []) (pooled-kept (constantNamed w) m l v q y)
         ∙ sym (loaded-in l m v q)
 
-    go : (b : Bool) → ltb (operandAt w k) m ≡ b → loaded (pooled (constantNamed w) m l) (before w m) (operandAt (recoded (before w) m w) k) ≡ loaded l m (operandAt w k)
+    go : (b : Bool) → ltb (operandAt w k) m ≡ b → loaded (pooled (constantNamed w) m l) (before w m) (operandAt (recoded (before w) m w) k) ≡ loaded l m
+        (operandAt w k)
     go true e =
         let q = ltb-true (operandAt w k) m e in
         ap (loaded (pooled (constantNamed w) m l) (before w m)) (near-moves (before w) m w k h n q) ∙ near q

@@ -15,9 +15,9 @@ use Rattle.laws.specs.Walk.{first}
 use Rattle.laws.proofs.Branch.{and-true}
 use Rattle.laws.proofs.Many.{many-few, many-more}
 use Rattle.laws.proofs.Walk.{none-passed, first-passes}
-use Rattle.chunk.specs.Pool.{equals, position, stored, findOrPush}
-use Rattle.chunk.specs.declared.Kept.the-variants.{At}
-use Rattle.chunk.proofs.Store.{found, pushed}
+use Rattle.pool.specs.Pool.{equals, position, stored, findOrPush}
+use Rattle.pool.specs.declared.Kept.the-variants.{At}
+use Rattle.pool.proofs.Store.{found, pushed}
 use Rattle.laws.proofs.Counting.{many-ext}
 
 pub cases : {X : Type 0} (a b : ℕ) → (a ≡ b → X) → ((a ≡ b → ⊥) → X) → X

@@ -6,8 +6,8 @@ use mathlib.Core.List.{List}
 use lib.ListN.{length}
 use Rattle.laws.specs.All.{many}
 use Rattle.laws.proofs.Many.{many-few}
-use Rattle.lent.specs.Chunk.{chunkCount, opAt, folds}
-use Rattle.lent.specs.Check.{constantRoom}
+use Rattle.chunk.specs.Chunk.{chunkCount, opAt, folds}
+use Rattle.chunk.specs.Check.{constantRoom}
 use Rattle.fold.specs.Plan.{Chunk, chunk}
 use Rattle.fold.specs.Inner.{PassRoom}
 use Rattle.named.specs.Unused.{constantNamed, before, pooled, recoded}
@@ -23,7 +23,8 @@ no-more w m = many-few (constantNamed w) m
 abbrev pub clearedChunk : Chunk → Chunk
 clearedChunk s =
     let w = s .code in
-    chunk (recoded (before w) (s .constants) w) (s .dead) (pooled (constantNamed w) (s .constants) (s .kinds)) (pooled (constantNamed w) (s .constants) (s .words))
+    chunk (recoded (before w) (s .constants) w) (s .dead) (pooled (constantNamed w) (s .constants) (s .kinds)) (pooled (constantNamed w) (s .constants)
+    (s .words))
     (before w (s .constants))
 
 pub operators-same : (number : ℕ → ℕ) (m : ℕ) (w : List ℕ)
@@ -46,6 +47,8 @@ room-after s x =
     record {
       few = omega (arith, x .few);
       marks = rw (recoded-count (before w) m w) (x .marks);
-      kinds-room = rw (operators-same (before w) m w, pooled-length (constantNamed w) m (s .kinds) (omega arith)) (room-down (before w m) m f (length (s .kinds)) h z);
-      words-room = rw (operators-same (before w) m w, pooled-length (constantNamed w) m (s .words) (omega arith)) (room-down (before w m) m f (length (s .words)) h y);
+      kinds-room = rw (operators-same (before w) m w, pooled-length (constantNamed w) m (s .kinds) (omega arith))
+          (room-down (before w m) m f (length (s .kinds)) h z);
+      words-room = rw (operators-same (before w) m w, pooled-length (constantNamed w) m (s .words) (omega arith))
+          (room-down (before w m) m f (length (s .words)) h y);
     }

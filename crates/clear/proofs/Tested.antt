@@ -9,18 +9,18 @@ use lib.ListN.{length}
 use borrow.Author.Tests.{eqb-true, not-false}
 use Rattle.laws.specs.All.{every}
 use Rattle.laws.proofs.Branch.{and-true, or-false}
-use Rattle.code.proofs.Answers.{refused, told}
-use Rattle.code.proofs.Stages.{room-before, room-there}
-use Rattle.code.specs.Answers.{answerOf, refusedOf}
-use Rattle.code.specs.declared.Answer.{Answer}
-use Rattle.code.specs.declared.Refusal.{Refusal}
-use Rattle.code.specs.declared.Refusal.the-variants.{Length, Table}
-use Rattle.code.specs.declared.Checked.{Checked}
-use Rattle.code.specs.declared.Checked.the-variants.{Count, No as Refused}
-use Rattle.lent.specs.Chunk.{stride, chunkCount}
-use Rattle.lent.specs.Tables.{constantKept, within, constantsKept, tableOf}
-use Rattle.lent.specs.Check.{unevenChunk, chunkCheckOf}
-use Rattle.lent.proofs.Kept.{few, kinds-there, words-there}
+use Rattle.refusals.proofs.Answers.{refused, told}
+use Rattle.refusals.proofs.Stages.{room-before, room-there}
+use Rattle.refusals.specs.Answers.{answerOf, refusedOf}
+use Rattle.refusals.specs.declared.Answer.{Answer}
+use Rattle.refusals.specs.declared.Refusal.{Refusal}
+use Rattle.refusals.specs.declared.Refusal.the-variants.{Length, Table}
+use Rattle.refusals.specs.declared.Checked.{Checked}
+use Rattle.refusals.specs.declared.Checked.the-variants.{Count, No as Refused}
+use Rattle.chunk.specs.Chunk.{stride, chunkCount}
+use Rattle.chunk.specs.Tables.{constantKept, within, constantsKept, tableOf}
+use Rattle.chunk.specs.Check.{unevenChunk, chunkCheckOf}
+use Rattle.chunk.proofs.Kept.{few, kinds-there, words-there}
 use Rattle.clear.specs.Clear.{Is, No, PoolBuffers, clearOutcome, cleared, clearReadyOf, clearCall, ClearTold}
 use Rattle.clear.specs.Inner.{ClearRoom}
 
@@ -68,7 +68,8 @@ module _ (b : PoolBuffers) (m : ℕ) (v : Checked) (e : v ≡ clearReadyOf b m) 
         is = z;
       }
 
-  pub told-by : (n left : ℕ) (b′ : PoolBuffers) (r : Answer) → v ≡ Count n → clearOutcome (Is left) b′ ≡ cleared b m → r ≡ answerOf left 0 0 0 → ClearTold b m r b′
+  pub told-by : (n left : ℕ) (b′ : PoolBuffers) (r : Answer) → v ≡ Count n → clearOutcome (Is left) b′ ≡ cleared b m → r ≡ answerOf left 0 0 0
+      → ClearTold b m r b′
   unfolding clearCall
   told-by n left b′ r h g z =
       record {

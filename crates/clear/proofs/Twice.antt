@@ -16,12 +16,12 @@ use Rattle.laws.specs.Walk.{first}
 use Rattle.laws.proofs.Branch.{and-true}
 use Rattle.laws.proofs.Each.{each-word}
 use Rattle.laws.proofs.Many.{many-few}
-use Rattle.code.specs.declared.Checked.{Checked}
-use Rattle.code.specs.declared.Checked.the-variants.{Count, No as Refused}
-use Rattle.code.proofs.Stages.{room-before}
-use Rattle.lent.specs.Chunk.{stride, chunkCount, operandAt, names, breaksAt}
-use Rattle.lent.specs.Tables.{constantKept, within, constantsKept, tableOf}
-use Rattle.lent.specs.Check.{firstBadOf, chunkCheckOf}
+use Rattle.refusals.specs.declared.Checked.{Checked}
+use Rattle.refusals.specs.declared.Checked.the-variants.{Count, No as Refused}
+use Rattle.refusals.proofs.Stages.{room-before}
+use Rattle.chunk.specs.Chunk.{stride, chunkCount, operandAt, names, breaksAt}
+use Rattle.chunk.specs.Tables.{constantKept, within, constantsKept, tableOf}
+use Rattle.chunk.specs.Check.{firstBadOf, chunkCheckOf}
 use Rattle.laws.proofs.Counting.{every-at}
 use Rattle.named.specs.Unused.{constantNamed, before, packedList, pooled, renamedOperand, recoded, numbered}
 use Rattle.clear.specs.Clear.{Is, No, PoolBuffers, ClearOutcome, clearOutcome, cleared, clearReadyOf, clearCall}
@@ -31,7 +31,17 @@ use Rattle.clear.proofs.Whole.{numbered-ext}
 use Rattle.named.proofs.Recoding.{Recoding, recoding-none, recoding-more, recoding-done}
 use Rattle.clear.proofs.Tested.{held-of, table-met}
 use Rattle.clear.proofs.Kept.{named-by, naming, onto, pooled-kept, pooled-length}
-use Rattle.clear.proofs.Loads.{recoded-length, recoded-count, recoded-op, recoded-mark, recoded-names, near-moves, operand-unmarked, operand-far, operand-near}
+use Rattle.clear.proofs.Loads.{
+  recoded-length,
+  recoded-count,
+  recoded-op,
+  recoded-mark,
+  recoded-names,
+  near-moves,
+  operand-unmarked,
+  operand-far,
+  operand-near,
+}
 
 -- ---- where every constant is named, nothing moves
 
@@ -93,7 +103,8 @@ module _ (w : List ℕ) (m : ℕ) where
       (λ k h. same-operand k)
 
   pool-again : (l : List ℕ) → m ≤ length l → pooled (constantNamed after) (before w m) (pooled (constantNamed w) m l) ≡ pooled (constantNamed w) m l
-  pool-again l h = pooled-all (constantNamed after) (before w m) (pooled (constantNamed w) m l) all-named (omega (arith, pooled-length (constantNamed w) m l h, many-few (constantNamed w) m))
+  pool-again l h = pooled-all (constantNamed after) (before w m) (pooled (constantNamed w) m l) all-named
+      (omega (arith, pooled-length (constantNamed w) m l h, many-few (constantNamed w) m))
 
 -- the same count, code, kinds and words; the scratch counts from 0 up to the constants that are left, and stays as lent past them
 pub record Again (b : PoolBuffers) (r : ℕ) (o : ClearOutcome) : Type 0 where
@@ -147,13 +158,16 @@ module _ (w kinds words : List ℕ) (m : ℕ) (hk : m ≤ length kinds) (hw : m 
       (pooled (constantNamed w) m words) j ≡ true
   entry-kept e j h =
       let p = onto (constantNamed w) m j h in
-      let k : getD (pooled (constantNamed w) m kinds) j 0 ≡ getD kinds (p .place) 0 = ap (λ (x : ℕ). getD (pooled (constantNamed w) m kinds) x 0) (sym (p .number))
+      let k : getD (pooled (constantNamed w) m kinds) j 0 ≡ getD kinds (p .place) 0 = ap (λ (x : ℕ). getD (pooled (constantNamed w) m kinds) x 0)
+      (sym (p .number))
       ∙ pooled-kept (constantNamed w) m kinds (p .place) (p .below) (p .passes) in
-      let v : getD (pooled (constantNamed w) m words) j 0 ≡ getD words (p .place) 0 = ap (λ (x : ℕ). getD (pooled (constantNamed w) m words) x 0) (sym (p .number))
+      let v : getD (pooled (constantNamed w) m words) j 0 ≡ getD words (p .place) 0 = ap (λ (x : ℕ). getD (pooled (constantNamed w) m words) x 0)
+      (sym (p .number))
       ∙ pooled-kept (constantNamed w) m words (p .place) (p .below) (p .passes) in
       rw (k, v) (every-at (constantKept kinds words) m (p .place) e (p .below))
 
-  pub constants-same : every (constantKept kinds words) m ≡ true → constantsKept (pooled (constantNamed w) m kinds) (pooled (constantNamed w) m words) (before w m) ≡ true
+  pub constants-same : every (constantKept kinds words) m ≡ true → constantsKept (pooled (constantNamed w) m kinds) (pooled (constantNamed w) m words)
+      (before w m) ≡ true
   constants-same e =
       let f = many-few (constantNamed w) m in
       let a : before w m ≤ 65536 = omega arith in

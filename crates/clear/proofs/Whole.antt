@@ -12,11 +12,11 @@ use Rattle.laws.specs.All.{many}
 use Rattle.laws.specs.Each.{each}
 use Rattle.laws.proofs.Many.{many-few}
 use Rattle.laws.proofs.Each.{each-ext, each-word, each-at}
-use Rattle.code.specs.Check.{roomOf}
-use Rattle.code.specs.declared.Checked.{Checked}
-use Rattle.lent.specs.Chunk.{chunkCount, operandAt, markAt, opAt, originAt, names}
-use Rattle.lent.specs.Tables.{constantsKept, tableOf}
-use Rattle.lent.specs.Check.{chunkCheckOf}
+use Rattle.refusals.specs.Stages.{roomOf}
+use Rattle.refusals.specs.declared.Checked.{Checked}
+use Rattle.chunk.specs.Chunk.{chunkCount, operandAt, markAt, opAt, originAt, names}
+use Rattle.chunk.specs.Tables.{constantsKept, tableOf}
+use Rattle.chunk.specs.Check.{chunkCheckOf}
 use Rattle.laws.proofs.Counting.{many-ext}
 use Rattle.named.specs.Unused.{constantNamed, before, packedAt, packedList, pooled, renumbered, renamedOperand, insOf, recoded, numbered}
 use Rattle.named.specs.Inner.{NamedMarks, markedIn, LowNumbers, numberIn}
@@ -95,7 +95,8 @@ pub all-of-it : (code kinds words scratch : List ℕ) (m r : ℕ) (code′ kinds
 unfolding cleared
 all-of-it code kinds words scratch m r code′ kinds′ words′ scratch′ kinds″ words″ marks x d e f g =
     let t = marked-named x in
-    let below : (i : ℕ) → i < m → many (markedIn marks) i ≡ before code i = λ i h. many-ext (markedIn marks) (constantNamed code) i (λ j q. t j (omega arith)) in
+    let below : (i : ℕ) → i < m → many (markedIn marks) i ≡ before code i = λ i h. many-ext (markedIn marks) (constantNamed code) i (λ j q. t j (omega arith))
+    in
     let a : r ≡ before code m = d .count ∙ many-ext (markedIn marks) (constantNamed code) m t in
     let k : kinds″ ≡ pooled (constantNamed code) m kinds = moved-pool (markedIn marks) m r kinds kinds′ kinds″ (d .count) (d .kinds-moved) e
     ∙ pooled-ext (markedIn marks) (constantNamed code) m t kinds in

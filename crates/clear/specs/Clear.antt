@@ -3,13 +3,13 @@ use Prim.Native.Nat.{ℕ}
 use mathlib.Core.Path.{_≡_}
 use mathlib.Core.List.{List}
 use lib.ListN.{length}
-use Rattle.code.specs.Answers.{asked, answerOf, refusedOf}
-use Rattle.code.specs.Check.{roomOf}
-use Rattle.code.specs.declared.Answer.{Answer}
-use Rattle.code.specs.declared.Checked.{Checked}
-use Rattle.code.specs.declared.Refusal.{Refusal}
-use Rattle.lent.specs.Tables.{constantsKept, tableOf}
-use Rattle.lent.specs.Check.{chunkCheckOf}
+use Rattle.refusals.specs.Answers.{asked, answerOf, refusedOf}
+use Rattle.refusals.specs.Stages.{roomOf}
+use Rattle.refusals.specs.declared.Answer.{Answer}
+use Rattle.refusals.specs.declared.Checked.{Checked}
+use Rattle.refusals.specs.declared.Refusal.{Refusal}
+use Rattle.chunk.specs.Tables.{constantsKept, tableOf}
+use Rattle.chunk.specs.Check.{chunkCheckOf}
 use Rattle.named.specs.Unused.{constantNamed, before, pooled, recoded, numbered}
 
 -- how many constants there are then, or the refusal
@@ -24,6 +24,7 @@ pub record PoolBuffers : Type 0 where
   pub words : List ℕ
   pub scratch : List ℕ
 
+-- these four buffers as one record
 abbrev pub poolBuffers : (code kinds words scratch : List ℕ) → PoolBuffers
 poolBuffers code kinds words scratch = record { code = code; kinds = kinds; words = words; scratch = scratch }
 
@@ -32,6 +33,7 @@ pub record ClearOutcome : Type 0 where
   pub answer : ClearAnswer
   pub after : PoolBuffers
 
+-- this answer, with what the buffers hold then
 abbrev pub clearOutcome : ClearAnswer → PoolBuffers → ClearOutcome
 clearOutcome a b = record { answer = a; after = b }
 

@@ -6,7 +6,7 @@ use mathlib.Core.List.{List, _++_}
 use lib.ListN.{take, drop, replicate, length}
 use Rattle.laws.specs.All.{many}
 use Rattle.named.specs.Unused.{packedList, numbered}
-use Rattle.lent.specs.Chunk.{stride, chunkCount}
+use Rattle.chunk.specs.Chunk.{stride, chunkCount}
 use Rattle.clear.specs.Clear.{PoolBuffers}
 
 -- r of the first m entries stand at the front, and those past m where they were

@@ -5,8 +5,8 @@ ghost use lib.ListN.{length};
 ghost use Rattle.named.specs.Inner.{markedIn};
 ghost use Rattle.clear.specs.Inner.{Down, freed, ClearRoom};
 ghost use Rattle.clear.specs.Clear.{Is, poolBuffers, clearOutcome, cleared, clearReadyOf, ClearTold};
-use code::Answer;
-use code::Checked;
+use refusals::Answer;
+use refusals::Checked;
 
 // Each marked constant moves down in place, and scratch takes its new number. Answers how many there are.
 fn keep(kinds: &mut [u8], words: &mut [u64], scratch: &mut [u32], m: usize) -> usize
@@ -67,9 +67,9 @@ fn clear_unused(
 fn ready(code: &[u16], kinds: &[u8], words: &[u64], scratch: &[u32], constants: usize) -> Checked
     ensures { λ r. ⌜ r ≡ clearReadyOf (poolBuffers (now (code .entry)) (now (kinds .entry)) (now (words .entry)) (now (scratch .entry))) constants ⌝ }
 {
-    let v = lent::check(code);
-    let v = lent::table(v, 1, lent::constants_kept(kinds, words, constants));
-    code::room(v, 1, scratch.len(), constants)
+    let v = chunk::check(code);
+    let v = chunk::table(v, 1, chunk::constants_kept(kinds, words, constants));
+    refusals::room(v, 1, scratch.len(), constants)
 }
 
 // The clearing call.
@@ -84,10 +84,10 @@ pub fn clear(
         (poolBuffers (now (code .exit)) (now (kinds .exit)) (now (words .exit)) (now (scratch .exit))) ⌝ }
 {
     match ready(code, kinds, words, scratch, constants) {
-        Checked::No(r) => code::refused(r),
+        Checked::No(r) => refusals::refused(r),
         Checked::Count(_) => {
             let left = clear_unused(code, kinds, words, scratch, constants);
-            code::tell(left as u64, 0, 0, 0)
+            refusals::tell(left as u64, 0, 0, 0)
         }
     }
 }

@@ -11,9 +11,9 @@ use Rattle.code.specs.Ins.{count}
 use Rattle.code.specs.Rules.{ruleAt}
 use Rattle.code.specs.Check.{uneven, firstBad, checkOf}
 use Rattle.code.specs.Inner.{Valid}
-use Rattle.code.specs.declared.Refusal.the-variants.{Length, Record}
-use Rattle.code.specs.declared.Checked.{Checked}
-use Rattle.code.specs.declared.Checked.the-variants.{Count, No}
+use Rattle.refusals.specs.declared.Refusal.the-variants.{Length, Record}
+use Rattle.refusals.specs.declared.Checked.{Checked}
+use Rattle.refusals.specs.declared.Checked.the-variants.{Count, No}
 use Rattle.laws.proofs.Branch.{or-false}
 use Rattle.laws.proofs.Walk.{none-passed}
 
@@ -34,7 +34,12 @@ module _ (w : List ℕ) (k : ℕ) (found : k ≡ firstBad w) (even : uneven w �
   accepted h = rw (even, ← found, le-ltb k (count w) h)
 
   pub valid : count w ≤ k → Valid w
-  valid h = record { whole = whole w even; few = few w even; kept = λ j l. not-false _ (none-passed (λ i. not (ruleAt w i)) j (count w) 0 (rw (← found) (omega arith)) (omega arith) (omega arith)) }
+  valid h = record {
+    whole = whole w even;
+    few = few w even;
+    kept = λ j l. not-false _ (none-passed (λ i. not (ruleAt w i)) j (count w) 0
+        (rw (← found) (omega arith)) (omega arith) (omega arith));
+  }
 
 -- what a caller learns of `check`
 module _ (w : List ℕ) (n : ℕ) where

@@ -4,7 +4,7 @@ use mathlib.Core.Bool.{Bool, true, false, not, _&&_, _||_, false≢true}
 use Prim.Native.Nat.{ℕ, _≤_}
 use lib.Dec.{leb}
 use borrow.Author.Tests.{leb-true, eqb-true}
-use Rattle.code.specs.Op.{last, ArgsR}
+use Rattle.ops.specs.Op.{last, ArgsR}
 use Rattle.code.specs.Ins.{isCall, wide}
 use Rattle.code.specs.Rules.{opKnown, marksFit, xFits, pushFits, unpackFits, argsFit, followed, enterFits, exitFits, rules}
 use Rattle.code.specs.declared.Ins.{Ins}

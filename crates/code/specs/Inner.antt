@@ -6,7 +6,7 @@ use mathlib.Core.List.{List}
 use lib.ListN.{length}
 use Rattle.code.specs.Rules.{ruleAt}
 use lib.Dec.{eqb}
-use Rattle.code.specs.Op.{PushRegs, UnpackR, ArgsR, WithEnter, WithExit}
+use Rattle.ops.specs.Op.{PushRegs, UnpackR, ArgsR, WithEnter, WithExit}
 use Rattle.code.specs.Ins.{isCall}
 
 -- a multiple of the stride

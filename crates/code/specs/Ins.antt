@@ -4,7 +4,7 @@ use mathlib.Core.Bool.{Bool, _||_}
 use mathlib.Core.List.{List}
 use lib.Dec.{eqb}
 use lib.ListN.{getD, length}
-use Rattle.code.specs.Op.{CallGlobalR, CallR, CallMethodR, CallSpreadR}
+use Rattle.ops.specs.Op.{CallGlobalR, CallR, CallMethodR, CallSpreadR}
 use Rattle.code.specs.declared.Ins.{Ins}
 
 -- six words an instruction: opcode, marks, a, b, c, x; past the end, zeros

@@ -1,10 +1,9 @@
--- The record rules, in document 01's order, and the rule of a try. Assumes nothing.
-use Prim.Native.Nat.{ℕ, _+_, _*_, min}
+-- The record rules, in document 01's order. Assumes nothing.
+use Prim.Native.Nat.{ℕ, _+_}
 use mathlib.Core.Bool.{Bool, not, _&&_, _||_}
 use mathlib.Core.List.{List}
 use lib.Dec.{leb, ltb, eqb}
-use lib.ListN.{getD, length}
-use Rattle.code.specs.Op.{last, PushRegs, UnpackR, ArgsR, WithEnter, WithExit}
+use Rattle.ops.specs.Op.{last, PushRegs, UnpackR, ArgsR, WithEnter, WithExit}
 use Rattle.code.specs.Ins.{insAt, isCall, wide}
 use Rattle.code.specs.declared.Ins.{Ins}
 
@@ -49,9 +48,6 @@ unfoldable pub rules : Ins → ℕ → ℕ → Bool
 rules i k next =
     opKnown i && marksFit i && xFits i && pushFits i && unpackFits i && argsFit i k && followed i next && enterFits i && exitFits i
 
+-- the instruction at k keeps every rule
 abbrev pub ruleAt : List ℕ → ℕ → Bool
 ruleAt w k = rules (insAt w k) k (insAt w (k + 1) .op)
-
--- pair i of the tries is whole, and its s is at most the smaller of h and n
-unfoldable pub tryKept : List ℕ → ℕ → ℕ → Bool
-tryKept t n i = ltb (2 * i + 1) (length t) && leb (getD t (2 * i) 0) (min (getD t (2 * i + 1) 0) n)

@@ -11,7 +11,7 @@ use borrow.Author.Tests.{ltb-true, ltb-false, eqb-true, eq-eqb}
 use mir.Val.{boolByte}
 use Rattle.laws.specs.All.{many}
 use Rattle.laws.specs.Each.{each}
-use Rattle.lent.specs.Chunk.{stride, opAt, markAt, operandAt, originAt}
+use Rattle.chunk.specs.Chunk.{stride, opAt, markAt, operandAt, originAt}
 use Rattle.laws.proofs.Counting.{many-le, zeros-at}
 use Rattle.positions.specs.Remap.{alive, live}
 use Rattle.compact.specs.Tables.{movedOperand, wordsOf, leftAt, left, compacted}

@@ -11,7 +11,7 @@ use Rattle.laws.specs.Each.{each}
 use Rattle.laws.proofs.Many.{many-few}
 use Rattle.laws.proofs.Each.{each-more}
 use Rattle.laws.proofs.InPlace.{Walked, walk-none, walk-read, walk-pass, walk-put, walk-three, walk-at, walk-as, walk-count}
-use Rattle.lent.specs.Chunk.{stride, opAt, markAt, operandAt, originAt, marksJump}
+use Rattle.chunk.specs.Chunk.{stride, opAt, markAt, operandAt, originAt, marksJump}
 use Rattle.positions.specs.Remap.{alive, live, mapped}
 use Rattle.positions.proofs.Moves.{live-on, live-off}
 use Rattle.compact.specs.Tables.{movedOperand, wordsOf, leftAt, left, compacted}

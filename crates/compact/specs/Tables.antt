@@ -4,7 +4,7 @@ use mathlib.Core.Bool.{cond}
 use mathlib.Core.List.{List, [], _∷_, _++_}
 use lib.ListN.{length, replicate}
 use Rattle.laws.specs.Each.{each}
-use Rattle.lent.specs.Chunk.{opAt, markAt, operandAt, originAt, marksJump}
+use Rattle.chunk.specs.Chunk.{opAt, markAt, operandAt, originAt, marksJump}
 use Rattle.positions.specs.Remap.{alive, mapped}
 
 -- a jump operand maps

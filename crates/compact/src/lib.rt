@@ -2,20 +2,20 @@
 ghost use mathlib.Core.Path.{_≡_};
 ghost use Prim.Native.Nat.{_+_, _*_, _%_, _≤_, _<_};
 ghost use lib.ListN.{length, set};
-ghost use Rattle.lent.specs.Chunk.{stride, chunkCount, opAt, markAt, originAt};
+ghost use Rattle.chunk.specs.Chunk.{stride, chunkCount, opAt, markAt, originAt};
 ghost use Rattle.positions.specs.Remap.{live};
 ghost use Rattle.positions.specs.Inner.{Remap};
 ghost use Rattle.compact.specs.Tables.{movedOperand, compacted};
 ghost use Rattle.compact.specs.Inner.{Compacted};
-use lent::STRIDE;
+use chunk::STRIDE;
 
 // The operand of instruction i: a jump's follows.
 fn operand_of(code: &[u16], dead: &[u8], remap: &[u32], i: usize) -> u16
     requires { ⌜ (i < chunkCount (now code)) × Remap (now dead) (now remap) ⌝ }
     ensures { λ r. ⌜ r ≡ movedOperand (now (dead .entry)) (now (code .entry)) i ⌝ }
 {
-    let v = lent::operand_at(code, i);
-    if lent::is_jump(code, i) {
+    let v = chunk::operand_at(code, i);
+    if chunk::is_jump(code, i) {
         return positions::moved(dead, remap, v as u32) as u16;
     }
     v
@@ -28,10 +28,10 @@ fn shift(code: &mut [u16], dead: &[u8], remap: &[u32], i: usize, to: usize)
         (markAt (now (code .entry)) i)) (stride * to + 2) (movedOperand (now (dead .entry)) (now (code .entry)) i)) (stride * to + 3)
         (originAt (now (code .entry)) i) ⌝ }
 {
-    let op = lent::op_at(code, i);
-    let marks = lent::mark_at(code, i);
+    let op = chunk::op_at(code, i);
+    let marks = chunk::mark_at(code, i);
     let operand = operand_of(code, dead, remap, i);
-    let origin = lent::origin_at(code, i);
+    let origin = chunk::origin_at(code, i);
     code[STRIDE * to] = op;
     code[STRIDE * to + 1] = marks;
     code[STRIDE * to + 2] = operand;

@@ -4,8 +4,8 @@ use mathlib.Core.List.{List}
 use Prim.Native.Nat.{ℕ}
 use lib.ListN.{length}
 use Rattle.laws.specs.Table.{filledTo}
-use Rattle.code.specs.declared.Checked.{Checked}
-use Rattle.code.specs.declared.Checked.the-variants as stage
+use Rattle.refusals.specs.declared.Checked.{Checked}
+use Rattle.refusals.specs.declared.Checked.the-variants as stage
 use Rattle.blocks.specs.Blocks.{stepsOf}
 use Rattle.trace.specs.Trace.{verdictOf}
 use Rattle.day.specs.Count.{readsIn, levelsIn}
@@ -31,7 +31,8 @@ module _ (w : List ℕ) (regs : ℕ) (tries t old : List ℕ) where
   answer (stage.Count n) found.Fine = Is (stepsOf t) (levelsIn w t (stepsOf t))
 
   settled : {new : List ℕ} {r : DayAnswer} → Day w regs tries t old new r
-      → (new ≡ left (replayStages w regs tries (length old)) (verdictOf w tries t)) × (r ≡ answer (replayStages w regs tries (length old)) (verdictOf w tries t))
+      → (new ≡ left (replayStages w regs tries (length old)) (verdictOf w tries t)) × (r ≡ answer (replayStages w regs tries (length old))
+      (verdictOf w tries t))
   unfolding left answer
   settled (refused {r = r} e) = (sym (ap (λ (c : Checked). left c (verdictOf w tries t)) e), sym (ap (λ (c : Checked). answer c (verdictOf w tries t)) e))
   settled (check e f) = (sym (ap₂ left e f), sym (ap₂ answer e f))

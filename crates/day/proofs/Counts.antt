@@ -43,7 +43,11 @@ held-trans m x y z p q = record { same = q .same ∙ p .same; tail = q .tail ∙
 
 module _ (regs : ℕ) (l : List ℕ) (t : Bool) (r : ℕ) where
   pub bump-yes : CanRise regs l → not t ≡ false → r < regs → (x : ℕ) → x ≡ getD l r 0 → CountedOnce regs l (set l r (x + 1)) t r
-  bump-yes low e h x q = record { held = record { same = length-set l r (x + 1); tail = drop-set-lt regs l r (x + 1) h }; each = λ p k. rw (not-false t e) (at p (ℕ-discrete p r)) }
+  bump-yes low e h x q = record {
+    held = record { same = length-set l r (x + 1); tail = drop-set-lt regs l r (x + 1) h };
+    each = λ p k. rw (not-false t e)
+        (at p (ℕ-discrete p r));
+  }
     where
       at : (p : ℕ) → Dec (p ≡ r) → getD (set l r (x + 1)) p 0 ≡ getD l p 0 + boolByte (eqb p r)
       at p (yes f) = rw (f, eq-eqb r r refl) (getD-set-same l r (x + 1) 0 (omega (arith, low .room)) ∙ ap (λ (y : ℕ). y + 1) q)
@@ -75,7 +79,8 @@ low-second regs l l′ t r h b = record {
   );
 }
 
-pub low-third : (regs : ℕ) (l l′ l″ : List ℕ) (t : Bool) (r : ℕ) (u : Bool) (q : ℕ) → Lower regs l → CountedOnce regs l l′ t r → CountedOnce regs l′ l″ u q → CanRise regs l″
+pub low-third : (regs : ℕ) (l l′ l″ : List ℕ) (t : Bool) (r : ℕ) (u : Bool) (q : ℕ) → Lower regs l → CountedOnce regs l l′ t r → CountedOnce regs l′ l″ u q
+    → CanRise regs l″
 low-third regs l l′ l″ t r u q h b d = record {
   room = omega (arith, h .room, b .held .same, d .held .same);
   each = λ p k. omega (arith, h .each p k, b .each p k, byte-le (t && eqb p r), d .each p k, byte-le (u && eqb p q));
@@ -161,7 +166,10 @@ three-counts regs x y z u v r l l₁ l₂ l₃ b₁ b₂ b₃ = record {
 
 pub step-counts : (regs : ℕ) (w : List ℕ) (k : ℕ) (s : Step) → StepAt w k s → (u v r : ℕ) → u ≡ s .a → v ≡ s .b → r ≡ s .c → (l l′ : List ℕ)
     → Thrice regs l l′ (eqb (s .used / 2 % 2) 1) u (eqb (s .used / 4 % 2) 1) v (eqb (s .used / 8 % 2) 1) r → Stepped regs l l′ w k
-step-counts regs w k s at u v r eu ev er l l′ d = record { held = d .held; each = λ p h. d .each p h ∙ ap (λ (t : Bool). getD l p 0 + boolByte t) (sym (all p)) }
+step-counts regs w k s at u v r eu ev er l l′ d = record {
+  held = d .held;
+  each = λ p h. d .each p h ∙ ap (λ (t : Bool). getD l p 0 + boolByte t) (sym (all p));
+}
   where
     all : (p : ℕ) → among p (usedAt w k) ≡ (eqb (s .used / 2 % 2) 1 && eqb p u) || (eqb (s .used / 4 % 2) 1 && eqb p v) || (eqb (s .used / 8 % 2) 1 && eqb p r)
     all p = ap (among p) (sym (at .used)) ∙ among-three (has a (s .used)) (has b (s .used)) (has c (s .used)) p (s .a) (s .b) (s .c) ∙ rw (eu, ev, er)
@@ -238,4 +246,8 @@ zeros-of regs old new h e = record {
 
 pub counted-over : (w t : List ℕ) (regs : ℕ) (old mid : List ℕ) (m : ℕ) (new : List ℕ) (levels : ℕ) → mid ≡ replicate regs 0 ++ drop regs old
     → Tallied w t regs mid m new levels → Tallied w t regs old m new levels
-counted-over w t regs old mid m new levels e c = record { reads = c .reads ∙ ap (λ (x : List ℕ). table (readsIn w t m) regs ++ x) (ap (drop regs) e ∙ cleared-tail regs old); met = c .met }
+counted-over w t regs old mid m new levels e c = record {
+  reads = c .reads ∙ ap (λ (x : List ℕ). table (readsIn w t m) regs ++ x)
+      (ap (drop regs) e ∙ cleared-tail regs old);
+  met = c .met;
+}

@@ -9,13 +9,14 @@ use lib.ListN.{length}
 use Rattle.laws.proofs.Walk.{first-le}
 use Rattle.laws.specs.Walk.{first}
 use Rattle.code.specs.Ins.{count}
-use Rattle.code.specs.Check.{checkOf, registersOf, triedOf, roomOf}
+use Rattle.code.specs.Check.{checkOf}
+use Rattle.refusals.specs.Stages.{registersOf, triedOf, roomOf}
 use Rattle.code.specs.Inner.{Valid, Whole}
-use Rattle.code.specs.declared.Checked.{Checked}
-use Rattle.code.specs.declared.Checked.the-variants as stage
-use Rattle.code.specs.declared.Refusal.{Refusal}
+use Rattle.refusals.specs.declared.Checked.{Checked}
+use Rattle.refusals.specs.declared.Checked.the-variants as stage
+use Rattle.refusals.specs.declared.Refusal.{Refusal}
 use Rattle.code.proofs.Checks.{counted, checked}
-use Rattle.code.proofs.Stages.{regs-before, tries-before, room-before, room-there}
+use Rattle.refusals.proofs.Stages.{regs-before, tries-before, room-before, room-there}
 use Rattle.blocks.specs.Blocks.{slotAt, fillerAt, stepsOf}
 use Rattle.trace.specs.Trace.{verdictOf, Recorded}
 use Rattle.day.specs.Inner.{Tallied, Walkable}
@@ -105,7 +106,8 @@ unfolding stepsOf
 steps-below w tries t r s l = r .below s (omega (arith, first-le (fillerAt t) (127 * (length t / 512)) 0))
     (before-first (fillerAt t) (127 * (length t / 512)) 0 s zero-le (omega arith))
 
-pub day-walk : (w : List ℕ) (regs : ℕ) (tries t : List ℕ) (a : ℕ) → replayStages w regs tries a ≡ stage.Count (count w) → (v : Verdict) → v ≡ verdictOf w tries t
+pub day-walk : (w : List ℕ) (regs : ℕ) (tries t : List ℕ) (a : ℕ) → replayStages w regs tries a ≡ stage.Count (count w) → (v : Verdict)
+    → v ≡ verdictOf w tries t
     → v ≡ found.Fine → (m : ℕ) → m ≡ stepsOf t
     → length t < 18446744073709551616 → Walkable w t m
 unfolding stepsOf

@@ -1,6 +1,6 @@
 -- What the exported call answers, by the refusals of document 02. Assumes nothing.
-use Rattle.code.specs.Answers.{answerOf, refusalOf, refusedOf}
-use Rattle.code.specs.declared.Answer.{Answer}
+use Rattle.refusals.specs.Answers.{answerOf, refusalOf, refusedOf}
+use Rattle.refusals.specs.declared.Answer.{Answer}
 use Rattle.day.specs.declared.DayAnswer.{DayAnswer}
 use Rattle.day.specs.declared.DayAnswer.the-variants.{Is, No, Check, Filler, Move}
 

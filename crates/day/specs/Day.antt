@@ -5,10 +5,11 @@ use mathlib.Core.List.{List}
 use lib.ListN.{length}
 use Rattle.laws.specs.Table.{filledTo}
 use Rattle.code.specs.Ins.{count}
-use Rattle.code.specs.Check.{checkOf, registersOf, triedOf, roomOf}
-use Rattle.code.specs.declared.Checked.{Checked}
-use Rattle.code.specs.declared.Checked.the-variants as stage
-use Rattle.code.specs.declared.Refusal.{Refusal}
+use Rattle.code.specs.Check.{checkOf}
+use Rattle.refusals.specs.Stages.{registersOf, triedOf, roomOf}
+use Rattle.refusals.specs.declared.Checked.{Checked}
+use Rattle.refusals.specs.declared.Checked.the-variants as stage
+use Rattle.refusals.specs.declared.Refusal.{Refusal}
 use Rattle.blocks.specs.Blocks.{stepsOf}
 use Rattle.trace.specs.Trace.{verdictOf}
 use Rattle.day.specs.Count.{readsIn, levelsIn}

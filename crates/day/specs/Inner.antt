@@ -19,10 +19,12 @@ pub record CanRise (regs : ℕ) (reads : List ℕ) : Type 0 where
   pub room : regs ≤ length reads
   pub each : (p : ℕ) → p < regs → getD reads p 0 < 18446744073709551615
 
+-- the counts of the first registers are all below 2^63, so that each can rise several times
 pub record Lower (regs : ℕ) (reads : List ℕ) : Type 0 where
   pub room : regs ≤ length reads
   pub each : (p : ℕ) → p < regs → getD reads p 0 < 9223372036854775808
 
+-- the counts of the first registers are all 0
 pub record ZeroReads (regs : ℕ) (reads : List ℕ) : Type 0 where
   pub room : regs ≤ length reads
   pub each : (p : ℕ) → p < regs → getD reads p 0 ≡ 0
@@ -42,6 +44,7 @@ pub record Stepped (regs : ℕ) (old new w : List ℕ) (k : ℕ) : Type 0 where
   pub held : Held regs old new
   pub each : (p : ℕ) → p < regs → getD new p 0 ≡ getD old p 0 + boolByte (among p (usedAt w k))
 
+-- m steps of the trace counted: the reads of each of the first registers, and how many of the steps are levels
 pub record Tallied (w t : List ℕ) (regs : ℕ) (old : List ℕ) (m : ℕ) (new : List ℕ) (levels : ℕ) : Type 0 where
   pub reads : new ≡ filledTo (readsIn w t m) regs old
   pub met : levels ≡ levelsIn w t m

@@ -7,13 +7,13 @@ ghost use Rattle.code.specs.Inner.{Whole};
 ghost use Rattle.roles.specs.Roles.{roleTable};
 ghost use mir.Val.{boolByte};
 ghost use mathlib.Core.List.{_++_};
-ghost use Rattle.code.specs.Answers.{refusalOf};
+ghost use Rattle.refusals.specs.Answers.{refusalOf};
 ghost use Rattle.day.specs.Answers.{dayTold};
 ghost use Rattle.day.specs.Day.{replayStages, Day};
 ghost use Rattle.day.specs.Inner.{CanRise, Lower, CountedOnce, Thrice, Stepped, ZeroReads, Tallied, Walkable};
-use code::Answer;
-use code::Checked;
-use code::Refusal;
+use refusals::Answer;
+use refusals::Checked;
+use refusals::Refusal;
 use trace::Verdict;
 
 // The report of a trace: steps and levels met (the reads of each register are in the lent buffer); or why there is none.
@@ -43,8 +43,8 @@ pub fn told(a: DayAnswer) -> Answer
     ensures { λ r. ⌜ r ≡ dayTold a ⌝ }
 {
     match a {
-        DayAnswer::Is(steps, levels) => code::tell(steps as u64, levels as u64, 0, 0),
-        DayAnswer::No(r) => code::refused(r),
+        DayAnswer::Is(steps, levels) => refusals::tell(steps as u64, levels as u64, 0, 0),
+        DayAnswer::No(r) => refusals::refused(r),
         DayAnswer::Check(b) => refuse(10, b),
         DayAnswer::Filler(b) => refuse(11, b),
         DayAnswer::Move(s) => refuse(12, s),
@@ -55,9 +55,9 @@ pub fn told(a: DayAnswer) -> Answer
 pub fn day(code: &[u16], regs: usize, tries: &[u32], t: &[u8], reads: &mut [u64]) -> DayAnswer
     ensures { λ r. ⌜ Day (now (code .entry)) regs (now (tries .entry)) (now (t .entry)) (now (reads .entry)) (now (reads .exit)) r ⌝ }
 {
-    let v = code::registers(code::check(code), regs);
-    let u = code::tried(v, tries);
-    let stage = code::room(u, 1, reads.len(), regs);
+    let v = refusals::registers(code::check(code), regs);
+    let u = refusals::tried(v, tries);
+    let stage = refusals::room(u, 1, reads.len(), regs);
     match stage {
         Checked::No(r) => DayAnswer::No(r),
         Checked::Count(_) => replayed(code, regs, tries, t, reads),
@@ -82,6 +82,7 @@ fn replayed(code: &[u16], regs: usize, tries: &[u32], t: &[u8], reads: &mut [u64
     }
 }
 
+// A truth as a number to add.
 fn one(t: bool) -> usize
     ensures { λ r. ⌜ r ≡ boolByte t ⌝ }
 {
@@ -91,6 +92,7 @@ fn one(t: bool) -> usize
     0
 }
 
+// A field of a step as a number.
 fn short(x: u16) -> usize
     ensures { λ r. ⌜ r ≡ x ⌝ }
 {

@@ -1,10 +1,10 @@
 -- From an exported answer to the call's own: a refusal's number is not 0, and with refusal 0 the call was answered. Assumes nothing.
 use mathlib.Core.Path.{_≡_, sym, _∙_}
 use native.Mathlib.Omega.{arith}
-use Rattle.code.specs.Answers.{refusedOf}
-use Rattle.code.specs.declared.Answer.{Answer}
-use Rattle.code.specs.declared.Refusal.{Refusal}
-use Rattle.code.specs.declared.Refusal.the-variants.{Length, Record, Registers, Try, Short, Position, Table}
+use Rattle.refusals.specs.Answers.{refusedOf}
+use Rattle.refusals.specs.declared.Answer.{Answer}
+use Rattle.refusals.specs.declared.Refusal.{Refusal}
+use Rattle.refusals.specs.declared.Refusal.the-variants.{Length, Record, Registers, Try, Short, Position, Table}
 use Rattle.exported.specs.Settles.{One}
 
 -- a refusal's number is not 0

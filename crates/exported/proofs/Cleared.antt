@@ -7,9 +7,9 @@ use lib.ListN.{length}
 use Rattle.laws.specs.Table.{Held}
 use Rattle.laws.specs.Each.{each}
 use Rattle.laws.proofs.Each.{each-word}
-use Rattle.code.specs.declared.Answer.{Answer}
-use Rattle.code.specs.declared.Checked.{Checked}
-use Rattle.code.specs.declared.Checked.the-variants.{Count, No as Refused}
+use Rattle.refusals.specs.declared.Answer.{Answer}
+use Rattle.refusals.specs.declared.Checked.{Checked}
+use Rattle.refusals.specs.declared.Checked.the-variants.{Count, No as Refused}
 use Rattle.named.specs.Unused.{constantNamed, before, pooled, numbered}
 use Rattle.clear.specs.Clear.{ClearAnswer, Is, No, PoolBuffers, ClearOutcome, clearOutcome, clearReadyOf, clearCall, clearTold}
 use Rattle.clear.proofs.Answers.{refused-call, answered, refusal-keeps}

@@ -2,10 +2,10 @@
 use mathlib.Core.Path.{_≡_, refl, sym, ap, _∙_}
 use mathlib.Core.Bool.{Bool}
 use Prim.Native.Nat.{ℕ, _<_}
-use Rattle.code.specs.declared.Answer.{Answer}
-use Rattle.code.specs.declared.Checked.the-variants.{Count}
-use Rattle.lent.specs.Check.{chunkCheckOf}
-use Rattle.lent.specs.declared.Counts.{Counts}
+use Rattle.refusals.specs.declared.Answer.{Answer}
+use Rattle.refusals.specs.declared.Checked.the-variants.{Count}
+use Rattle.chunk.specs.Check.{chunkCheckOf}
+use Rattle.chunk.specs.declared.Counts.{Counts}
 use Rattle.optimizer.specs.Fold.{Called, FoldAnswer, Is, No}
 use Rattle.optimizer.specs.declared.Folded.{Folded}
 use Rattle.named.specs.Unused.{AllNear}

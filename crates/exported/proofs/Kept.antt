@@ -8,8 +8,8 @@ use native.Mathlib.Omega.{arith}
 use lib.ListN.{length, drop}
 use Rattle.laws.specs.Table.{Held}
 use Rattle.code.specs.Ins.{count}
-use Rattle.code.specs.declared.Answer.{Answer}
-use Rattle.code.specs.declared.Refusal.{Refusal}
+use Rattle.refusals.specs.declared.Answer.{Answer}
+use Rattle.refusals.specs.declared.Refusal.{Refusal}
 use Rattle.flow.specs.Flow.{Flow}
 use Rattle.flow.proofs.Answer.{start-closed}
 use Rattle.steps.specs.Code.{flow}
@@ -58,7 +58,8 @@ module _ (f : Flow) (start bits : ℕ) (w : List ℕ) (regs : ℕ) (tries rows o
       (offsets-long regs w tries (rowsIn bits regs w new) (suc (count w)))
       (accepted-offsets bits w regs tries (length rows) (length offsets) (count w) p)
 
-  out-list : {a b c : List ℕ} {v : KeptAnswer} → ListsLeft f start bits w regs tries rows offsets list a b c v → keptTold v .refusal ≡ 0 → Held (keptTold v .first) list c
+  out-list : {a b c : List ℕ} {v : KeptAnswer} → ListsLeft f start bits w regs tries rows offsets list a b c v → keptTold v .refusal ≡ 0
+      → Held (keptTold v .first) list c
   out-list (refused {r = r} p) e = absurd (refused-not r e)
   out-list (short p q l) e = absurd (omega arith)
   out-list (told {new = new} p q l) e =
@@ -72,7 +73,8 @@ pub lists-settle : (f : Flow) (start bits : ℕ) (some : 0 < bits) (w : List ℕ
 lists-settle f start bits some w regs tries =
     record {
       one = λ b r r′ a a′ x y.
-          let (e, p, q, t) = one-kept f start bits some w regs tries (b .rows) (b .offsets) (b .list) r r′ (a .rows) (a′ .rows) (a .offsets) (a′ .offsets) (a .list)
+          let (e, p, q, t) = one-kept f start bits some w regs tries (b .rows) (b .offsets) (b .list) r r′ (a .rows) (a′ .rows) (a .offsets) (a′ .offsets)
+          (a .list)
           (a′ .list) (x .words) (y .words) (x .told) (y .told) in
           (e, all-three p q t);
       refusal = λ b r a x h.
@@ -95,7 +97,8 @@ kept-settles bits some w regs tries wide = lists-settle (flow regs w) (routeStar
 pub record Told (f : Flow) (start bits : ℕ) (w : List ℕ) (regs : ℕ) (tries : List ℕ) (b : Lists) (r : Answer) (a : Lists) : Type 0 where
   pub out : ListsLeft f start bits w regs tries (b .rows) (b .offsets) (b .list) (a .rows) (a .offsets) (a .list) (Is (r .first) (r .second) (r .third))
 
-pub told-of : (f : Flow) (start bits : ℕ) (w : List ℕ) (regs : ℕ) (tries : List ℕ) (b : Lists) (r : Answer) (a : Lists) → ListsCall f start bits w regs tries b r a → r .refusal ≡ 0
+pub told-of : (f : Flow) (start bits : ℕ) (w : List ℕ) (regs : ℕ) (tries : List ℕ) (b : Lists) (r : Answer) (a : Lists) → ListsCall f start bits w regs tries b
+    r a → r .refusal ≡ 0
     → Told f start bits w regs tries b r a
 told-of f start bits w regs tries b r a x z = go (x .told .told) (x .told .is) (x .told .allowed)
   where
@@ -127,9 +130,11 @@ module _ (bits : ℕ) (w : List ℕ) (regs : ℕ) (tries : List ℕ) (wide : Boo
             stands bits w regs tries wide (b .rows) (b .offsets) (b .list) (a .rows) (a .offsets) (a .list) (r .first) (r .second) (r .third) out k h;
         keeps = λ k h e. demand-3 bits w regs tries wide (b .rows) (b .offsets) (b .list) (a .rows) (a .offsets) (a .list) (r .first) (r .second) (r .third)
             out k h e;
-        spare = λ k h e. none-to-spare bits w regs tries wide (b .rows) (b .offsets) (b .list) (a .rows) (a .offsets) (a .list) (r .first) (r .second) (r .third)
+        spare = λ k h e. none-to-spare bits w regs tries wide (b .rows) (b .offsets) (b .list) (a .rows) (a .offsets) (a .list) (r .first) (r .second)
+            (r .third)
             out k h e;
-        once = λ k h e. kept-each-once bits w regs tries wide (b .rows) (b .offsets) (b .list) (a .rows) (a .offsets) (a .list) (r .first) (r .second) (r .third)
+        once = λ k h e. kept-each-once bits w regs tries wide (b .rows) (b .offsets) (b .list) (a .rows) (a .offsets) (a .list) (r .first) (r .second)
+            (r .third)
             out k h e;
         empty = λ k h e. no-level bits w regs tries wide (b .rows) (b .offsets) (b .list) (a .rows) (a .offsets) (a .list) (r .first) (r .second) (r .third)
             out k h e;

@@ -7,8 +7,9 @@ use Prim.Native.Nat.{ℕ, _<_}
 use native.Mathlib.Decide.{decLt}
 use native.Mathlib.Omega.{arith}
 use lib.Dec.{ltb}
-use Rattle.code.specs.Check.{checkOf, registersOf}
-use Rattle.code.specs.declared.Answer.{Answer}
+use Rattle.code.specs.Check.{checkOf}
+use Rattle.refusals.specs.Stages.{registersOf}
+use Rattle.refusals.specs.declared.Answer.{Answer}
 use Rattle.flow.specs.Set.{bit}
 use Rattle.flow.specs.Flow.{Least}
 use Rattle.flow.specs.Sweep.{strays}

@@ -4,9 +4,9 @@ use mathlib.Core.Path.{_≡_, ap, _∙_}
 use mathlib.Core.Bool.{Bool}
 use mathlib.Core.List.{List}
 use lib.ListN.{take}
-use Rattle.code.specs.declared.Answer.{Answer}
-use Rattle.lent.specs.Chunk.{stride, chunkCount, originAt}
-use Rattle.lent.specs.declared.Counts.{Counts}
+use Rattle.refusals.specs.declared.Answer.{Answer}
+use Rattle.chunk.specs.Chunk.{stride, chunkCount, originAt}
+use Rattle.chunk.specs.declared.Counts.{Counts}
 use Rattle.clear.specs.Clear as clearing
 use Rattle.named.specs.Unused.{before}
 use Rattle.clear.proofs.Answers.{answered}

@@ -4,9 +4,9 @@ use mathlib.Core.Path.{_≡_, ap, _∙_, subst}
 use mathlib.Core.Bool.{true}
 use mathlib.Core.List.{List}
 use lib.ListN.{take}
-use Rattle.code.specs.declared.Answer.{Answer}
-use Rattle.lent.specs.Chunk.{stride, chunkCount}
-use Rattle.lent.specs.declared.Counts.{Counts}
+use Rattle.refusals.specs.declared.Answer.{Answer}
+use Rattle.chunk.specs.Chunk.{stride, chunkCount}
+use Rattle.chunk.specs.declared.Counts.{Counts}
 use Rattle.optimizer.specs.Fold.{Called}
 use Rattle.clear.specs.Clear as clearing
 use Rattle.named.specs.Unused.{before}
@@ -42,7 +42,8 @@ rule-left c b r a x z rule =
     (keeps-rule (b .buffers) (b .tries) (b .landings) c rule (foldedOf r) (ap (λ (o : Called). o .result .answer) e))
 
 -- clearing does both
-pub clears-kept : (m : ℕ) (b : clearing.PoolBuffers) (r : Answer) (a : clearing.PoolBuffers) → ClearCall m b r a → r .refusal ≡ 0 → WishRule (b .code) m → ClearsKept b r a
+pub clears-kept : (m : ℕ) (b : clearing.PoolBuffers) (r : Answer) (a : clearing.PoolBuffers) → ClearCall m b r a → r .refusal ≡ 0 → WishRule (b .code) m
+    → ClearsKept b r a
 clears-kept m b r a x z rule =
     let e = answered-clear m b r a x z in
     record { same = clear-keeps b m (r .first) a e rule .same; rule = clear-rule b m (r .first) a e rule }

@@ -4,11 +4,12 @@ use mathlib.Core.List.{List, _++_}
 use Prim.Native.Nat.{ℕ, _*_, _/_}
 use native.Mathlib.Omega.{arith}
 use Rattle.code.specs.Ins.{insAt}
-use Rattle.code.specs.Check.{checkOf, insideOf}
-use Rattle.code.specs.Answers.{asked, refusedOf}
-use Rattle.code.specs.declared.Answer.{Answer}
-use Rattle.code.specs.declared.Checked.{Checked}
-use Rattle.code.specs.declared.Checked.the-variants.{Count, No}
+use Rattle.code.specs.Check.{checkOf}
+use Rattle.refusals.specs.Stages.{insideOf}
+use Rattle.refusals.specs.Answers.{asked, refusedOf}
+use Rattle.refusals.specs.declared.Answer.{Answer}
+use Rattle.refusals.specs.declared.Checked.{Checked}
+use Rattle.refusals.specs.declared.Checked.the-variants.{Count, No}
 use Rattle.code.specs.declared.Ins.{Ins}
 use Rattle.roles.specs.Kinds.{a, b, c}
 use Rattle.roles.specs.Sets.{from}

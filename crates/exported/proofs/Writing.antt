@@ -11,18 +11,19 @@ use mir.Val.{boolByte}
 use Rattle.laws.specs.Table.{table, filledTo, clearedTo, Held}
 use Rattle.laws.proofs.Table.{table-length, cleared-tail, cleared-length}
 use Rattle.code.specs.Ins.{count}
-use Rattle.code.specs.Check.{checkOf, insideOf, triedOf, roomOf}
-use Rattle.code.specs.Answers.{asked, answerOf, refusedOf}
-use Rattle.code.specs.declared.Answer.{Answer}
-use Rattle.code.specs.declared.Checked.{Checked}
-use Rattle.code.specs.declared.Checked.the-variants.{Count, No}
-use Rattle.code.proofs.Stages.{room-before, room-there}
+use Rattle.code.specs.Check.{checkOf}
+use Rattle.refusals.specs.Stages.{insideOf, triedOf, roomOf}
+use Rattle.refusals.specs.Answers.{asked, answerOf, refusedOf}
+use Rattle.refusals.specs.declared.Answer.{Answer}
+use Rattle.refusals.specs.declared.Checked.{Checked}
+use Rattle.refusals.specs.declared.Checked.the-variants.{Count, No}
+use Rattle.refusals.proofs.Stages.{room-before, room-there}
 use Rattle.surveys.specs.Answers.{Fills, targetMark}
 use Rattle.loops.specs.Loops.{depth}
 use Rattle.paths.specs.Search as paths
-use Rattle.phis.specs.Phi.{Dead}
+use Rattle.unread.specs.Phi.{Dead}
 use Rattle.generators.specs.Generator.{GenPure}
-use Rattle.phis.specs.Answers.{Tells, roomBoth}
+use Rattle.unread.specs.Answers.{Tells, roomBoth}
 use Rattle.answers.proofs.Alone.{one-targets, one-loops, one-dead, one-gen}
 use Rattle.exported.specs.Settles as settles
 use Rattle.exported.specs.Settles.{Settles}

@@ -1,6 +1,6 @@
 -- What is promised of every exported call, whatever it answers: one result, refusals that leave what is lent, and words past a need that stay. Assumes nothing.
 use mathlib.Core.Path.{_≡_}
-use Rattle.code.specs.declared.Answer.{Answer}
+use Rattle.refusals.specs.declared.Answer.{Answer}
 
 -- a call that only reads: any two answers that its statement allows are equal
 abbrev pub One : (Answer → Type 0) → Type 0

@@ -6,7 +6,7 @@ use mathlib.Core.List.{List, [], _++_, List·Memᴰ}
 use Prim.Native.Nat.{ℕ, suc, _+_, _*_, _^_, _≤_, _<_}
 use lib.ListN.{length, getD, take}
 use Rattle.code.specs.Ins.{insAt, count}
-use Rattle.code.specs.declared.Answer.{Answer}
+use Rattle.refusals.specs.declared.Answer.{Answer}
 use Rattle.code.specs.declared.Ins.{Ins}
 use Rattle.roles.specs.Sets.{from, usedBy, givenBy}
 use Rattle.touch.specs.Touch.{named as fieldsNamed, writtenBy}
@@ -18,9 +18,9 @@ use Rattle.steps.specs.Code.{flow, jumpsBack}
 use Rattle.rows.specs.Route.{routeStart, rowsIn}
 use Rattle.kept.specs.Level.{levelOf, keptAt}
 use Rattle.kept.specs.Lists.{partAt}
-use Rattle.lent.specs.Chunk as chunk
-use Rattle.lent.specs.Chunk.{opAt, markAt, operandAt, names}
-use Rattle.lent.specs.declared.Counts.{Counts}
+use Rattle.chunk.specs.Chunk as chunk
+use Rattle.chunk.specs.Chunk.{opAt, markAt, operandAt, names}
+use Rattle.chunk.specs.declared.Counts.{Counts}
 use Rattle.optimizer.specs.declared.Folded.{Folded}
 use Rattle.named.specs.Unused.{constantNamed, before, numbered, loaded}
 use Rattle.clear.specs.Clear as clearing

@@ -10,8 +10,8 @@ use lib.Dec.{eqb}
 use lib.ListN.{length, getD, take, drop, set, length-set, take-append-drop}
 use lib.Seq.{drop-cons, drop-length, drop-drop, drop-set-lt, take-suc-set, length-take-le}
 use Rattle.laws.specs.Page.{among}
-use Rattle.code.specs.declared.Checked.the-variants as stage
-use Rattle.code.specs.declared.Refusal.the-variants.{Short}
+use Rattle.refusals.specs.declared.Checked.the-variants as stage
+use Rattle.refusals.specs.declared.Refusal.the-variants.{Short}
 use Rattle.nested.specs.Exposed.{exposed}
 use Rattle.exposes.specs.Inner.{Exposes}
 use Rattle.exposes.specs.Answers.{ExposedLeft}

@@ -5,9 +5,9 @@ use mathlib.Core.Bool.{cond}
 use mathlib.Core.List.{List}
 use lib.Dec.{ltb}
 use lib.ListN.{length}
-use Rattle.code.specs.declared.Checked.{Checked}
-use Rattle.code.specs.declared.Checked.the-variants as stage
-use Rattle.code.specs.declared.Refusal.the-variants.{Short}
+use Rattle.refusals.specs.declared.Checked.{Checked}
+use Rattle.refusals.specs.declared.Checked.the-variants as stage
+use Rattle.refusals.specs.declared.Refusal.the-variants.{Short}
 use Rattle.kept.specs.Lists.{over}
 use Rattle.nested.specs.Exposed.{exposed}
 

@@ -5,8 +5,8 @@ ghost use lib.ListN.{length};
 ghost use Rattle.laws.specs.Page.{among};
 ghost use Rattle.exposes.specs.Answers.{ExposedLeft};
 ghost use Rattle.exposes.specs.Inner.{Exposes};
-use code::Checked;
-use code::Refusal;
+use refusals::Checked;
+use refusals::Refusal;
 
 // The registers of a list that another has not, in order, from the front of `out` on: how many; or refusal 5, where `out` is shorter than the list.
 pub fn exposed(plain: &[u16], list: &[u16], out: &mut [u16]) -> Checked

@@ -9,7 +9,7 @@ use borrow.Author.Tests.{ne-eqb, not-true}
 use lib.Bits.{bitOr, or-zero-r}
 use lib.Dec.{eqb}
 use lib.ListN.{length, replicate}
-use Rattle.code.specs.Op.{ReturnR, Jump, UnpackR, WithEnter, WithExit}
+use Rattle.ops.specs.Op.{ReturnR, Jump, UnpackR, WithEnter, WithExit}
 use Rattle.code.specs.Ins.{insAt, count}
 use Rattle.code.specs.Inner.{Valid}
 use Rattle.code.specs.declared.Ins.{Ins}

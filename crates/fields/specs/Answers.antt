@@ -4,9 +4,10 @@ use mathlib.Core.Bool.{cond}
 use mathlib.Core.List.{List}
 use mir.Val.{boolByte}
 use Rattle.code.specs.Ins.{insAt}
-use Rattle.code.specs.Check.{checkOf, insideOf}
-use Rattle.code.specs.Answers.{asked, answerOf, refusedOf}
-use Rattle.code.specs.declared.Answer.{Answer}
+use Rattle.code.specs.Check.{checkOf}
+use Rattle.refusals.specs.Stages.{insideOf}
+use Rattle.refusals.specs.Answers.{asked, answerOf, refusedOf}
+use Rattle.refusals.specs.declared.Answer.{Answer}
 use Rattle.roles.specs.Kinds.{dest, jumps, none, has, kindsOf, fieldOf}
 use Rattle.roles.specs.Sets.{writes}
 use Rattle.touch.specs.Touch.{touchOf}

@@ -1,8 +1,8 @@
 // What is asked of the instruction at a position: `kinds`, `role`, `field`, `writes` (block.rs), and what it touches. Each answers 1, 2, 6, or the value.
 ghost use mathlib.Core.Path.{_≡_};
 ghost use Rattle.fields.specs.Answers.{roleTold, kindsAnswer, roleAnswer, fieldAnswer, writesAnswer, touchAnswer};
-use code::Answer;
-use code::Checked;
+use refusals::Answer;
+use refusals::Checked;
 use roles::DEST;
 use roles::JUMPS;
 use roles::NONE;
@@ -11,11 +11,11 @@ use roles::NONE;
 pub fn kinds(code: &[u16], at: usize) -> Answer
     ensures { λ r. ⌜ r ≡ kindsAnswer (now (code .entry)) at ⌝ }
 {
-    match code::inside(code::check(code), at) {
-        Checked::No(r) => code::refused(r),
+    match refusals::inside(code::check(code), at) {
+        Checked::No(r) => refusals::refused(r),
         Checked::Count(_) => {
             let k = roles::kinds_of(code::ins_at(code, at));
-            code::tell(k as u64, 0, 0, 0)
+            refusals::tell(k as u64, 0, 0, 0)
         }
     }
 }
@@ -24,8 +24,8 @@ pub fn kinds(code: &[u16], at: usize) -> Answer
 pub fn role(code: &[u16], at: usize) -> Answer
     ensures { λ r. ⌜ r ≡ roleAnswer (now (code .entry)) at ⌝ }
 {
-    match code::inside(code::check(code), at) {
-        Checked::No(r) => code::refused(r),
+    match refusals::inside(code::check(code), at) {
+        Checked::No(r) => refusals::refused(r),
         Checked::Count(_) => role_of(roles::kinds_of(code::ins_at(code, at))),
     }
 }
@@ -35,23 +35,23 @@ fn role_of(k: u8) -> Answer
     ensures { λ r. ⌜ r ≡ roleTold k ⌝ }
 {
     if k / NONE % 2 == 1 {
-        return code::tell(0, 0, 0, 0);
+        return refusals::tell(0, 0, 0, 0);
     }
     let dest = k / DEST % 2 == 1;
     let reads = k / 2 % 8;
     let jumps = k / JUMPS % 2 == 1;
-    code::tell(1, dest as u64, reads as u64, jumps as u64)
+    refusals::tell(1, dest as u64, reads as u64, jumps as u64)
 }
 
 // The field f: a, b, else c.
 pub fn field(code: &[u16], at: usize, f: u8) -> Answer
     ensures { λ r. ⌜ r ≡ fieldAnswer (now (code .entry)) at f ⌝ }
 {
-    match code::inside(code::check(code), at) {
-        Checked::No(r) => code::refused(r),
+    match refusals::inside(code::check(code), at) {
+        Checked::No(r) => refusals::refused(r),
         Checked::Count(_) => {
             let x = roles::field_of(code::ins_at(code, at), f);
-            code::tell(x as u64, 0, 0, 0)
+            refusals::tell(x as u64, 0, 0, 0)
         }
     }
 }
@@ -60,12 +60,12 @@ pub fn field(code: &[u16], at: usize, f: u8) -> Answer
 pub fn writes(code: &[u16], at: usize, r: u16) -> Answer
     ensures { λ t. ⌜ t ≡ writesAnswer (now (code .entry)) at r ⌝ }
 {
-    match code::inside(code::check(code), at) {
-        Checked::No(q) => code::refused(q),
+    match refusals::inside(code::check(code), at) {
+        Checked::No(q) => refusals::refused(q),
         Checked::Count(_) => {
             let i = code::ins_at(code, at);
             let t = touch::writes_by(i, roles::kinds_of(i), r);
-            code::tell(t as u64, 0, 0, 0)
+            refusals::tell(t as u64, 0, 0, 0)
         }
     }
 }
@@ -74,12 +74,12 @@ pub fn writes(code: &[u16], at: usize, r: u16) -> Answer
 pub fn touched(code: &[u16], at: usize) -> Answer
     ensures { λ r. ⌜ r ≡ touchAnswer (now (code .entry)) at ⌝ }
 {
-    match code::inside(code::check(code), at) {
-        Checked::No(r) => code::refused(r),
+    match refusals::inside(code::check(code), at) {
+        Checked::No(r) => refusals::refused(r),
         Checked::Count(_) => {
             let i = code::ins_at(code, at);
             let t = touch::touch_of(i, roles::kinds_of(i));
-            code::tell(
+            refusals::tell(
                 (t.used / 2) as u64,
                 (t.given / 2) as u64,
                 (t.written / 2) as u64,

@@ -9,8 +9,8 @@ use mir.Val.{boolByte}
 use lib.Dec.{eqb}
 use lib.ListN.{length, replicate}
 use lib.Seq.{sets-eq, length-sets}
-use Rattle.code.specs.Answers.{answerOf}
-use Rattle.code.specs.declared.Answer.{Answer}
+use Rattle.refusals.specs.Answers.{answerOf}
+use Rattle.refusals.specs.declared.Answer.{Answer}
 use Rattle.groups.specs.Groups.{figuresOf, longestOf, sumOf, firstAt, sumsOf}
 use Rattle.figures.specs.Figures.{bodyOf, bodyFigures}
 use Rattle.figures.specs.Answers.{figuresIn, reportWords, reportWritten, Reports, reports, reportedOf, addedOf, addCall, joinCall}
@@ -65,7 +65,8 @@ join-report xs ys later old new r a b e h =
     )
 
 -- A body added, the words hold the report of all; its own levels and kept registers are told, then the mean.
-pub add-report : (xs : List Body) (w o : List ℕ) (len : ℕ) (old new : List ℕ) (r : Answer) → HoldsReport old xs → addCall w o len old ≡ reports new r → r .refusal ≡ 0
+pub add-report : (xs : List Body) (w o : List ℕ) (len : ℕ) (old new : List ℕ) (r : Answer) → HoldsReport old xs → addCall w o len old ≡ reports new r
+    → r .refusal ≡ 0
     → let all = xs ++ (record { code = w; offsets = o } ∷ []) in
     HoldsReport new all × (r ≡ answerOf (bodyFigures w o .levels) (bodyFigures w o .kept) (reportOf all .kept) (reportOf all .levels))
 unfolding addCall addedOf

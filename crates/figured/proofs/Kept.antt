@@ -10,12 +10,13 @@ use borrow.Author.Tests.{le-ltb}
 use lib.Dec.{ltb}
 use lib.ListN.{length, getD, drop, List·getD-append, length-append}
 use Rattle.code.specs.Ins.{insAt, count}
-use Rattle.code.specs.Check.{checkOf, registersOf, triedOf, roomOf}
+use Rattle.code.specs.Check.{checkOf}
+use Rattle.refusals.specs.Stages.{registersOf, triedOf, roomOf}
 use Rattle.code.specs.Inner.{Valid}
-use Rattle.code.specs.declared.Answer.{Answer}
-use Rattle.code.specs.declared.Checked.the-variants as stage
+use Rattle.refusals.specs.declared.Answer.{Answer}
+use Rattle.refusals.specs.declared.Checked.the-variants as stage
 use Rattle.code.proofs.Checks.{checked}
-use Rattle.code.proofs.Stages.{regs-before, tries-before, room-before}
+use Rattle.refusals.proofs.Stages.{regs-before, tries-before, room-before}
 use Rattle.flow.specs.Sweep.{row}
 use Rattle.flow.specs.Kept.{kept}
 use Rattle.steps.specs.Level.{isLevel}
@@ -98,7 +99,13 @@ module _ (bits : ℕ) (w : List ℕ) (regs : ℕ) (tries offsets a b : List ℕ)
 
   body-fine : bodyOf w b total ≡ Is (bodyFigures w b)
   unfolding bodyOf placedOf
-  body-fine = rw (x .check, le-ltb (length b) (count w + 1) (omega (arith, right .long)), right-fine w b total right ends, le-ltb (count w + 1) (count w + 1) (omega arith))
+  body-fine = rw (
+    x .check,
+    le-ltb (length b) (count w + 1) (omega (arith, right .long)),
+    right-fine w b total right ends,
+    le-ltb (count w + 1) (count w + 1)
+        (omega arith),
+  )
 
 -- a sum is told, or it would pass 64 bits
 abbrev Sum : FiguresAnswer → Type 0
@@ -131,7 +138,8 @@ module _ (bits : ℕ) (w : List ℕ) (regs : ℕ) (tries : List ℕ) (wide : Boo
   kept-added old new′ a e = go (sumsOf (figuresIn old) (bodyFigures w o)) (sums-only (figuresIn old) (bodyFigures w o))
       (ap (addedOf old) (sym (body-fine bits w regs tries offsets new o (r .first) found)) ∙ e)
     where
-      go : (v : FiguresAnswer) → Sum v → reportedOf (bodyFigures w o .levels) (bodyFigures w o .kept) old v ≡ reports new′ a → (a .refusal ≡ 0) ⊎ (a .refusal ≡ 13)
+      go : (v : FiguresAnswer) → Sum v → reportedOf (bodyFigures w o .levels) (bodyFigures w o .kept) old v ≡ reports new′ a → (a .refusal ≡ 0) ⊎
+          (a .refusal ≡ 13)
       go (Is f) s u = inl (ap (λ (y : Reports). y .answer .refusal) (sym u))
       go (Over n) s u = inr (ap (λ (y : Reports). y .answer .refusal) (sym u))
       go (No q) s u = absurd s

@@ -52,7 +52,8 @@ unfolding reportOf
 report-join xs ys =
     join-law (length xs) (length ys) (metFrom 0 xs) (metFrom 0 ys)
     ∙ ap₂ (λ (k : ℕ) (l : List Met). figuresOf k l) (sym (length-append xs ys))
-    (ap (λ (l : List Met). metFrom 0 xs ++ l) (sym (met-moved (length xs) 0 ys) ∙ ap (λ (k : ℕ). metFrom k ys) (add-zero (length xs) ∙ sym (zero-add (length xs)))) ∙ sym (met-append 0 xs ys))
+    (ap (λ (l : List Met). metFrom 0 xs ++ l) (sym (met-moved (length xs) 0 ys) ∙ ap (λ (k : ℕ). metFrom k ys)
+    (add-zero (length xs) ∙ sym (zero-add (length xs)))) ∙ sym (met-append 0 xs ys))
 
 -- one body by itself
 pub report-one : (x : Body) → bodyFigures (x .code) (x .offsets) ≡ reportOf (x ∷ [])

@@ -13,10 +13,10 @@ use lib.ListN.{length, getD, length-append}
 use Rattle.code.specs.Ins.{insAt, count}
 use Rattle.code.specs.Check.{checkOf}
 use Rattle.code.specs.declared.Ins.{Ins}
-use Rattle.code.specs.declared.Checked.{Checked}
-use Rattle.code.specs.declared.Checked.the-variants as stage
-use Rattle.code.specs.declared.Refusal.{Refusal}
-use Rattle.code.specs.declared.Refusal.the-variants.{Short}
+use Rattle.refusals.specs.declared.Checked.{Checked}
+use Rattle.refusals.specs.declared.Checked.the-variants as stage
+use Rattle.refusals.specs.declared.Refusal.{Refusal}
+use Rattle.refusals.specs.declared.Refusal.the-variants.{Short}
 use Rattle.code.proofs.Checks.{count-of, valid-of}
 use Rattle.steps.specs.Level.{isLevel}
 use Rattle.groups.specs.declared.Figures.{Figures}
@@ -105,7 +105,8 @@ module _ (w o : List ℕ) where
       place-level i x level l y r z =
           z ∙ ap₂ joinOf e (sym (single-is k (next - here)))
           ∙ join-law 0 0 (levelsTo w o k) (met 0 k (next - here) ∷ [])
-          ∙ ap (figuresOf 0) (ap₂ (λ (a b : ℕ). levelsTo w o k ++ (met 0 k (b - a) ∷ [])) p q ∙ sym (more k ∙ ap (λ (t : Bool). levelsTo w o k ++ cond t (met 0 k (lenAt o k) ∷ []) []) is))
+          ∙ ap (figuresOf 0) (ap₂ (λ (a b : ℕ). levelsTo w o k ++ (met 0 k (b - a) ∷ [])) p q
+          ∙ sym (more k ∙ ap (λ (t : Bool). levelsTo w o k ++ cond t (met 0 k (lenAt o k) ∷ []) []) is))
         where
           is : isLevel (insAt w k) ≡ true
           is = ap isLevel (sym x) ∙ sym l ∙ y

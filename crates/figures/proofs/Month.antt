@@ -9,12 +9,12 @@ use lib.Dec.{ltb, eqb}
 use lib.ListN.{length, getD}
 use Rattle.code.specs.Ins.{count, insAt}
 use Rattle.code.specs.Check.{checkOf}
-use Rattle.code.specs.declared.Checked.{Checked}
-use Rattle.code.specs.declared.Checked.the-variants as stage
+use Rattle.refusals.specs.declared.Checked.{Checked}
+use Rattle.refusals.specs.declared.Checked.the-variants as stage
 use Rattle.steps.specs.Level.{isLevel}
 use Rattle.groups.specs.declared.Figures.{Figures}
 use Rattle.groups.specs.declared.FiguresAnswer.the-variants.{Is, No, Offsets, Over}
-use Rattle.code.specs.declared.Refusal.the-variants.{Short}
+use Rattle.refusals.specs.declared.Refusal.the-variants.{Short}
 use Rattle.groups.specs.Groups.{Met, met, firstAt, longestOf, figuresOf, joinOf, most, sumsOf, moved}
 use Rattle.offsets.specs.Offsets.{firstWrong}
 use Rattle.offsets.specs.Inner.{Right}

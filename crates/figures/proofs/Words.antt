@@ -2,9 +2,9 @@
 use mathlib.Core.Path.{_≡_}
 use mathlib.Core.List.{List}
 use Prim.Native.Nat.{ℕ}
-use Rattle.code.specs.Answers.{answerOf, refusalOf, refusedOf}
-use Rattle.code.specs.declared.Answer.{Answer}
-use Rattle.code.specs.declared.Refusal.{Refusal}
+use Rattle.refusals.specs.Answers.{answerOf, refusalOf, refusedOf}
+use Rattle.refusals.specs.declared.Answer.{Answer}
+use Rattle.refusals.specs.declared.Refusal.{Refusal}
 use Rattle.groups.specs.Groups.{sumsOf}
 use Rattle.figures.specs.Figures.{bodyOf}
 use Rattle.figures.specs.Answers.{figuresIn, reportWritten, reports, reportedOf, addedOf, addCall, joinCall}
@@ -13,7 +13,8 @@ use Rattle.groups.specs.declared.FiguresAnswer.{FiguresAnswer}
 use Rattle.groups.specs.declared.FiguresAnswer.the-variants.{Is, No, Offsets, Over}
 
 module _ (a b : ℕ) (old : List ℕ) (v : FiguresAnswer) (r : Answer) where
-  pub told-is : (f : Figures) (new : List ℕ) → v ≡ Is f → new ≡ reportWritten f old → r ≡ answerOf a b (f .kept) (f .levels) → reportedOf a b old v ≡ reports new r
+  pub told-is : (f : Figures) (new : List ℕ) → v ≡ Is f → new ≡ reportWritten f old → r ≡ answerOf a b (f .kept) (f .levels) → reportedOf a b old v ≡ reports
+      new r
   unfolding reportedOf
   told-is f new h x y = rw (h, x, y)
 

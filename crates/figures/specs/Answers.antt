@@ -6,8 +6,8 @@ use mir.Val.{boolByte}
 use lib.Dec.{eqb}
 use lib.ListN.{getD}
 use lib.Seq.{sets}
-use Rattle.code.specs.Answers.{answerOf, refusalOf, refusedOf}
-use Rattle.code.specs.declared.Answer.{Answer}
+use Rattle.refusals.specs.Answers.{answerOf, refusalOf, refusedOf}
+use Rattle.refusals.specs.declared.Answer.{Answer}
 use Rattle.groups.specs.Groups.{sumsOf}
 use Rattle.figures.specs.Figures.{bodyOf}
 use Rattle.groups.specs.declared.Figures.{Figures}
@@ -26,6 +26,7 @@ figuresIn r = record {
   at = getD r 6 0;
 }
 
+-- the seven words of a report that has these figures
 abbrev pub reportWords : Figures → List ℕ
 reportWords f = f .bodies ∷ f .levels ∷ f .kept ∷ f .longest ∷ boolByte (f .found) ∷ f .body ∷ f .at ∷ []
 
@@ -38,6 +39,7 @@ pub record Reports : Type 0 where
   pub report : List ℕ
   pub answer : Answer
 
+-- these words left in the report, and this answer
 abbrev pub reports : List ℕ → Answer → Reports
 reports r a = record { report = r; answer = a }
 

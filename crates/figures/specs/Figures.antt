@@ -6,9 +6,9 @@ use lib.Dec.{ltb}
 use lib.ListN.{length, getD}
 use Rattle.code.specs.Ins.{insAt, count}
 use Rattle.code.specs.Check.{checkOf}
-use Rattle.code.specs.declared.Checked.{Checked}
-use Rattle.code.specs.declared.Checked.the-variants as stage
-use Rattle.code.specs.declared.Refusal.the-variants.{Short}
+use Rattle.refusals.specs.declared.Checked.{Checked}
+use Rattle.refusals.specs.declared.Checked.the-variants as stage
+use Rattle.refusals.specs.declared.Refusal.the-variants.{Short}
 use Rattle.steps.specs.Level.{isLevel}
 use Rattle.offsets.specs.Offsets.{firstWrong}
 use Rattle.groups.specs.declared.Figures.{Figures}
@@ -25,6 +25,7 @@ unfoldable pub levelsTo : List ℕ → List ℕ → ℕ → List Met
 levelsTo w o zero = []
 levelsTo w o (suc m) = levelsTo w o m ++ cond (isLevel (insAt w m)) (met 0 m (lenAt o m) ∷ []) []
 
+-- the figures of one body by itself: of all its levels, with their lists as the offsets have them
 unfoldable pub bodyFigures : List ℕ → List ℕ → Figures
 bodyFigures w o = figuresOf 1 (levelsTo w o (count w))
 
@@ -35,9 +36,11 @@ placedOf w o len =
     (cond (ltb (firstWrong w o len) (count w + 1)) (Offsets (firstWrong w o len))
     (Is (bodyFigures w o)))
 
+-- a body whose code was tested: a refusal of the code comes first, then what its offsets lead to
 abbrev pub afterCheck : List ℕ → List ℕ → ℕ → Checked → FiguresAnswer
 afterCheck w o len (stage.No r) = No r
 afterCheck w o len (stage.Count n) = placedOf w o len
 
+-- one body, its offsets and the length of its list: its figures, or what it is refused for
 unfoldable pub bodyOf : List ℕ → List ℕ → ℕ → FiguresAnswer
 bodyOf w o len = afterCheck w o len (checkOf w)

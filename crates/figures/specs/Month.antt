@@ -9,6 +9,7 @@ use Rattle.groups.specs.Groups.{Met, moved, figuresOf}
 use Rattle.figures.specs.Figures.{levelsTo}
 use Rattle.figures.specs.Answers.{figuresIn}
 
+-- one body of a group: its code, and the offsets of its kept lists
 pub record Body : Type 0 where
   pub code : List ℕ
   pub offsets : List ℕ

@@ -7,12 +7,12 @@ ghost use Rattle.groups.specs.Groups.{figuresOf};
 ghost use Rattle.offsets.specs.Inner.{Right};
 ghost use Rattle.figures.specs.Figures.{levelsTo, bodyFigures, bodyOf};
 ghost use Rattle.figures.specs.Answers.{figuresIn, reportWritten, reports, reportedOf, addedOf, addCall, joinCall};
-ghost use Rattle.code.specs.Answers.{refusalOf};
-use code::Answer;
-use code::Checked;
-use code::Refusal;
+ghost use Rattle.refusals.specs.Answers.{refusalOf};
 use groups::Figures;
 use groups::FiguresAnswer;
+use refusals::Answer;
+use refusals::Checked;
+use refusals::Refusal;
 
 // A body joins the group that the report is of: its levels and kept registers, then sum and levels of the mean.
 pub fn add(code: &[u16], offsets: &[u32], list: &[u16], report: &mut [u64; 7]) -> Answer
@@ -80,9 +80,9 @@ fn reported(report: &mut [u64; 7], levels: u64, kept: u64, a: FiguresAnswer) -> 
             let sum = f.kept;
             let of = f.levels;
             write(report, f);
-            code::tell(levels, kept, sum, of)
+            refusals::tell(levels, kept, sum, of)
         }
-        FiguresAnswer::No(r) => code::refused(r),
+        FiguresAnswer::No(r) => refusals::refused(r),
         FiguresAnswer::Offsets(k) => refuse(15, k as u64),
         FiguresAnswer::Over(n) => refuse(13, n as u64),
     }
@@ -99,7 +99,7 @@ fn added(report: &mut [u64; 7], a: FiguresAnswer) -> Answer
             let f = figures_in(report);
             reported(report, levels, kept, groups::sums(f, g))
         }
-        FiguresAnswer::No(r) => code::refused(r),
+        FiguresAnswer::No(r) => refusals::refused(r),
         FiguresAnswer::Offsets(k) => refuse(15, k as u64),
         FiguresAnswer::Over(n) => refuse(13, n as u64),
     }

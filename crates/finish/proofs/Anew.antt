@@ -7,7 +7,7 @@ use mathlib.Core.List.{List, _++_}
 use lib.ListN.{length, take, replicate}
 use lib.Seq.{length-take-le}
 use Rattle.laws.specs.All.{every, many}
-use Rattle.lent.specs.Chunk.{chunkCount, isPhi}
+use Rattle.chunk.specs.Chunk.{chunkCount, isPhi}
 use Rattle.positions.specs.Remap.{alive}
 use Rattle.compact.specs.Inner.{Compacted}
 use Rattle.phi_pass.specs.Phi.{marked, pairsLeft, indexed}

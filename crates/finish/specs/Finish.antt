@@ -5,7 +5,7 @@ use mathlib.Core.List.{List, _++_}
 use lib.Dec.{eqb}
 use lib.ListN.{length, take, replicate}
 use Rattle.laws.specs.All.{every, many}
-use Rattle.lent.specs.Chunk.{chunkCount, isPhi}
+use Rattle.chunk.specs.Chunk.{chunkCount, isPhi}
 use Rattle.positions.specs.Remap.{alive, live, remapOf}
 use Rattle.compact.specs.Tables.{compacted}
 use Rattle.positions.specs.Moved.{placed}
@@ -23,6 +23,7 @@ pub record Tables : Type 0 where
   pub remap : List ℕ
   pub left : Left
 
+-- these tables and their counts as one record
 abbrev pub tables : (code map sources stmts calls dead remap : List ℕ) → Left → Tables
 tables code map sources stmts calls dead remap left =
     record { code = code; map = map; sources = sources; stmts = stmts; calls = calls; dead = dead; remap = remap; left = left }
@@ -43,6 +44,7 @@ mapCount phis instructions = cond (eqb phis 0) 0 instructions
 abbrev pub mapOf : Tables → List ℕ
 mapOf t = take (t .left .map) (t .map)
 
+-- the words of phi_sources as far as their count goes
 abbrev pub sourcesOf : Tables → List ℕ
 sourcesOf t = take (t .left .sources) (t .sources)
 

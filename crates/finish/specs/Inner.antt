@@ -3,7 +3,7 @@ use Prim.Native.Nat.{_+_, _*_, _%_, _≤_}
 use mathlib.Core.Path.{_≡_}
 use lib.ListN.{length}
 use Rattle.laws.specs.All.{many}
-use Rattle.lent.specs.Chunk.{stride, isPhi}
+use Rattle.chunk.specs.Chunk.{stride, isPhi}
 use Rattle.finish.specs.Finish.{Tables}
 
 -- the tables are there, with the room that folding needs

@@ -3,7 +3,7 @@ ghost use mathlib.Core.Path.{_≡_};
 ghost use Prim.Native.Nat.{_*_, _≤_};
 ghost use lib.ListN.{length, take};
 ghost use Rattle.laws.specs.All.{many};
-ghost use Rattle.lent.specs.Chunk.{stride, chunkCount, isPhi};
+ghost use Rattle.chunk.specs.Chunk.{stride, chunkCount, isPhi};
 ghost use Rattle.phi_pass.specs.Phi.{marked};
 ghost use Rattle.finish.specs.Finish.{tables, sourcesLeft, sourcesAfter, mapCount, renewed, finished};
 ghost use Rattle.finish.specs.Inner.{TableRoom};

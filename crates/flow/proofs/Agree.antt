@@ -29,7 +29,8 @@ module _ (f : Flow) (start : ℕ) (closed : Closed f start) (R : ℕ → ℕ) (s
   agree-next : (choice : ℕ) (choices : List ℕ) (news : List (List ℕ)) (k : ℕ) (a b : List ℕ) → start ≤ k → k < f .size → AgreeAt k a b
       → AgreeAt (chosen f k choice) (fileAfter f k choice (getD news 0 []) a) (fileAfter f k choice (getD news 0 []) b)
   agree-next choice choices news k a b lo hi e r lr h = ⊎-elim
-      (λ m. ap (λ (x : List ℕ). getD x r 0) (m .0 new a) ∙ e r lr (omega (arith, h, row-bit k r lo hi, rowAt-bit f R k r, joined-in R r (f .raises k) s (m .1))) ∙ ap (λ (x : List ℕ). getD x r 0) (sym (m .0 new b))) at (moves f k choice)
+      (λ m. ap (λ (x : List ℕ). getD x r 0) (m .0 new a) ∙ e r lr (omega (arith, h, row-bit k r lo hi, rowAt-bit f R k r, joined-in R r (f .raises k) s (m .1)))
+      ∙ ap (λ (x : List ℕ). getD x r 0) (sym (m .0 new b))) at (moves f k choice)
     where
       s : ℕ
       s = chosen f k choice
@@ -39,7 +40,8 @@ module _ (f : Flow) (start : ℕ) (closed : Closed f start) (R : ℕ → ℕ) (s
 
       go : (s ≡ f .size) ⊎ In s (f .after k) → Dec (0 < bit (f .givenUp k) r) → getD (rewritten f k new a) r 0 ≡ getD (rewritten f k new b) r 0
       go p (yes g) = wrote-new (f .givenUp k) new a (f .regs) r lr g ∙ sym (wrote-new (f .givenUp k) new b (f .regs) r lr g)
-      go p (no n) = wrote-kept (f .givenUp k) new a (f .regs) r lr (omega arith) ∙ e r lr had ∙ sym (wrote-kept (f .givenUp k) new b (f .regs) r lr (omega arith))
+      go p (no n) = wrote-kept (f .givenUp k) new a (f .regs) r lr (omega arith) ∙ e r lr had ∙ sym (wrote-kept (f .givenUp k) new b (f .regs) r lr
+          (omega arith))
         where
           had : 0 < bit (R k) r
           had = ⊎-elim
@@ -59,12 +61,14 @@ module _ (f : Flow) (start : ℕ) (closed : Closed f start) (R : ℕ → ℕ) (s
       s : ℕ
       s = chosen f k choice
 
-      go : Dec (k < f .size) → (k < f .size → start ≤ s → run f choices (drop 1 news) s (fileAfter f k choice (getD news 0 []) a) ≡ run f choices (drop 1 news) s (fileAfter f k choice (getD news 0 []) b))
+      go : Dec (k < f .size) → (k < f .size → start ≤ s → run f choices (drop 1 news) s (fileAfter f k choice (getD news 0 []) a) ≡ run f choices (drop 1 news)
+          s (fileAfter f k choice (getD news 0 []) b))
           → run f (choice ∷ choices) news k a ≡ run f (choice ∷ choices) news k b
       go (no n) rec = run-end f choice choices news k a (omega arith) ∙ sym (run-end f choice choices news k b (omega arith))
       go (yes hi) rec =
           run-step f choice choices news k a hi
           ∙ ap₂ (λ (v : List ℕ) (l : List (ℕ × List ℕ)). (k, v) ∷ l)
-          (values-same f (f .used k) a b (λ r m. let w = listed-only (f .regs) (f .used k) r m in e r (w .0) (omega (arith, w .1, row-bit k r lo hi, rowAt-bit f R k r))))
+          (values-same f (f .used k) a b (λ r m. let w = listed-only (f .regs) (f .used k) r m in e r (w .0)
+          (omega (arith, w .1, row-bit k r lo hi, rowAt-bit f R k r))))
           (rec hi (⊎-elim (λ q. omega arith) (λ m. closed k lo hi s m) (picked (reach f k) choice (f .size))))
           ∙ sym (run-step f choice choices news k b hi)

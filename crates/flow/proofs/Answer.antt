@@ -29,7 +29,8 @@ sweeps-one f start (more a s) (done n) = absurd (n a)
 sweeps-one f start (more a s) (more a′ s′) = let w = sweeps-one f start s s′ in (ap suc (w .0), w .1)
 
 -- when a sweep is repeated, shown by one row that it changed; and when not
-pub again-at : (f : Flow) (start : ℕ) (rows : List ℕ) (k : ℕ) → eqb (row (swept f start rows) k) (row rows k) ≡ false → ltb 0 (backs f start) ≡ true → Again f start rows
+pub again-at : (f : Flow) (start : ℕ) (rows : List ℕ) (k : ℕ) → eqb (row (swept f start rows) k) (row rows k) ≡ false → ltb 0 (backs f start) ≡ true
+    → Again f start rows
 again-at f start rows k e b = (λ same. eqb-false (row (swept f start rows) k) (row rows k) e (ap (λ (l : List ℕ). row l k) same), ltb-true 0 (backs f start) b)
 
 pub last-same : (f : Flow) (start : ℕ) (rows : List ℕ) → swept f start rows ≡ rows → ¬ Again f start rows
@@ -76,7 +77,8 @@ module _ (f : Flow) (first : ℕ) where
 
       -- registers not below the register count never appear
       pub found-regs : ((k : ℕ) → f .used k < 2 ^ f .regs) → (k : ℕ) → row rows k < 2 ^ f .regs
-      found-regs small k = sweeps-lt f (f .regs) small (startOf f first) (omega (arith, start-le)) (a .sweeps) (omega (arith, empty-long f)) (λ j. rw (empty-row f j) (pow-pos (f .regs))) k
+      found-regs small k = sweeps-lt f (f .regs) small (startOf f first) (omega (arith, start-le)) (a .sweeps) (omega (arith, empty-long f))
+          (λ j. rw (empty-row f j) (pow-pos (f .regs))) k
 
       -- full sweeps are at most the jumps to their own position or back and two more, and at most one is abandoned
       pub found-few : full ≤ backs f (startOf f first) + 2
@@ -99,11 +101,13 @@ module _ (f : Flow) (first : ℕ) where
       pub level-keeps : (k resume result : ℕ) (tries : List ℕ) → first ≤ k → k < f .size → k ≤ resume
           → Keeps f (kept (f .regs) (row rows) (record { resume = resume; result = result; handlers = handlersOf (f .size) k tries }))
           (record { resume = resume; result = result; handlers = handlersOf (f .size) k tries })
-      level-keeps k resume result tries lo hi le′ = found-keeps (record { resume = resume; result = result; handlers = handlersOf (f .size) k tries }) (omega arith)
+      level-keeps k resume result tries lo hi le′ = found-keeps (record { resume = resume; result = result; handlers = handlersOf (f .size) k tries })
+          (omega arith)
           (λ h m. omega (arith, handlers-past (f .size) k hi tries h m .0))
 
 -- routes that began elsewhere agree from the later start on
-pub found-agree : (f : Flow) (first first′ : ℕ) → first ≤ f .size → first′ ≤ f .size → startOf f first ≤ startOf f first′ → {rows rows′ : List ℕ} {full full′ lost lost′ : ℕ}
+pub found-agree : (f : Flow) (first first′ : ℕ) → first ≤ f .size → first′ ≤ f .size → startOf f first ≤ startOf f first′
+    → {rows rows′ : List ℕ} {full full′ lost lost′ : ℕ}
     → Found f first rows full lost → Found f first′ rows′ full′ lost′ → (k : ℕ) → startOf f first′ ≤ k → row rows k ≡ row rows′ k
 found-agree f first first′ le le′ l {rows} {rows′} a b k hk = bit-ext (row rows k) (row rows′ k) (λ r. le-antisymm (up r) (down r))
   where
@@ -117,7 +121,8 @@ found-agree f first first′ le le′ l {rows} {rows′} a b k hk = bit-ext (row
     S = found-least f first′ le′ rows′ _ _ b
 
     up : (r : ℕ) → bit (row rows k) r ≤ bit (row rows′ k) r
-    up r = sweeps-within f (startOf f first) lo (start-closed f first′) (row rows′) (S .solves) (omega (arith, start-le f first)) (a .sweeps) (omega (arith, empty-long f))
+    up r = sweeps-within f (startOf f first) lo (start-closed f first′) (row rows′) (S .solves) (omega (arith, start-le f first)) (a .sweeps)
+        (omega (arith, empty-long f))
         (λ j h q. omega (arith, ap (λ (x : ℕ). bit x q) (empty-row f j), bit-zero q)) k hk r
 
     down : (r : ℕ) → bit (row rows′ k) r ≤ bit (row rows k) r

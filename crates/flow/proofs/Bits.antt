@@ -3,7 +3,27 @@ use mathlib.Core.Path.{_≡_, refl, sym, ap, ap₂, _∙_, subst}
 use mathlib.Core.Logic.{_≢_}
 use Prim.Native.Nat.{ℕ, zero, suc, _+_, _-_, _*_, _/_, _%_, _^_, _≤_, _<_, min, max}
 use native.Mathlib.Decide.{ℕ-discrete, decLt}
-use native.Mathlib.Nat.{mod-eq-of-lt, mul-add-mod-self-right, mod-lt, div-one, zero-div, zero-mod, pow-suc, mul-comm, mul-assoc, one-mul, add-zero, div-div-eq-div-mul, div-eq-of-lt, mul-mod-left, lt-of-lt-of-le, div-lt-iff-lt-mul, zero-lt-suc, le-add-right, le-add-left}
+use native.Mathlib.Nat.{
+  mod-eq-of-lt,
+  mul-add-mod-self-right,
+  mod-lt,
+  div-one,
+  zero-div,
+  zero-mod,
+  pow-suc,
+  mul-comm,
+  mul-assoc,
+  one-mul,
+  add-zero,
+  div-div-eq-div-mul,
+  div-eq-of-lt,
+  mul-mod-left,
+  lt-of-lt-of-le,
+  div-lt-iff-lt-mul,
+  zero-lt-suc,
+  le-add-right,
+  le-add-left,
+}
 use native.Mathlib.Omega.{arith}
 use lib.Arith.{digits-mod, half-le}
 use lib.Bits.{bitAnd, bitOr, bitXor, differ, and-shr, or-shr, xor-shr, and-step, or-step, xor-step}
@@ -93,7 +113,8 @@ bit-high x w r l le = ap (λ (y : ℕ). y % 2) (div-eq-of-lt (lt-of-lt-of-le l (
 
 pub bit-up : (v w i : ℕ) → bit (v * 2 ^ w) (w + i) ≡ bit v i
 unfolding bit
-bit-up v w i = ap (λ (y : ℕ). y % 2) (ap (λ (y : ℕ). v * 2 ^ w / y) (pow-add 2 w i) ∙ sym (div-div-eq-div-mul (v * 2 ^ w) (2 ^ w) (2 ^ i)) ∙ ap (λ (y : ℕ). y / 2 ^ i) (shl-shr v w))
+bit-up v w i = ap (λ (y : ℕ). y % 2) (ap (λ (y : ℕ). v * 2 ^ w / y) (pow-add 2 w i) ∙ sym (div-div-eq-div-mul (v * 2 ^ w) (2 ^ w) (2 ^ i))
+    ∙ ap (λ (y : ℕ). y / 2 ^ i) (shl-shr v w))
 
 pub bit-down : (v r d : ℕ) → bit (v * 2 ^ (suc d + r)) r ≡ 0
 unfolding bit
@@ -135,7 +156,8 @@ pow-other a b n = go (decLt b a)
 comp-bit : (w t r : ℕ) → t < 2 ^ w → r < w → bit ((2 ^ w - 1) - t) r ≡ 1 - bit t r
 comp-bit zero t r l h = absurd (omega arith)
 comp-bit (suc w) t zero l h =
-    low-bit ((2 ^ suc w - 1) - t) ∙ ap (λ (x : ℕ). ((x - 1) - t) % 2) (pow-suc 2 w) ∙ odd (2 ^ w) (subst (λ (x : ℕ). t < x) (pow-suc 2 w) l) ∙ ap (λ (x : ℕ). 1 - x) (sym (low-bit t))
+    low-bit ((2 ^ suc w - 1) - t) ∙ ap (λ (x : ℕ). ((x - 1) - t) % 2) (pow-suc 2 w) ∙ odd (2 ^ w) (subst (λ (x : ℕ). t < x) (pow-suc 2 w) l)
+    ∙ ap (λ (x : ℕ). 1 - x) (sym (low-bit t))
   where
     odd : (p : ℕ) → t < p * 2 → ((p * 2 - 1) - t) % 2 ≡ 1 - t % 2
     odd p l′ = omega arith

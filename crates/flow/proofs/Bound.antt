@@ -85,7 +85,8 @@ module _ (f : Flow) (start : ℕ) (le : start ≤ f .size) where
   sweep-grows zero rows l fits g = (λ k r. le-refl _, g)
   sweep-grows (suc d) rows l fits g =
       let s = step-grows (start + d) rows (omega arith) (omega arith) fits g in
-      let w = sweep-grows d (set rows (start + d) (rowAt f (row rows) (start + d))) (omega arith) (omega (arith, length-set rows (start + d) (rowAt f (row rows) (start + d)))) (s .1) in
+      let w = sweep-grows d (set rows (start + d) (rowAt f (row rows) (start + d))) (omega arith)
+      (omega (arith, length-set rows (start + d) (rowAt f (row rows) (start + d)))) (s .1) in
       (λ k r. omega (arith, s .0 k r, w .0 k r), w .1)
 
   next : List ℕ → List ℕ
@@ -167,11 +168,33 @@ module _ (f : Flow) (start : ℕ) (le : start ≤ f .size) where
         s,
         below-some (suc k) (reach f k) s (next-in f k r s v) (omega arith),
         new,
-        omega (arith, h, new, was, now′, bit-lt (rowAt f X′ k) r, rowAt-to f X k r s v, at r (mix-dn k (row rows) (row prev) s l), at r (mix-dn k (row rows′) (row rows) s l)),
+        omega (
+          arith,
+          h,
+          new,
+          was,
+          now′,
+          bit-lt (rowAt f X′ k) r,
+          rowAt-to f X k r s v,
+          at r (mix-dn k (row rows) (row prev) s l),
+          at r
+              (mix-dn k (row rows′) (row rows) s l),
+        ),
       )
       go (s, h, v) (no n) rec =
           rec s (omega arith)
-          (omega (arith, h, new, was, now′, bit-lt (rowAt f X′ k) r, rowAt-to f X k r s v, at r (mix-up k (row rows) (row prev) s (omega arith)), at r (mix-up k (row rows′) (row rows) s (omega arith))))
+          (omega (
+            arith,
+            h,
+            new,
+            was,
+            now′,
+            bit-lt (rowAt f X′ k) r,
+            rowAt-to f X k r s v,
+            at r (mix-up k (row rows) (row prev) s (omega arith)),
+            at r
+                (mix-up k (row rows′) (row rows) s (omega arith)),
+          ))
 
   -- the jumps back whose row has register r
   holds : List ℕ → ℕ → ℕ → Bool
@@ -188,7 +211,8 @@ module _ (f : Flow) (start : ℕ) (le : start ≤ f .size) where
   unfolding held holds
   held-le rows r = tally-mono (holds rows r) isBack start (λ k e. and-left (isBack k) (ltb 0 (bit (row rows k) r)) e) (f .size - start)
 
-  held-more : (rows : List ℕ) (r p : ℕ) → ((k : ℕ) → row rows k ⊑ row (next rows) k) → isBack p ≡ true → New rows (next rows) p r → held rows r < held (next rows) r
+  held-more : (rows : List ℕ) (r p : ℕ) → ((k : ℕ) → row rows k ⊑ row (next rows) k) → isBack p ≡ true → New rows (next rows) p r → held rows r < held
+      (next rows) r
   unfolding held holds
   held-more rows r p up b new =
       let (lo, hi) = new-inside rows p r new in
@@ -234,7 +258,8 @@ module _ (f : Flow) (start : ℕ) (le : start ≤ f .size) where
   Few rows m = (c : ℕ) × (out : List ℕ) × Sweeps f start rows c out × (c ≤ m)
 
   -- what follows i sweeps, the last of which changed something
-  rest : (m i : ℕ) (prev : List ℕ) → f .size ≤ length prev → Grows prev → Again f start prev → Deep i prev → i + m ≡ suc (suc (backs f start)) → Few (next prev) m
+  rest : (m i : ℕ) (prev : List ℕ) → f .size ≤ length prev → Grows prev → Again f start prev → Deep i prev → i + m ≡ suc (suc (backs f start))
+      → Few (next prev) m
   unfolding next
   rest zero i prev fits g a deep total =
       let (k, r, new) = fresh prev fits g (a .0) in
@@ -247,7 +272,8 @@ module _ (f : Flow) (start : ℕ) (le : start ≤ f .size) where
       go (no n) rec = (1, next (next prev), done n, omega arith)
 
   -- The sweeps from empty rows end, after at most two more than there are jumps back.
-  pub bounded : (rows : List ℕ) → f .size ≤ length rows → ((k : ℕ) → row rows k ≡ 0) → (c : ℕ) × (out : List ℕ) × Sweeps f start rows c out × (c ≤ backs f start + 2)
+  pub bounded : (rows : List ℕ) → f .size ≤ length rows → ((k : ℕ) → row rows k ≡ 0) → (c : ℕ) × (out : List ℕ) × Sweeps f start rows c out
+      × (c ≤ backs f start + 2)
   unfolding next
   bounded rows fits z = go (again? rows)
     where

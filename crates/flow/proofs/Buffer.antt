@@ -56,7 +56,8 @@ module _ (w words : ℕ) where
   rows-at zero buf k l = absurd (omega arith)
   rows-at (suc m) buf zero l = ap (λ (x : ℕ). value w (take words (drop x buf))) (sym (zero-mul words))
   rows-at (suc m) buf (suc k) l = rows-at m (drop words buf) k (omega arith)
-      ∙ ap (λ (x : List ℕ). value w (take words x)) (drop-drop (k * words) words buf ∙ ap (λ (x : ℕ). drop x buf) (add-comm words (k * words) ∙ sym (suc-mul k words)))
+      ∙ ap (λ (x : List ℕ). value w (take words x)) (drop-drop (k * words) words buf ∙ ap (λ (x : ℕ). drop x buf) (add-comm words (k * words)
+      ∙ sym (suc-mul k words)))
 
   module _ (pos : 0 < w) (m : ℕ) (buf : List ℕ) (sb : Small w buf) where
     pub rows-holds : (k : ℕ) → k < m → Holds w (window words k buf) (row (rowsOf w words m buf) k)
@@ -68,7 +69,8 @@ module _ (w words : ℕ) where
       where
         go : Dec (k < m) → row (rowsOf w words m buf) k < 2 ^ (words * w)
         go (yes l) = holds-lt w pos (window words k buf) (row (rowsOf w words m buf) k) (rows-holds k l) words (λ j h. window-past words (k * words) buf j h)
-        go (no n) = subst (λ (x : ℕ). x < 2 ^ (words * w)) (sym (List·getD-eq-default (rowsOf w words m buf) 0 (omega (arith, length-rowsOf m buf)))) (pow-pos (words * w))
+        go (no n) = subst (λ (x : ℕ). x < 2 ^ (words * w)) (sym (List·getD-eq-default (rowsOf w words m buf) 0 (omega (arith, length-rowsOf m buf))))
+            (pow-pos (words * w))
 
   -- empty words are empty rows
   pub rows-zero : 0 < w → (m len : ℕ) → rowsOf w words m (replicate len 0) ≡ replicate m 0
@@ -115,9 +117,11 @@ module _ (w words : ℕ) (pos : 0 < w) (m : ℕ) (buf out s : List ℕ) (k x : �
       (λ i h. at i (subst (λ (y : ℕ). i < y) (length-rowsOf w words m out) h) (ℕ-discrete i k))
     where
       at : (i : ℕ) → i < m → Dec (i ≡ k) → getD (rowsOf w words m out) i 0 ≡ getD (set (rowsOf w words m buf) k x) i 0
-      at i h (yes e) = rw e (rows-at w words m out k l ∙ at-row out (st .new) .is ∙ sym (getD-set-same (rowsOf w words m buf) k x 0 (rw (length-rowsOf w words m buf) l)))
+      at i h (yes e) = rw e (rows-at w words m out k l ∙ at-row out (st .new) .is ∙ sym (getD-set-same (rowsOf w words m buf) k x 0
+          (rw (length-rowsOf w words m buf) l)))
       at i h (no n) = rows-at w words m out i h
-          ∙ holds-ext w pos (window words i buf) (window words i out) (row (rowsOf w words m buf) i) (rows-holds w words pos m buf sb i h) (λ j. cell j (decLt j words)) .is
+          ∙ holds-ext w pos (window words i buf) (window words i out) (row (rowsOf w words m buf) i) (rows-holds w words pos m buf sb i h)
+          (λ j. cell j (decLt j words)) .is
           ∙ sym (getD-set-other (rowsOf w words m buf) k i x 0 n)
         where
           cell : (j : ℕ) → Dec (j < words) → getD (window words i out) j 0 ≡ getD (window words i buf) j 0
@@ -141,12 +145,15 @@ module _ (w words : ℕ) (pos : 0 < w) (m : ℕ) (buf out s : List ℕ) (k x : �
 -- ---- a row is found: after, without what is given up, with what is used
 
 -- in one word, as the machine has it
-pub step-word : (f : Flow) (R : ℕ → ℕ) (k w a g u : ℕ) → f .raises k ≡ [] → a ≡ joined R (f .after k) → g ≡ f .givenUp k → u ≡ f .used k → a < 2 ^ w → g < 2 ^ w → bitOr u (bitAnd a ((2 ^ w - 1) - g)) ≡ rowAt f R k
+pub step-word : (f : Flow) (R : ℕ → ℕ) (k w a g u : ℕ) → f .raises k ≡ [] → a ≡ joined R (f .after k) → g ≡ f .givenUp k → u ≡ f .used k → a < 2 ^ w → g < 2 ^ w
+    → bitOr u (bitAnd a ((2 ^ w - 1) - g)) ≡ rowAt f R k
 unfolding rowAt
-step-word f R k w a g u calm ea eg eu la lg = ap₂ bitOr eu (and-not w a g la lg ∙ ap₂ minus ea eg) ∙ ap (onto R (bitOr (f .used k) (minus (joined R (f .after k)) (f .givenUp k)))) (sym calm)
+step-word f R k w a g u calm ea eg eu la lg = ap₂ bitOr eu (and-not w a g la lg ∙ ap₂ minus ea eg)
+    ∙ ap (onto R (bitOr (f .used k) (minus (joined R (f .after k)) (f .givenUp k)))) (sym calm)
 
 -- in words, step by step
-pub step-words : (f : Flow) (R : ℕ → ℕ) (k w : ℕ) (a b s : List ℕ) → f .raises k ≡ [] → Holds w a (joined R (f .after k)) → Holds w b (minus (value w a) (f .givenUp k)) → Holds w s (bitOr (value w b) (f .used k)) → Holds w s (rowAt f R k)
+pub step-words : (f : Flow) (R : ℕ → ℕ) (k w : ℕ) (a b s : List ℕ) → f .raises k ≡ [] → Holds w a (joined R (f .after k))
+    → Holds w b (minus (value w a) (f .givenUp k)) → Holds w s (bitOr (value w b) (f .used k)) → Holds w s (rowAt f R k)
 unfolding rowAt
 step-words f R k w a b s calm ha hb hs =
     as-set hs (or-comm (value w b) (f .used k) ∙ ap (λ (x : ℕ). bitOr (f .used k) x) (hb .is ∙ ap (λ (x : ℕ). minus x (f .givenUp k)) (ha .is))

@@ -16,20 +16,24 @@ use Rattle.flow.proofs.Agree.{alike}
 use Rattle.flow.proofs.Needed.{needed}
 use Rattle.flow.proofs.Kept.{kept-resume, kept-handler, kept-only}
 
-module _ (f : Flow) (start : ℕ) (closed : Closed f start) (R : ℕ → ℕ) (least : Least f start R) (v : Level) (resumes : start ≤ v .resume) (handles : (h : ℕ) → In h (v .handlers) → start ≤ h) where
+module _ (f : Flow) (start : ℕ) (closed : Closed f start) (R : ℕ → ℕ) (least : Least f start R) (v : Level) (resumes : start ≤ v .resume)
+    (handles : (h : ℕ) → In h (v .handlers) → start ≤ h) where
   -- demand 3
   pub keeps : Keeps f (kept (f .regs) R v) v
   keeps = record {
     below = λ r m. kept-only (f .regs) R v r m .2;
-    resumed = λ a b e e′ choices news. alike f start closed R (least .solves) choices news (v .resume) a b resumes (λ r l h. at a b e e′ r l h (decLt 0 (bit (v .result) r)));
-    handled = λ a b e h m choices news. alike f start closed R (least .solves) choices news h a b (handles h m) (λ r l p. e r (kept-handler (f .regs) R v h r m l p));
+    resumed = λ a b e e′ choices news. alike f start closed R (least .solves) choices news (v .resume) a b resumes
+        (λ r l h. at a b e e′ r l h (decLt 0 (bit (v .result) r)));
+    handled = λ a b e h m choices news. alike f start closed R (least .solves) choices news h a b (handles h m)
+        (λ r l p. e r (kept-handler (f .regs) R v h r m l p));
     read = λ r m.
         let (k, e, l, b) = kept-only (f .regs) R v r m in
         let (choices, len, tells) = needed f r l start R least k (place r k e) b in
         (k, choices, e, len, tells);
   }
     where
-      at : (a b : List ℕ) → Agree (kept (f .regs) R v) a b → AgreeOn (v .result) a b → (r : ℕ) → r < f .regs → 0 < bit (R (v .resume)) r → Dec (0 < bit (v .result) r) → getD a r 0 ≡ getD b r 0
+      at : (a b : List ℕ) → Agree (kept (f .regs) R v) a b → AgreeOn (v .result) a b → (r : ℕ) → r < f .regs → 0 < bit (R (v .resume)) r
+          → Dec (0 < bit (v .result) r) → getD a r 0 ≡ getD b r 0
       at a b e e′ r l h (yes p) = e′ r p
       at a b e e′ r l h (no n) = e r (kept-resume (f .regs) R v r l h (omega arith))
 
@@ -62,4 +66,10 @@ none-spare f l v keep r m = record {
     same q ne = sym (getD-set-other zeros r q 1 0 ne)
 
     differ : getD zeros r 0 ≢ getD other r 0
-    differ e = omega (arith, e, getD-replicate {A = ℕ} (f .regs) r 0 0 (keep .below r m), getD-set-same zeros r 1 0 (omega (arith, keep .below r m, length-replicate {A = ℕ} (f .regs) 0)))
+    differ e = omega (
+      arith,
+      e,
+      getD-replicate {A = ℕ} (f .regs) r 0 0 (keep .below r m),
+      getD-set-same zeros r 1 0
+          (omega (arith, keep .below r m, length-replicate {A = ℕ} (f .regs) 0)),
+    )

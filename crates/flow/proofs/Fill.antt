@@ -58,7 +58,8 @@ module _ (w : ℕ) (pos : 0 < w) (words at : ℕ) (buf : List ℕ) (sb : Small w
 
       go : (i : ℕ) → Dec (i < words) → getD u i 0 ≡ bitOr (getD s i 0) (getD (take words (drop at buf)) i 0)
       go i (yes l) = h i ∙ front-in A (λ j. getD s j 0) i words l ∙ ap (bitOr (getD s i 0)) (sym (window-in words at buf i l))
-      go i (no n) = h i ∙ front-past A (λ j. getD s j 0) i words (omega arith) ∙ sym (ap (bitOr (getD s i 0)) (window-past words at buf i (omega arith)) ∙ or-zero-r (getD s i 0))
+      go i (no n) = h i ∙ front-past A (λ j. getD s j 0) i words (omega arith) ∙ sym (ap (bitOr (getD s i 0)) (window-past words at buf i (omega arith))
+          ∙ or-zero-r (getD s i 0))
 
 -- a row that is being stored
 module _ (buf : List ℕ) (at : ℕ) (s : List ℕ) where
@@ -69,7 +70,8 @@ module _ (buf : List ℕ) (at : ℕ) (s : List ℕ) where
       → WordsStored buf at (j + 1) s (set out (at + j) (getD s j 0)) (not (eqb (getD out (at + j) 0) (getD s j 0)) || changed)
   stored-more j out changed l p = record {
     long = length-set out (at + j) v ∙ p .long;
-    kept = λ x h. getD-set-other out (at + j) x v 0 (⊎-elim (λ a e. omega arith) (λ a e. omega arith) h) ∙ p .kept x (⊎-elim (λ a. inl a) (λ a. inr (omega arith)) h);
+    kept = λ x h. getD-set-other out (at + j) x v 0 (⊎-elim (λ a e. omega arith) (λ a e. omega arith) h)
+        ∙ p .kept x (⊎-elim (λ a. inl a) (λ a. inr (omega arith)) h);
     new = λ i h. cell i h (ℕ-discrete i j);
     quiet = λ e. let w = or-false (not (eqb old v)) changed e in
         ap (λ (x : ℕ). set out (at + j) x) (sym (eqb-true old v (not-false (eqb old v) (w .0)))) ∙ set-getD out (at + j) 0 ∙ p .quiet (w .1);

@@ -2,7 +2,22 @@
 use mathlib.Core.Path.{_≡_, refl, sym, ap, ap₂, _∙_, subst}
 use mathlib.Core.List.{List, [], _∷_, _++_, append-nil}
 use Prim.Native.Nat.{ℕ, zero, suc, _+_, _-_, _*_, _/_, _%_, _^_, _≤_, _<_, min}
-use native.Mathlib.Nat.{add-comm, zero-mul, mul-zero, suc-mul, mul-suc, lt-of-le-of-lt, mod-lt, zero-lt-suc, add-zero, add-suc, suc-add, pow-suc, zero-add, div-lt-iff-lt-mul}
+use native.Mathlib.Nat.{
+  add-comm,
+  zero-mul,
+  mul-zero,
+  suc-mul,
+  mul-suc,
+  lt-of-le-of-lt,
+  mod-lt,
+  zero-lt-suc,
+  add-zero,
+  add-suc,
+  suc-add,
+  pow-suc,
+  zero-add,
+  div-lt-iff-lt-mul,
+}
 use native.Mathlib.Numerals.{add-one}
 use native.Mathlib.Omega.{arith}
 use lib.Arith.{lt-one}
@@ -85,7 +100,8 @@ listed-cat zero d p v x l = ap (λ (n : ℕ). listed n p (v * 2 ^ 0 + x)) (zero-
 listed-cat (suc w) d p v x l =
     ap (λ (n : ℕ). listed n p (v * 2 ^ suc w + x)) (suc-add w d)
     ∙ ap₂ (λ (b z : ℕ). keep b p (listed (w + d) (suc p) z)) (block-odd v w x) (block-half v w x)
-    ∙ ap (λ (l′ : List ℕ). keep (x % 2) p l′) (listed-cat w d (suc p) v (x / 2) (half-pow x w l) ∙ ap (λ (q : ℕ). listed w (suc p) (x / 2) ++ listed d q v) (suc-add p w ∙ sym (add-suc p w)))
+    ∙ ap (λ (l′ : List ℕ). keep (x % 2) p l′) (listed-cat w d (suc p) v (x / 2) (half-pow x w l) ∙ ap (λ (q : ℕ). listed w (suc p) (x / 2) ++ listed d q v)
+    (suc-add p w ∙ sym (add-suc p w)))
     ∙ push (x % 2) (listed w (suc p) (x / 2)) (listed d (p + suc w) v)
   where
     push : (b : ℕ) (s t : List ℕ) → keep b p (s ++ t) ≡ keep b p s ++ t
@@ -95,7 +111,8 @@ listed-cat (suc w) d p v x l =
 -- registers past the highest of a set list nothing
 pub listed-wide : (d e p x : ℕ) → x < 2 ^ d → d ≤ e → listed e p x ≡ listed d p x
 listed-wide d e p x l le =
-    ap₂ (λ (n y : ℕ). listed n p y) gap plain ∙ listed-cat d (e - d) p 0 x l ∙ ap (λ (t : List ℕ). listed d p x ++ t) (listed-none (e - d) (p + d)) ∙ append-nil (listed d p x)
+    ap₂ (λ (n y : ℕ). listed n p y) gap plain ∙ listed-cat d (e - d) p 0 x l ∙ ap (λ (t : List ℕ). listed d p x ++ t) (listed-none (e - d) (p + d)) ∙ append-nil
+    (listed d p x)
   where
     gap : e ≡ d + (e - d)
     gap = omega arith
@@ -107,7 +124,8 @@ listed-wide d e p x l le =
 pub listed-ones : (d p x : ℕ) → x < 2 ^ d → length (listed d p x) ≡ ones x
 unfolding listed ones
 listed-ones zero p x l = sym (ap ones (lt-one l))
-listed-ones (suc d) p x l = go (x % 2) (mod-lt x (zero-lt-suc 1)) ∙ ap (λ (y : ℕ). x % 2 + y) (listed-ones d (suc p) (x / 2) (half-pow x d l)) ∙ sym (ones-step x)
+listed-ones (suc d) p x l = go (x % 2) (mod-lt x (zero-lt-suc 1)) ∙ ap (λ (y : ℕ). x % 2 + y) (listed-ones d (suc p) (x / 2) (half-pow x d l))
+    ∙ sym (ones-step x)
   where
     go : (b : ℕ) → b < 2 → length (keep b p (listed d (suc p) (x / 2))) ≡ b + length (listed d (suc p) (x / 2))
     go zero h = sym (zero-add (length (listed d (suc p) (x / 2))))
@@ -134,7 +152,8 @@ module _ (w words : ℕ) (ws : List ℕ) where
       gone : words - j ≡ 0
       gone = omega arith
 
-  pub onward-next : (j : ℕ) → j < words → j < length ws → getD ws j 0 < 2 ^ w → onward w words ws j ≡ listed w (w * j) (getD ws j 0) ++ onward w words ws (j + 1)
+  pub onward-next : (j : ℕ) → j < words → j < length ws → getD ws j 0 < 2 ^ w → onward w words ws j ≡ listed w (w * j) (getD ws j 0) ++ onward w words ws
+      (j + 1)
   unfolding onward value
   onward-next j lt lj small =
       ap₂ (λ (a : ℕ) (b : List ℕ). listed a (w * j) (value w b)) count (drop-cons ws j 0 lj)

@@ -96,7 +96,12 @@ module _ (f : Flow) (first : ℕ) where
         still e = ap (λ (x : ℕ). set rows j x) (sym (eqb-true (row rows j) v (not-false (eqb (row rows j) v) (sym (put .told) ∙ e)))) ∙ set-getD rows j 0
 
         moves : (changed′ ≡ true) ⊎ (changed ≡ true) → (changed′ ≡ true) ⊎ (changed′ ≡ false) → (i : ℕ) × (j ≤ i) × (row out i ≢ row rows₀ i)
-        moves e (inl t) = (j, le-refl j, λ h. differ (sym (ap (λ (l : List ℕ). row l j) (put .stored) ∙ getD-set-same rows j v 0 (omega (arith, p .long, p .hi))) ∙ h))
+        moves e (inl t) = (
+          j,
+          le-refl j,
+          λ h. differ (sym (ap (λ (l : List ℕ). row l j) (put .stored) ∙ getD-set-same rows j v 0
+              (omega (arith, p .long, p .hi))) ∙ h),
+        )
           where
             differ : v ≡ row rows₀ j → ⊥
             differ h = eqb-false (row rows j) v (not-true (eqb (row rows j) v) (sym (put .told) ∙ t)) (p .low j (omega arith) ∙ sym h)
@@ -145,7 +150,12 @@ module _ (f : Flow) (first : ℕ) where
           both : (s t : Bool) → changed ≡ s → back ≡ t → (s && t) ≡ false → ⊥
           both true true ea eb h = true≢false h
           both false t ea eb h = a .0 (sym part-whole ∙ p .kept ea)
-          both true false ea eb h = omega (arith, a .1, tally-zero (λ j. below (suc j) (reach f j)) first (f .size - first) (λ j x y. p .ahead eb j (omega arith) (omega (arith, p .hi, p .lo))))
+          both true false ea eb h = omega (
+            arith,
+            a .1,
+            tally-zero (λ j. below (suc j) (reach f j)) first (f .size - first)
+                (λ j x y. p .ahead eb j (omega arith) (omega (arith, p .hi, p .lo))),
+          )
 
 -- ---- a run between two sweeps, begun at `from` and now at `first`
 
@@ -187,7 +197,19 @@ module _ (f : Flow) (from : ℕ) where
     le = le;
     long = empty-long f;
     at = let (c, out, s, l) = bounded f first le (empty f) (omega (arith, empty-long f)) (empty-row f) in
-        inr (none, record { here = here; told = told; c = c; out = out; rest = s; whole = subst (λ (x : ℕ). Sweeps f first (empty f) x out) (sum c) s; few = omega arith });
+        inr (
+          none,
+          record {
+            here = here;
+            told = told;
+            c = c;
+            out = out;
+            rest = s;
+            whole = subst (λ (x : ℕ). Sweeps f first (empty f) x out) (sum c) s;
+            few =
+                omega arith;
+          },
+        );
   }
     where
       sum : (c : ℕ) → c ≡ 0 + c

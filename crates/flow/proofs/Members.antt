@@ -22,7 +22,8 @@ members (suc d) p x r m = go (x % 2) refl m (λ m′. later (members d (suc p) (
     later : Member d (suc p) (x / 2) r → Member (suc d) p x r
     later (i, e, l, b) = (suc i, omega arith, omega arith, omega (arith, half-bit x i))
 
-    go : (b : ℕ) → x % 2 ≡ b → List·Memᴰ r (keep b p (listed d (suc p) (x / 2))) → (List·Memᴰ r (listed d (suc p) (x / 2)) → Member (suc d) p x r) → Member (suc d) p x r
+    go : (b : ℕ) → x % 2 ≡ b → List·Memᴰ r (keep b p (listed d (suc p) (x / 2))) → (List·Memᴰ r (listed d (suc p) (x / 2)) → Member (suc d) p x r)
+        → Member (suc d) p x r
     go zero e m′ up = up m′
     go (suc b) e m′ up = ⊎-elim (λ q. (0, omega arith, omega arith, omega (arith, low-bit x))) up (List·Memᴰ·cases-cons m′)
 

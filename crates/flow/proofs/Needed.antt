@@ -99,7 +99,8 @@ module _ (f : Flow) where
           arith,
           rest .2,
           tally-more (has j) (has (suc j)) 0 (λ p e. lt-ltb 0 (bit (soon f (suc j) p) r) (omega (arith, grows j p, ltb-true 0 (bit (soon f j p) r) e)))
-              (f .size) k zero-le (omega arith) (le-ltb 0 (bit (soon f j k) r) (omega (arith, bit-lt (soon f (suc j) k) r))) (lt-ltb 0 (bit (soon f (suc j) k) r) (omega arith)),
+              (f .size) k zero-le (omega arith) (le-ltb 0 (bit (soon f j k) r) (omega (arith, bit-lt (soon f (suc j) k) r)))
+              (lt-ltb 0 (bit (soon f (suc j) k) r) (omega arith)),
         ))
 
     -- so layer n holds all layers
@@ -117,7 +118,8 @@ module _ (f : Flow) where
   pub soon-solves : (start : ℕ) → Solution f start (soon f (f .size))
   soon-solves start = record {
     last = λ k l. soon-past (f .size) k l;
-    each = λ k lo hi. bit-ext (soon f (f .size) k) (soon f (suc (f .size)) k) (λ r. le-antisymm (grows r (f .size) k) (top r (suc (f .size)) k)) ∙ soon-in (f .size) k hi;
+    each = λ k lo hi. bit-ext (soon f (f .size) k) (soon f (suc (f .size)) k) (λ r. le-antisymm (grows r (f .size) k) (top r (suc (f .size)) k))
+        ∙ soon-in (f .size) k hi;
   }
 
   -- ---- a register that is soon read is told by some choices
@@ -125,12 +127,15 @@ module _ (f : Flow) where
   module _ (r : ℕ) (lr : r < f .regs) where
     tells-here : (k : ℕ) → k < f .size → 0 < bit (f .used k) r → TellsApart f r k (0 ∷ [])
     tells-here k l u news a b ne e =
-        ne (values-tell f (f .used k) a b (head-eq-of-cons-eq (sym (reads-step f 0 [] news k a l) ∙ e ∙ reads-step f 0 [] news k b l)) r (listed-in (f .regs) (f .used k) r lr u))
+        ne (values-tell f (f .used k) a b (head-eq-of-cons-eq (sym (reads-step f 0 [] news k a l) ∙ e ∙ reads-step f 0 [] news k b l)) r
+        (listed-in (f .regs) (f .used k) r lr u))
 
-    tells-on : (k s choice : ℕ) (choices : List ℕ) → k < f .size → ((new file : List ℕ) → getD (fileAfter f k choice new file) r 0 ≡ getD file r 0) → chosen f k choice ≡ s → TellsApart f r s choices
+    tells-on : (k s choice : ℕ) (choices : List ℕ) → k < f .size → ((new file : List ℕ) → getD (fileAfter f k choice new file) r 0 ≡ getD file r 0)
+        → chosen f k choice ≡ s → TellsApart f r s choices
         → TellsApart f r k (choice ∷ choices)
     tells-on k s choice choices l g q tells news a b ne e =
-        tells (drop 1 news) (next a) (next b) (λ h. ne (sym (same a) ∙ h ∙ same b)) (rw (← q) (tail-eq-of-cons-eq (sym (reads-step f choice choices news k a l) ∙ e ∙ reads-step f choice choices news k b l)))
+        tells (drop 1 news) (next a) (next b) (λ h. ne (sym (same a) ∙ h ∙ same b))
+        (rw (← q) (tail-eq-of-cons-eq (sym (reads-step f choice choices news k a l) ∙ e ∙ reads-step f choice choices news k b l)))
       where
         next : List ℕ → List ℕ
         next file = fileAfter f k choice (getD news 0 []) file
@@ -143,7 +148,8 @@ module _ (f : Flow) where
     path zero k h = absurd (omega (arith, bit-zero r))
     path (suc i) k h = go (decLt k (f .size)) (λ s h′. path i s h′)
       where
-        go : Dec (k < f .size) → ((s : ℕ) → 0 < bit (soon f i s) r → (choices : List ℕ) × (length choices ≤ i) × TellsApart f r s choices) → (choices : List ℕ) × (length choices ≤ suc i) × TellsApart f r k choices
+        go : Dec (k < f .size) → ((s : ℕ) → 0 < bit (soon f i s) r → (choices : List ℕ) × (length choices ≤ i) × TellsApart f r s choices) → (choices : List ℕ)
+            × (length choices ≤ suc i) × TellsApart f r k choices
         go (no n) rec = absurd (omega (arith, h, ap (λ (x : ℕ). bit x r) (soon-past (suc i) k (omega arith)), bit-zero r))
         go (yes l) rec = at (decLt 0 (bit (f .used k) r))
           where
@@ -162,8 +168,14 @@ module _ (f : Flow) where
                     → (choice : ℕ) × (chosen f k choice ≡ s) × ((new file : List ℕ) → getD (fileAfter f k choice new file) r 0 ≡ getD file r 0)
                 way s v = ⊎-elim
                     (λ m. let (c, q, e) = leave-for f k s m in (c, q, λ new file. ap (λ (x : List ℕ). getD x r 0) (e new file)))
-                    (λ m. let (c, q, e) = go-to f k s (m .0) in (c, q, λ new file. ap (λ (x : List ℕ). getD x r 0) (e new file) ∙ wrote-kept (f .givenUp k) new file (f .regs) r lr (m .1))) v
+                    (λ m. let (c, q, e) = go-to f k s (m .0) in (
+                      c,
+                      q,
+                      λ new file. ap (λ (x : List ℕ). getD x r 0) (e new file) ∙ wrote-kept (f .givenUp k) new
+                          file (f .regs) r lr (m .1),
+                    )) v
 
     -- every register of a least row is read, within as many steps as there are positions
-    pub needed : (start : ℕ) (R : ℕ → ℕ) → Least f start R → (k : ℕ) → start ≤ k → 0 < bit (R k) r → (choices : List ℕ) × (length choices ≤ f .size) × TellsApart f r k choices
+    pub needed : (start : ℕ) (R : ℕ → ℕ) → Least f start R → (k : ℕ) → start ≤ k → 0 < bit (R k) r → (choices : List ℕ) × (length choices ≤ f .size)
+        × TellsApart f r k choices
     needed start R l k lo b = path (f .size) k (omega (arith, l .least (soon f (f .size)) (soon-solves start) k lo r))

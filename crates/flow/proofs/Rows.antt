@@ -1,7 +1,19 @@
 -- The sweeps find the least solution of the row equations. Assumes nothing.
 use mathlib.Core.Path.{_≡_, refl, sym, ap, ap₂, _∙_, subst}
 use mathlib.Core.Logic.{⊎-elim, _⊎_, inl, inr}
-use mathlib.Core.List.{List, [], _∷_, List·Memᴰ, List·Memᴰ·head, List·Memᴰ·tail, List·Memᴰ·cases-cons, List·Memᴰ·not-nil, Memᴰ·append-left, Memᴰ·append-right, List-discrete}
+use mathlib.Core.List.{
+  List,
+  [],
+  _∷_,
+  List·Memᴰ,
+  List·Memᴰ·head,
+  List·Memᴰ·tail,
+  List·Memᴰ·cases-cons,
+  List·Memᴰ·not-nil,
+  Memᴰ·append-left,
+  Memᴰ·append-right,
+  List-discrete,
+}
 use Prim.Native.Nat.{ℕ, zero, suc, _+_, _-_, _^_, _≤_, _<_, max}
 use native.Mathlib.Nat.{le-refl, le-antisymm}
 use native.Mathlib.Decide.{ℕ-discrete, decLe, decLt}
@@ -72,7 +84,8 @@ onto-bit R r (h ∷ hs) x = omega (arith, onto-bit R r hs (bitOr x (R h)), or-bi
 
 onto-cong : (R S : ℕ → ℕ) (hs : List ℕ) (x : ℕ) → ((s : ℕ) → In s hs → R s ≡ S s) → onto R x hs ≡ onto S x hs
 onto-cong R S [] x e = refl
-onto-cong R S (h ∷ hs) x e = ap (λ (y : ℕ). onto R (bitOr x y) hs) (e h (List·Memᴰ·head refl)) ∙ onto-cong R S hs (bitOr x (S h)) (λ t m. e t (List·Memᴰ·tail m))
+onto-cong R S (h ∷ hs) x e = ap (λ (y : ℕ). onto R (bitOr x y) hs) (e h (List·Memᴰ·head refl)) ∙ onto-cong R S hs (bitOr x (S h))
+    (λ t m. e t (List·Memᴰ·tail m))
 
 onto-lt : (w : ℕ) (R : ℕ → ℕ) (hs : List ℕ) (x : ℕ) → x < 2 ^ w → ((s : ℕ) → R s < 2 ^ w) → onto R x hs < 2 ^ w
 onto-lt w R [] x l h = l
@@ -87,7 +100,8 @@ module _ (f : Flow) where
   by-step k m = Memᴰ·append-right (f .raises k) m
 
   -- a row's bit: used, or after and not given up, or a handler's
-  pub rowAt-bit : (R : ℕ → ℕ) (k r : ℕ) → bit (rowAt f R k) r ≡ max (max (bit (f .used k) r) (bit (joined R (f .after k)) r - bit (f .givenUp k) r)) (bit (joined R (f .raises k)) r)
+  pub rowAt-bit : (R : ℕ → ℕ) (k r : ℕ) → bit (rowAt f R k) r ≡ max (max (bit (f .used k) r) (bit (joined R (f .after k)) r - bit (f .givenUp k) r))
+      (bit (joined R (f .raises k)) r)
   unfolding rowAt
   rowAt-bit R k r = onto-bit R r (f .raises k) (bitOr (f .used k) (minus (joined R (f .after k)) (f .givenUp k)))
       ∙ ap (λ (x : ℕ). max x (bit (joined R (f .raises k)) r)) (or-bit (f .used k) (minus (joined R (f .after k)) (f .givenUp k)) r
@@ -95,17 +109,26 @@ module _ (f : Flow) where
 
   pub rowAt-cong : (R S : ℕ → ℕ) (k : ℕ) → ((s : ℕ) → In s (reach f k) → R s ≡ S s) → rowAt f R k ≡ rowAt f S k
   unfolding rowAt
-  rowAt-cong R S k h = ap (λ (x : ℕ). onto R (bitOr (f .used k) (minus x (f .givenUp k))) (f .raises k)) (joined-cong R S (f .after k) (λ s m. h s (by-step k m)))
+  rowAt-cong R S k h = ap (λ (x : ℕ). onto R (bitOr (f .used k) (minus x (f .givenUp k))) (f .raises k))
+      (joined-cong R S (f .after k) (λ s m. h s (by-step k m)))
       ∙ onto-cong R S (f .raises k) (bitOr (f .used k) (minus (joined S (f .after k)) (f .givenUp k))) (λ s m. h s (by-raise k m))
 
   pub rowAt-mono : (R S : ℕ → ℕ) (k r : ℕ) → ((s : ℕ) → In s (reach f k) → bit (R s) r ≤ bit (S s) r) → bit (rowAt f R k) r ≤ bit (rowAt f S k) r
   rowAt-mono R S k r h =
-      omega (arith, rowAt-bit R k r, rowAt-bit S k r, joined-mono R S r (f .after k) (λ s m. h s (by-step k m)), joined-mono R S r (f .raises k) (λ s m. h s (by-raise k m)))
+      omega (
+        arith,
+        rowAt-bit R k r,
+        rowAt-bit S k r,
+        joined-mono R S r (f .after k) (λ s m. h s (by-step k m)),
+        joined-mono R S r (f .raises k)
+            (λ s m. h s (by-raise k m)),
+      )
 
   pub rowAt-lt : (w : ℕ) (R : ℕ → ℕ) (k : ℕ) → f .used k < 2 ^ w → ((s : ℕ) → R s < 2 ^ w) → rowAt f R k < 2 ^ w
   unfolding rowAt
   rowAt-lt w R k u h = onto-lt w R (f .raises k) (bitOr (f .used k) (minus (joined R (f .after k)) (f .givenUp k)))
-      (or-lt w (f .used k) (minus (joined R (f .after k)) (f .givenUp k)) u (minus-lt w (joined R (f .after k)) (f .givenUp k) (joined-lt w R (f .after k) h))) h
+      (or-lt w (f .used k) (minus (joined R (f .after k)) (f .givenUp k)) u (minus-lt w (joined R (f .after k)) (f .givenUp k) (joined-lt w R (f .after k) h)))
+      h
 
   -- a register of a row that is not used there comes from one next row, by a step that does not give it up, or by a raise
   pub rowAt-from : (R : ℕ → ℕ) (k r : ℕ) → bit (f .used k) r ≡ 0 → 0 < bit (rowAt f R k) r
@@ -180,7 +203,8 @@ module _ (f : Flow) where
         → Solution f start (row (swept f start rows))
     last-solves rows le fits z stop = record {
       last = λ k l. sweep-out d rows k (inr (omega arith)) ∙ z k l;
-      each = λ k lo hi. sweep-at d rows k (row out) (omega arith) lo (omega arith) (λ s m l. refl) (λ s m l. ap (λ (x : List ℕ). row x s) (still k lo hi s m l (List-discrete ℕ-discrete out rows)));
+      each = λ k lo hi. sweep-at d rows k (row out) (omega arith) lo (omega arith) (λ s m l. refl) (λ s m l. ap (λ (x : List ℕ). row x s)
+          (still k lo hi s m l (List-discrete ℕ-discrete out rows)));
     }
       where
         d : ℕ
@@ -195,7 +219,11 @@ module _ (f : Flow) where
           where
             go : Dec (0 < backs f start) → out ≡ rows
             go (yes b) = absurd (stop (n, b))
-            go (no b) = absurd (omega (arith, below-none (suc k) (reach f k) (tally-none (λ j. below (suc j) (reach f j)) start d (omega arith) k lo (omega arith)) s m))
+            go (no b) = absurd (omega (
+              arith,
+              below-none (suc k) (reach f k) (tally-none (λ j. below (suc j) (reach f j)) start d (omega arith) k lo
+                  (omega arith)) s m,
+            ))
 
     -- a sweep stays in every solution S from `lo` on, also where S solves only the equations from there on
     module _ (lo : ℕ) (closed : Closed f lo) (S : ℕ → ℕ) (sol : Solution f lo S) where
@@ -239,14 +267,16 @@ module _ (f : Flow) where
       sweeps-out {rows} (done e) k h = sweep-out (f .size - start) rows k (⊎-elim (λ l. inl l) (λ l. inr (omega arith)) h)
       sweeps-out {rows} (more e s) k h = sweeps-out s k h ∙ sweep-out (f .size - start) rows k (⊎-elim (λ l. inl l) (λ l. inr (omega arith)) h)
 
-      pub sweeps-solve : {rows out : List ℕ} {c : ℕ} → Sweeps f start rows c out → f .size ≤ length rows → ((k : ℕ) → f .size ≤ k → row rows k ≡ 0) → Solution f start (row out)
+      pub sweeps-solve : {rows out : List ℕ} {c : ℕ} → Sweeps f start rows c out → f .size ≤ length rows → ((k : ℕ) → f .size ≤ k → row rows k ≡ 0)
+          → Solution f start (row out)
       sweeps-solve {rows} (done e) fits z = last-solves rows le fits z e
       sweeps-solve {rows} (more e s) fits z = sweeps-solve s
           (omega (arith, length-sweep (f .size - start) rows))
           (λ k l. sweep-out (f .size - start) rows k (inr (omega arith)) ∙ z k l)
 
       -- from empty rows the sweeps end in the least solution
-      pub sweeps-least : Closed f start → {rows out : List ℕ} {c : ℕ} → Sweeps f start rows c out → f .size ≤ length rows → ((k : ℕ) → row rows k ≡ 0) → Least f start (row out)
+      pub sweeps-least : Closed f start → {rows out : List ℕ} {c : ℕ} → Sweeps f start rows c out → f .size ≤ length rows → ((k : ℕ) → row rows k ≡ 0)
+          → Least f start (row out)
       sweeps-least closed s fits z = record {
         solves = sweeps-solve s fits (λ k l. z k);
         least = λ S sol. sweeps-within start closed S sol le s fits (λ k lo r. omega (arith, ap (λ (x : ℕ). bit x r) (z k), bit-zero r));
@@ -255,7 +285,8 @@ module _ (f : Flow) where
   -- ---- registers not below the register count never appear
 
   module _ (w : ℕ) (small : (k : ℕ) → f .used k < 2 ^ w) (start : ℕ) (le : start ≤ f .size) where
-    sweep-lt : (d : ℕ) (rows : List ℕ) → start + d ≤ f .size → f .size ≤ length rows → ((k : ℕ) → row rows k < 2 ^ w) → (k : ℕ) → row (sweep f start d rows) k < 2 ^ w
+    sweep-lt : (d : ℕ) (rows : List ℕ) → start + d ≤ f .size → f .size ≤ length rows → ((k : ℕ) → row rows k < 2 ^ w) → (k : ℕ) → row (sweep f start d rows) k <
+        2 ^ w
     unfolding sweep
     sweep-lt zero rows l fits h = h
     sweep-lt (suc d) rows l fits h = sweep-lt d (set rows p v) (omega arith) (omega (arith, length-set rows p v)) (λ k. go k (ℕ-discrete k p))
@@ -270,9 +301,11 @@ module _ (f : Flow) where
         go k (yes e) = rw e (subst (λ (x : ℕ). x < 2 ^ w) (sym (getD-set-same rows p v 0 (omega arith))) (rowAt-lt w (row rows) p (small p) h))
         go k (no n) = subst (λ (x : ℕ). x < 2 ^ w) (sym (getD-set-other rows p k v 0 n)) (h k)
 
-    pub sweeps-lt : {rows out : List ℕ} {c : ℕ} → Sweeps f start rows c out → f .size ≤ length rows → ((k : ℕ) → row rows k < 2 ^ w) → (k : ℕ) → row out k < 2 ^ w
+    pub sweeps-lt : {rows out : List ℕ} {c : ℕ} → Sweeps f start rows c out → f .size ≤ length rows → ((k : ℕ) → row rows k < 2 ^ w) → (k : ℕ)
+        → row out k < 2 ^ w
     sweeps-lt {rows} (done e) fits h = sweep-lt (f .size - start) rows (omega arith) fits h
-    sweeps-lt {rows} (more e s) fits h = sweeps-lt s (omega (arith, length-sweep start (f .size - start) rows)) (sweep-lt (f .size - start) rows (omega arith) fits h)
+    sweeps-lt {rows} (more e s) fits h = sweeps-lt s (omega (arith, length-sweep start (f .size - start) rows))
+        (sweep-lt (f .size - start) rows (omega arith) fits h)
 
   -- two least solutions are the same, from the start on
   pub least-one : (start : ℕ) (R S : ℕ → ℕ) → Least f start R → Least f start S → (k : ℕ) → start ≤ k → R k ≡ S k

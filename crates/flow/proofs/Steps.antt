@@ -1,7 +1,20 @@
 -- Laws of the stepping machine's parts. Assumes nothing.
 use mathlib.Core.Path.{_≡_, refl, sym, ap, ap₂, _∙_}
 use mathlib.Core.Logic.{⊎-elim, _⊎_, inl, inr}
-use mathlib.Core.List.{List, [], _∷_, _++_, map, List·Memᴰ, List·Memᴰ·head, List·Memᴰ·tail, List·Memᴰ·cases-cons, List·Memᴰ·not-nil, head-eq-of-cons-eq, tail-eq-of-cons-eq}
+use mathlib.Core.List.{
+  List,
+  [],
+  _∷_,
+  _++_,
+  map,
+  List·Memᴰ,
+  List·Memᴰ·head,
+  List·Memᴰ·tail,
+  List·Memᴰ·cases-cons,
+  List·Memᴰ·not-nil,
+  head-eq-of-cons-eq,
+  tail-eq-of-cons-eq,
+}
 use mathlib.Core.Bool.{Bool, cond}
 use Prim.Native.Nat.{ℕ, zero, suc, _+_, _≤_, _<_}
 use native.Mathlib.Nat.{zero-add, add-suc, suc-add, add-zero}
@@ -36,7 +49,8 @@ module _ (f : Flow) (s : ℕ) (a b : List ℕ) where
 
 -- ---- writes
 
-wrote-from : (s : ℕ) (new file : List ℕ) (p m i : ℕ) → i < m → getD (wrote s new file p m) i 0 ≡ cond (ltb 0 (bit s (p + i))) (getD new (p + i) 0) (getD file (p + i) 0)
+wrote-from : (s : ℕ) (new file : List ℕ) (p m i : ℕ) → i < m → getD (wrote s new file p m) i 0 ≡ cond (ltb 0 (bit s (p + i))) (getD new (p + i) 0)
+    (getD file (p + i) 0)
 wrote-from s new file p zero i l = absurd (omega arith)
 wrote-from s new file p (suc m) zero l = rw add-zero
 wrote-from s new file p (suc m) (suc i) l = wrote-from s new file (suc p) m i (omega arith) ∙ rw (suc-add, ← add-suc)
@@ -77,7 +91,8 @@ picked-high (x ∷ l) l′ (suc i) n h = picked-high l l′ i n (omega arith)
 
 pick-low : (l l′ : List ℕ) (s n : ℕ) → List·Memᴰ s l → (i : ℕ) × (i < length l) × (getD (l ++ l′) i n ≡ s)
 pick-low [] l′ s n m = absurd (List·Memᴰ·not-nil m)
-pick-low (x ∷ l) l′ s n m = ⊎-elim (λ e. (0, omega arith, sym e)) (λ m′. let (i, h, e) = pick-low l l′ s n m′ in (suc i, omega arith, e)) (List·Memᴰ·cases-cons m)
+pick-low (x ∷ l) l′ s n m = ⊎-elim (λ e. (0, omega arith, sym e)) (λ m′. let (i, h, e) = pick-low l l′ s n m′ in (suc i, omega arith, e))
+    (List·Memᴰ·cases-cons m)
 
 pick-high : (l l′ : List ℕ) (s n : ℕ) → List·Memᴰ s l′ → (i : ℕ) × (length l ≤ i) × (getD (l ++ l′) i n ≡ s)
 pick-high [] l′ s n m = let (i, e) = pick-of l′ s n m in (i, omega arith, e)
@@ -89,7 +104,8 @@ module _ (f : Flow) (k choice : ℕ) where
   Moves = ((new file : List ℕ) → fileAfter f k choice new file ≡ file) × List·Memᴰ (chosen f k choice) (f .raises k)
 
   abbrev pub Goes : Type 0
-  Goes = ((new file : List ℕ) → fileAfter f k choice new file ≡ rewritten f k new file) × ((chosen f k choice ≡ f .size) ⊎ List·Memᴰ (chosen f k choice) (f .after k))
+  Goes = ((new file : List ℕ) → fileAfter f k choice new file ≡ rewritten f k new file) × ((chosen f k choice ≡ f .size) ⊎ List·Memᴰ (chosen f k choice)
+      (f .after k))
 
   raised : choice < length (f .raises k) → (new file : List ℕ) → fileAfter f k choice new file ≡ file
   raised l new file = ap (λ (t : Bool). cond t file (rewritten f k new file)) (lt-ltb choice (length (f .raises k)) l)
@@ -116,11 +132,13 @@ module _ (f : Flow) (choice : ℕ) (choices : List ℕ) (news : List (List ℕ))
   later : List (ℕ × List ℕ)
   later = (k, valuesOf f (f .used k) file) ∷ run f choices (drop 1 news) (chosen f k choice) (fileAfter f k choice (getD news 0 []) file)
 
-  pub run-step : k < f .size → run f (choice ∷ choices) news k file ≡ (k, valuesOf f (f .used k) file) ∷ run f choices (drop 1 news) (chosen f k choice) (fileAfter f k choice (getD news 0 []) file)
+  pub run-step : k < f .size → run f (choice ∷ choices) news k file ≡ (k, valuesOf f (f .used k) file) ∷ run f choices (drop 1 news) (chosen f k choice)
+      (fileAfter f k choice (getD news 0 []) file)
   unfolding run later
   run-step l = ap (λ (t : Bool). cond t later []) (lt-ltb k (f .size) l)
 
-  pub reads-step : k < f .size → reads f (choice ∷ choices) news k file ≡ valuesOf f (f .used k) file ∷ reads f choices (drop 1 news) (chosen f k choice) (fileAfter f k choice (getD news 0 []) file)
+  pub reads-step : k < f .size → reads f (choice ∷ choices) news k file ≡ valuesOf f (f .used k) file ∷ reads f choices (drop 1 news) (chosen f k choice)
+      (fileAfter f k choice (getD news 0 []) file)
   reads-step l = ap (map (λ (s : ℕ × List ℕ). s .1)) (run-step l)
 
   pub run-end : f .size ≤ k → run f (choice ∷ choices) news k file ≡ []

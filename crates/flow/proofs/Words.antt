@@ -4,7 +4,19 @@ use mathlib.Core.Logic.{_≢_}
 use mathlib.Core.List.{List, [], _∷_}
 use mathlib.Core.Bool.{Bool, cond}
 use Prim.Native.Nat.{ℕ, suc, _+_, _-_, _*_, _/_, _%_, _^_, _≤_, _<_, max}
-use native.Mathlib.Nat.{mod-lt, div-add-mod', one-mul, div-eq-of-lt, mod-eq-of-lt, lt-of-lt-of-le, div-lt-iff-lt-mul, add-div-right, add-mod-right, le-add-right, mul-le-mul-right}
+use native.Mathlib.Nat.{
+  mod-lt,
+  div-add-mod',
+  one-mul,
+  div-eq-of-lt,
+  mod-eq-of-lt,
+  lt-of-lt-of-le,
+  div-lt-iff-lt-mul,
+  add-div-right,
+  add-mod-right,
+  le-add-right,
+  mul-le-mul-right,
+}
 use native.Mathlib.Decide.{ℕ-discrete, decLt}
 use native.Mathlib.Numerals.{add-one}
 use native.Mathlib.Omega.{arith}
@@ -42,7 +54,8 @@ module _ (w : ℕ) (pos : 0 < w) where
   bit-value [] small r = bit-zero r ∙ sym (bit-zero (r % w))
   bit-value (x ∷ xs) small r = go (decLt r w) (λ i. bit-value xs (λ j. small (suc j)) i)
     where
-      go : Dec (r < w) → ((i : ℕ) → bit (value w xs) i ≡ bit (getD xs (i / w) 0) (i % w)) → bit (value w xs * 2 ^ w + x) r ≡ bit (getD (x ∷ xs) (r / w) 0) (r % w)
+      go : Dec (r < w) → ((i : ℕ) → bit (value w xs) i ≡ bit (getD xs (i / w) 0) (i % w)) → bit (value w xs * 2 ^ w + x) r ≡ bit (getD (x ∷ xs) (r / w) 0)
+          (r % w)
       go (yes l) ih = low-word (value w xs) x r (small 0) l ∙ ap₂ (λ (q i : ℕ). bit (getD (x ∷ xs) q 0) i) (sym (div-eq-of-lt l)) (sym (mod-eq-of-lt l))
       go (no n) ih =
           ap (λ (y : ℕ). bit (value w xs * 2 ^ w + x) y) (split n)
@@ -102,16 +115,20 @@ module _ (w : ℕ) (pos : 0 < w) where
   holds-none n = holds-by (replicate n 0) 0 (λ j. rw (zeros-at n j) (pow-pos w)) (λ r. rw (zeros-at n (r / w)) (bit-zero (r % w) ∙ sym (bit-zero r)))
 
   pub holds-or : (s t u : List ℕ) (x y : ℕ) → Holds w s x → Holds w t y → ((j : ℕ) → getD u j 0 ≡ bitOr (getD s j 0) (getD t j 0)) → Holds w u (bitOr x y)
-  holds-or s t u x y hs ht e = holds-by u (bitOr x y) (λ j. subst (λ (z : ℕ). z < 2 ^ w) (sym (e j)) (or-lt w (getD s j 0) (getD t j 0) (hs .small j) (ht .small j)))
-      (λ r. ap (λ (z : ℕ). bit z (r % w)) (e (r / w)) ∙ or-bit (getD s (r / w) 0) (getD t (r / w) 0) (r % w) ∙ ap₂ max (holds-bit s x hs r) (holds-bit t y ht r) ∙ sym (or-bit x y r))
+  holds-or s t u x y hs ht e = holds-by u (bitOr x y) (λ j. subst (λ (z : ℕ). z < 2 ^ w) (sym (e j)) (or-lt w (getD s j 0) (getD t j 0) (hs .small j)
+      (ht .small j)))
+      (λ r. ap (λ (z : ℕ). bit z (r % w)) (e (r / w)) ∙ or-bit (getD s (r / w) 0) (getD t (r / w) 0) (r % w) ∙ ap₂ max (holds-bit s x hs r) (holds-bit t y ht r)
+      ∙ sym (or-bit x y r))
 
   pub holds-minus : (s t u : List ℕ) (x y : ℕ) → Holds w s x → Holds w t y → ((j : ℕ) → getD u j 0 ≡ minus (getD s j 0) (getD t j 0)) → Holds w u (minus x y)
   holds-minus s t u x y hs ht e = holds-by u (minus x y) (λ j. subst (λ (z : ℕ). z < 2 ^ w) (sym (e j)) (minus-lt w (getD s j 0) (getD t j 0) (hs .small j)))
-      (λ r. ap (λ (z : ℕ). bit z (r % w)) (e (r / w)) ∙ minus-bit (getD s (r / w) 0) (getD t (r / w) 0) (r % w) ∙ ap₂ _-_ (holds-bit s x hs r) (holds-bit t y ht r) ∙ sym (minus-bit x y r))
+      (λ r. ap (λ (z : ℕ). bit z (r % w)) (e (r / w)) ∙ minus-bit (getD s (r / w) 0) (getD t (r / w) 0) (r % w) ∙ ap₂ _-_ (holds-bit s x hs r)
+      (holds-bit t y ht r) ∙ sym (minus-bit x y r))
 
   -- ---- one word of a set is changed
 
-  holds-set : (s : List ℕ) (x y q v : ℕ) → Holds w s x → q < length s → v < 2 ^ w → ((i : ℕ) → i < w → bit v i ≡ bit y (q * w + i)) → ((r : ℕ) → r / w ≢ q → bit x r ≡ bit y r) → Holds w (set s q v) y
+  holds-set : (s : List ℕ) (x y q v : ℕ) → Holds w s x → q < length s → v < 2 ^ w → ((i : ℕ) → i < w → bit v i ≡ bit y (q * w + i))
+      → ((r : ℕ) → r / w ≢ q → bit x r ≡ bit y r) → Holds w (set s q v) y
   holds-set s x y q v h fits lv here there = holds-by (set s q v) y (λ j. small j (ℕ-discrete j q)) (λ r. at r (ℕ-discrete (r / w) q))
     where
       small : (j : ℕ) → Dec (j ≡ q) → getD (set s q v) j 0 < 2 ^ w
@@ -151,13 +168,16 @@ module _ (w : ℕ) (pos : 0 < w) where
     -- a set with register a
     pub with-in : a < regs → Holds w (set s (a / w) (bitOr (getD s (a / w) 0) ((1 * 2 ^ (a % w)) % 2 ^ w))) (bitOr x (alone regs a))
     with-in l = rw (one-shl a, here l)
-        (holds-set s x (bitOr x (2 ^ a)) (a / w) (bitOr (getD s (a / w) 0) (2 ^ (a % w))) h (fits l) (or-lt w (getD s (a / w) 0) (2 ^ (a % w)) (h .small (a / w)) one-lt)
+        (holds-set s x (bitOr x (2 ^ a)) (a / w) (bitOr (getD s (a / w) 0) (2 ^ (a % w))) h (fits l) (or-lt w (getD s (a / w) 0) (2 ^ (a % w))
+        (h .small (a / w)) one-lt)
         (λ i li. or-bit (getD s (a / w) 0) (2 ^ (a % w)) i ∙ ap₂ max (word-bit s x h (a / w) i li) (pow-word a i li) ∙ sym (or-bit x (2 ^ a) (a / w * w + i)))
         (λ r n. omega (arith, or-bit x (2 ^ a) r, pow-away a r n)))
 
     -- a set without register a
     pub without-in : a < regs → Holds w (set s (a / w) (minus (getD s (a / w) 0) ((1 * 2 ^ (a % w)) % 2 ^ w))) (minus x (alone regs a))
     without-in l = rw (one-shl a, here l)
-        (holds-set s x (minus x (2 ^ a)) (a / w) (minus (getD s (a / w) 0) (2 ^ (a % w))) h (fits l) (minus-lt w (getD s (a / w) 0) (2 ^ (a % w)) (h .small (a / w)))
-        (λ i li. minus-bit (getD s (a / w) 0) (2 ^ (a % w)) i ∙ ap₂ _-_ (word-bit s x h (a / w) i li) (pow-word a i li) ∙ sym (minus-bit x (2 ^ a) (a / w * w + i)))
+        (holds-set s x (minus x (2 ^ a)) (a / w) (minus (getD s (a / w) 0) (2 ^ (a % w))) h (fits l) (minus-lt w (getD s (a / w) 0) (2 ^ (a % w))
+        (h .small (a / w)))
+        (λ i li. minus-bit (getD s (a / w) 0) (2 ^ (a % w)) i ∙ ap₂ _-_ (word-bit s x h (a / w) i li) (pow-word a i li)
+        ∙ sym (minus-bit x (2 ^ a) (a / w * w + i)))
         (λ r n. omega (arith, minus-bit x (2 ^ a) r, pow-away a r n)))

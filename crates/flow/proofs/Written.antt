@@ -9,14 +9,17 @@ use lib.ListN.{length, getD, take, drop, set, length-drop, length-append}
 use lib.Seq.{paste, paste-zero, paste-suc, length-paste, take-paste, drop-paste, take-take, take-add, take-append-seam, drop-append-seam, drop-drop, getD-drop}
 use Rattle.flow.specs.Inner.{Listing}
 
-paste-paste : (d : List ℕ) (at : ℕ) (L : List ℕ) (m n : ℕ) → at + length L ≤ length d → m + n ≤ length L → paste (paste d at L m) (at + m) (take n (drop m L)) n ≡ paste d at L (m + n)
+paste-paste : (d : List ℕ) (at : ℕ) (L : List ℕ) (m n : ℕ) → at + length L ≤ length d → m + n ≤ length L → paste (paste d at L m) (at + m) (take n (drop m L)) n
+    ≡ paste d at L (m + n)
 paste-paste d at L m n fits le =
     ap₂ (λ (x y : List ℕ). x ++ take n (take n (drop m L)) ++ y) (take-paste d at L m (omega arith) (omega arith)) tail
     ∙ ap (λ (x : List ℕ). (take at d ++ take m L) ++ x ++ drop (at + (m + n)) d) (take-take n n (drop m L) (le-refl n))
-    ∙ ap (λ (x : List ℕ). x ++ drop (at + (m + n)) d) (append-assoc (take at d) (take m L) (take n (drop m L)) ∙ ap (λ (x : List ℕ). take at d ++ x) (sym (take-add m n L)))
+    ∙ ap (λ (x : List ℕ). x ++ drop (at + (m + n)) d) (append-assoc (take at d) (take m L) (take n (drop m L)) ∙ ap (λ (x : List ℕ). take at d ++ x)
+    (sym (take-add m n L)))
   where
     tail : drop (at + m + n) (paste d at L m) ≡ drop (at + (m + n)) d
-    tail = sym (drop-drop n (at + m) (paste d at L m)) ∙ ap (drop n) (drop-paste d at L m (omega arith) (omega arith)) ∙ drop-drop n (at + m) d ∙ ap (λ (x : ℕ). drop x d) (add-assoc at m n)
+    tail = sym (drop-drop n (at + m) (paste d at L m)) ∙ ap (drop n) (drop-paste d at L m (omega arith) (omega arith)) ∙ drop-drop n (at + m) d
+        ∙ ap (λ (x : ℕ). drop x d) (add-assoc at m n)
 
 -- L is being written from `at` on; out is what it has come to, n the next place
 pub record Written (L old : List ℕ) (at : ℕ) (out : List ℕ) (n : ℕ) (rest : List ℕ) : Type 0 where
@@ -87,7 +90,8 @@ module _ (L old : List ℕ) (at : ℕ) where
           head = ap (λ (y : ℕ). getD L y 0) (sym (add-zero (h .found))) ∙ sym (getD-drop (h .found) L 0 0) ∙ ap (λ (l : List ℕ). getD l 0 0) (h .left ∙ split)
 
 -- two lists written one after the other
-pub listing-append : (A B old mid out : List ℕ) (m p q : ℕ) → m + length (A ++ B) ≤ length old → Listing A old m mid p → Listing B mid p out q → Listing (A ++ B) old m out q
+pub listing-append : (A B old mid out : List ℕ) (m p q : ℕ) → m + length (A ++ B) ≤ length old → Listing A old m mid p → Listing B mid p out q
+    → Listing (A ++ B) old m out q
 listing-append A B old mid out m p q fits a b =
     written-end L old m out q [] (written-more L old m mid p B first fits B [] (sym (append-nil B)) out q b) fits refl
   where

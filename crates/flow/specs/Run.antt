@@ -34,7 +34,8 @@ chosen f k choice = getD (reach f k) choice (f .size)
 -- "after" names, by a supplied choice; or it raises, writes none, and moves to a handler. At n or beyond the run ends.
 unfoldable pub run : Flow → List ℕ → List (List ℕ) → ℕ → List ℕ → List (ℕ × List ℕ)
 run f [] news k file = []
-run f (choice ∷ choices) news k file = cond (ltb k (f .size)) ((k, valuesOf f (f .used k) file) ∷ run f choices (drop 1 news) (chosen f k choice) (fileAfter f k choice (getD news 0 []) file)) []
+run f (choice ∷ choices) news k file = cond (ltb k (f .size)) ((k, valuesOf f (f .used k) file) ∷ run f choices (drop 1 news) (chosen f k choice)
+    (fileAfter f k choice (getD news 0 []) file)) []
 
 -- the values read, step by step, and nothing else
 abbrev pub reads : Flow → List ℕ → List (List ℕ) → ℕ → List ℕ → List (List ℕ)

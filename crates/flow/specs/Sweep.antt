@@ -56,6 +56,7 @@ pub data Sweeps (f : Flow) (start : ℕ) : List ℕ → ℕ → List ℕ → Typ
 abbrev pub startOf : Flow → ℕ → ℕ
 startOf f first = cond (ltb 0 (strays f first)) 0 first
 
+-- how many sweeps are abandoned: one if a jump at or past `first` goes to before it, else none
 abbrev pub abandonedOf : Flow → ℕ → ℕ
 abandonedOf f first = cond (ltb 0 (strays f first)) 1 0
 

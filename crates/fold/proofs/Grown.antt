@@ -9,15 +9,15 @@ use lib.Dec.{eqb}
 use lib.ListN.{length, getD}
 use mir.Val.{boolByte}
 use Rattle.laws.specs.All.{many}
-use Rattle.lent.specs.Chunk.{chunkCount, opAt, folds}
-use Rattle.lent.specs.Check.{constantRoom}
+use Rattle.chunk.specs.Chunk.{chunkCount, opAt, folds}
+use Rattle.chunk.specs.Check.{constantRoom}
 use Rattle.laws.proofs.Counting.{many-le}
 use Rattle.values.specs.declared.Val.{Val}
 use Rattle.values.specs.declared.Val.the-variants.{Int, Float as Real, Bool as Truth}
-use Rattle.chunk.specs.Pool.{Stored, findOrPushConst}
-use Rattle.chunk.specs.declared.Kept.{Kept}
-use Rattle.chunk.specs.declared.Kept.the-variants.{At, Full}
-use Rattle.chunk.proofs.Store.{kept-few}
+use Rattle.pool.specs.Pool.{Stored, findOrPushConst}
+use Rattle.pool.specs.declared.Kept.{Kept}
+use Rattle.pool.specs.declared.Kept.the-variants.{At, Full}
+use Rattle.pool.proofs.Store.{kept-few}
 use Rattle.landings.specs.Latest.{latest, isLanding}
 use Rattle.fold.specs.Plan.{Chunk, after, planAt}
 use Rattle.fold.specs.Pass.{Loading, loadOf, constLoad, landed, applied, tryFold, Bars, byTable, folded, foldAll}
@@ -39,7 +39,8 @@ abbrev countOf : Loaded → ℕ → ℕ
 countOf (As o x m) n = m
 countOf No n = n
 
-pool-few : (s : Stored) (kinds words : List ℕ) (n : ℕ) (v : Val) → s ≡ findOrPushConst kinds words n v → countOf (loadOf (s .kept)) n ≤ max n (min 65535 (n + 1))
+pool-few : (s : Stored) (kinds words : List ℕ) (n : ℕ) (v : Val) → s ≡ findOrPushConst kinds words n v → countOf (loadOf (s .kept)) n ≤ max n
+    (min 65535 (n + 1))
 pool-few s kinds words n v e = go (s .kept) refl
   where
     go : (k : Kept) → s .kept ≡ k → countOf (loadOf k) n ≤ max n (min 65535 (n + 1))
@@ -139,7 +140,8 @@ module _ {bars : Bars} {s t : Chunk} {i n : ℕ} (h : Held bars s t i) (z : n �
             };
       }
 
-  pub held-more : (u : Chunk) → u ≡ tryFold (bars (t .code) i) i t → length (u .code) ≡ length (t .code) → length (u .dead) ≡ length (t .dead) → length (u .kinds) ≡ length (t .kinds)
+  pub held-more : (u : Chunk) → u ≡ tryFold (bars (t .code) i) i t → length (u .code) ≡ length (t .code) → length (u .dead) ≡ length (t .dead)
+      → length (u .kinds) ≡ length (t .kinds)
       → length (u .words) ≡ length (t .words) → Held bars s u (i + 1)
   unfolding folded
   held-more u e c d k w =
@@ -169,16 +171,18 @@ pub asked-none : (strict : Bool) (l : List ℕ) (s : Chunk) → Asked strict l s
 unfolding latest
 asked-none strict l s = record { held = held-none (byTable strict l) s; told = refl }
 
-module _ {strict : Bool} {l : List ℕ} {s t : Chunk} {last i n : ℕ} (h : Asked strict l s t last i) (z : n ≡ chunkCount (s .code)) (b : i < n) (f : PassRoom s) where
-  pub asked-ready : OperatorRoom t i
-  asked-ready = held-ready (h .held) z b f
+module _ {strict : Bool} {l : List ℕ} {s t : Chunk} {last i n : ℕ} (h : Asked strict l s t last i) (z : n ≡ chunkCount (s .code)) (b : i < n) (f : PassRoom s)
+  where
+    pub asked-ready : OperatorRoom t i
+    asked-ready = held-ready (h .held) z b f
 
-  pub asked-more : {more : ℕ} (u : Chunk) → more ≡ cond (isLanding strict l i) i last → u ≡ tryFold (after more) i t → length (u .code) ≡ length (t .code)
-      → length (u .dead) ≡ length (t .dead) → length (u .kinds) ≡ length (t .kinds) → length (u .words) ≡ length (t .words) → Asked strict l s u more (i + 1)
-  unfolding latest
-  asked-more {more} u m e c d k w =
-      let y : more ≡ latest (isLanding strict l) (suc i) = m ∙ ap (λ (x : ℕ). cond (isLanding strict l i) i x) (h .told) in
-      record { held = held-more (h .held) z b f u (rw y at e) c d k w; told = rw (add-one i) y }
+    pub asked-more : {more : ℕ} (u : Chunk) → more ≡ cond (isLanding strict l i) i last → u ≡ tryFold (after more) i t → length (u .code) ≡ length (t .code)
+        → length (u .dead) ≡ length (t .dead) → length (u .kinds) ≡ length (t .kinds) → length (u .words) ≡ length (t .words) → Asked strict l s u more (i + 1)
+    unfolding latest
+    asked-more {more} u m e c d k w =
+        let y : more ≡ latest (isLanding strict l) (suc i) = m ∙ ap (λ (x : ℕ). cond (isLanding strict l i) i x) (h .told) in
+        record { held = held-more (h .held) z b f u (rw y at e) c d k w; told = rw (add-one i) y }
 
-pub asked-all : {strict : Bool} {l : List ℕ} {s t : Chunk} {last i n : ℕ} → Asked strict l s t last i → n ≡ chunkCount (s .code) → n ≤ i → i ≤ n → t ≡ foldAll (byTable strict l) s
+pub asked-all : {strict : Bool} {l : List ℕ} {s t : Chunk} {last i n : ℕ} → Asked strict l s t last i → n ≡ chunkCount (s .code) → n ≤ i → i ≤ n → t ≡ foldAll
+    (byTable strict l) s
 asked-all h z a b = held-all (h .held) z a b

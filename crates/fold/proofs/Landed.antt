@@ -8,8 +8,8 @@ use lib.Dec.{eqb}
 use lib.ListN.{getD}
 use mir.Val.{boolByte}
 use borrow.Author.Tests.{eqb-true, eqb-false}
-use Rattle.code.specs.Op.{LoadConst}
-use Rattle.lent.specs.Chunk.{chunkCount, opAt, marksJump}
+use Rattle.ops.specs.Op.{LoadConst}
+use Rattle.chunk.specs.Chunk.{chunkCount, opAt, marksJump}
 use Rattle.landings.specs.Landings.{landingsOf, Unmarked}
 use Rattle.landings.specs.Latest.{latest, isLanding}
 use Rattle.landings.proofs.Asked.{same-test}

@@ -9,14 +9,14 @@ use lib.Dec.{eqb}
 use lib.ListN.{length, getD, set, length-set}
 use lib.Seq.{getD-set-same}
 use borrow.Author.Tests.{eqb-true, eqb-false}
-use Rattle.code.specs.Op.{Phi}
-use Rattle.lent.specs.Chunk.{chunkCount, isPhi}
+use Rattle.ops.specs.Op.{Phi}
+use Rattle.chunk.specs.Chunk.{chunkCount, isPhi}
 use Rattle.values.specs.declared.Val.{Val}
 use Rattle.values.specs.declared.Val.the-variants.{Int, Float as Real, Bool as Truth}
-use Rattle.chunk.specs.Pool.{findOrPushConst}
-use Rattle.chunk.specs.declared.Kept.{Kept}
-use Rattle.chunk.specs.declared.Kept.the-variants.{At, Full}
-use Rattle.chunk.proofs.Store.{full-stays}
+use Rattle.pool.specs.Pool.{findOrPushConst}
+use Rattle.pool.specs.declared.Kept.{Kept}
+use Rattle.pool.specs.declared.Kept.the-variants.{At, Full}
+use Rattle.pool.proofs.Store.{full-stays}
 use Rattle.fold.specs.Plan.{Chunk, chunk, planAt}
 use Rattle.fold.specs.Pass.{Loading, loading, loadOf, fromPool, constLoad, put, landed, applied, tryFold, Bars, folded, foldAll}
 use Rattle.fold.specs.declared.Loaded.{Loaded}

@@ -7,8 +7,8 @@ use mathlib.Core.List.{List}
 use lib.Dec.{eqb}
 use lib.ListN.{length, getD, set, length-set}
 use lib.Seq.{getD-set-same, getD-set-other}
-use Rattle.code.specs.Op.{LoadConst}
-use Rattle.lent.specs.Chunk.{stride, chunkCount, opAt, markAt, operandAt, originAt, marksJump}
+use Rattle.ops.specs.Op.{LoadConst}
+use Rattle.chunk.specs.Chunk.{stride, chunkCount, opAt, markAt, operandAt, originAt, marksJump}
 use Rattle.fold.specs.Pass.{markOf, put}
 
 module _ (w : List ℕ) (p o x : ℕ) where

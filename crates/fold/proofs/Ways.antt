@@ -5,8 +5,8 @@ use mathlib.Core.Bool.{Bool, true, false}
 use mathlib.Core.List.{List}
 use lib.ListN.{getD, set}
 use borrow.Author.Tests.{eq-eqb, ne-eqb}
-use Rattle.code.specs.Op.{LoadConst, LoadTrue, LoadFalse}
-use Rattle.lent.specs.Chunk.{opAt}
+use Rattle.ops.specs.Op.{LoadConst, LoadTrue, LoadFalse}
+use Rattle.chunk.specs.Chunk.{opAt}
 use Rattle.values.specs.Folds.{foldBinop, foldNot, foldNeg}
 use Rattle.values.specs.declared.Val.{Val}
 use Rattle.values.specs.declared.Val.the-variants.{Int, Float as Real, Bool as Truth}
@@ -15,9 +15,9 @@ use Rattle.values.specs.declared.Maybe.the-variants.{Is, Nothing}
 use Rattle.values.specs.declared.Op.{Op}
 use lib.IntN.{ℤ}
 use lib.Ieee.{Float}
-use Rattle.chunk.specs.Pool.{stored, findOrPushConst}
-use Rattle.chunk.specs.declared.Kept.{Kept}
-use Rattle.chunk.specs.declared.Kept.the-variants.{At as KeptAt, Full}
+use Rattle.pool.specs.Pool.{stored, findOrPushConst}
+use Rattle.pool.specs.declared.Kept.{Kept}
+use Rattle.pool.specs.declared.Kept.the-variants.{At as KeptAt, Full}
 use Rattle.fold.specs.Plan.{Chunk, chunk, kindOf, prevLive, operandOf, blocked, foldUnary, tryFoldBinop, tryFoldUnary, planFor, planAt}
 use Rattle.fold.specs.Pass.{Loading, loading, fromPool, constLoad, put, landed, applied, tryFold}
 use Rattle.operands.specs.declared.Found.{Found}

@@ -4,9 +4,9 @@ use mathlib.Core.Path.{_≡_}
 use mathlib.Core.Bool.{true}
 use lib.ListN.{length}
 use Rattle.laws.specs.All.{many}
-use Rattle.lent.specs.Chunk.{chunkCount, opAt, folds}
-use Rattle.lent.specs.Check.{constantRoom}
-use Rattle.chunk.specs.Inner.{PushRoom}
+use Rattle.chunk.specs.Chunk.{chunkCount, opAt, folds}
+use Rattle.chunk.specs.Check.{constantRoom}
+use Rattle.pool.specs.Inner.{PushRoom}
 use Rattle.fold.specs.Plan.{Chunk}
 
 -- the buffers that a plan at i reads

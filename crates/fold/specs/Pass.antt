@@ -4,13 +4,13 @@ use mathlib.Core.Bool.{Bool, cond}
 use mathlib.Core.List.{List}
 use lib.Dec.{eqb}
 use lib.ListN.{getD, set}
-use Rattle.code.specs.Op.{LoadConst, LoadTrue, LoadFalse}
-use Rattle.lent.specs.Chunk.{stride, chunkCount}
+use Rattle.ops.specs.Op.{LoadConst, LoadTrue, LoadFalse}
+use Rattle.chunk.specs.Chunk.{stride, chunkCount}
 use Rattle.values.specs.declared.Val.{Val}
 use Rattle.values.specs.declared.Val.the-variants.{Int, Float as Real, Bool as Truth}
-use Rattle.chunk.specs.Pool.{Stored, findOrPushConst}
-use Rattle.chunk.specs.declared.Kept.{Kept}
-use Rattle.chunk.specs.declared.Kept.the-variants.{At, Full}
+use Rattle.pool.specs.Pool.{Stored, findOrPushConst}
+use Rattle.pool.specs.declared.Kept.{Kept}
+use Rattle.pool.specs.declared.Kept.the-variants.{At, Full}
 use Rattle.landings.specs.Landings.{barred}
 use Rattle.landings.specs.Latest.{latest, isLanding}
 use Rattle.fold.specs.Plan.{Chunk, chunk, after, planAt}
@@ -25,6 +25,7 @@ pub record Loading : Type 0 where
   pub kinds : List ℕ
   pub words : List ℕ
 
+-- this load, with the pool's kinds and words
 abbrev pub loading : Loaded → List ℕ → List ℕ → Loading
 loading l kinds words = record { load = l; kinds = kinds; words = words }
 
@@ -33,6 +34,7 @@ abbrev pub loadOf : Kept → Loaded
 loadOf (At i m) = As LoadConst i m
 loadOf Full = No
 
+-- a result that the pool keeps, as a load; none where the pool had no room for it
 abbrev pub fromPool : Stored → Loading
 fromPool s = loading (loadOf (s .kept)) (s .kinds) (s .words)
 
@@ -57,6 +59,7 @@ unfolding put
 landed (As o x m) kinds words p q i s = chunk (put (s .code) p o x) (set (set (s .dead) q 1) i 1) kinds words m
 landed No kinds words p q i s = chunk (s .code) (s .dead) kinds words (s .constants)
 
+-- the chunk once the plan for the operator at i is carried out; it is as it was where there is no fold or no room for the result
 unfoldable pub applied : Plan → ℕ → Chunk → Chunk
 unfolding landed constLoad
 applied Stay i s = s
@@ -87,6 +90,7 @@ unfolding tryFold
 folded bars zero s = s
 folded bars (suc k) s = tryFold (bars (folded bars k s .code) k) k (folded bars k s)
 
+-- the whole pass: every instruction of the chunk is tried
 unfoldable pub foldAll : Bars → Chunk → Chunk
 unfolding folded
 foldAll bars s = folded bars (chunkCount (s .code)) s

@@ -3,8 +3,8 @@ use Prim.Native.Nat.{ℕ}
 use mathlib.Core.Bool.{Bool, true, false, cond}
 use mathlib.Core.List.{List, [], _∷_}
 use Rattle.laws.specs.Page.{Row, _↝_, look}
-use Rattle.code.specs.Op as op
-use Rattle.lent.specs.Chunk.{opAt}
+use Rattle.ops.specs.Op as op
+use Rattle.chunk.specs.Chunk.{opAt}
 use Rattle.values.specs.Folds.{foldBinop, foldNot, foldNeg}
 use Rattle.values.specs.declared.Val.{Val}
 use Rattle.values.specs.declared.Maybe.{Maybe}
@@ -28,6 +28,7 @@ pub record Chunk : Type 0 where
   pub words : List ℕ
   pub constants : ℕ
 
+-- a chunk with this code, these dead marks, and so many of these constants
 abbrev pub chunk : (code dead kinds words : List ℕ) → ℕ → Chunk
 chunk code dead kinds words constants = record { code = code; dead = dead; kinds = kinds; words = words; constants = constants }
 
@@ -55,6 +56,7 @@ operatorPage =
     ∷ ((op.Minus ∷ []) ↝ Minus)
     ∷ []
 
+-- what an opcode folds as; one that the page does not name is no operator
 unfoldable pub kindOf : ℕ → Kind
 unfolding operatorPage
 kindOf o = look Other o operatorPage
@@ -64,10 +66,12 @@ abbrev pub withFound : Found → (ℕ → Plan) → Plan
 withFound (At p) f = f p
 withFound Nowhere f = Stay
 
+-- a missing value, be it an operand's or the result, ends the attempt
 abbrev pub withVal : Maybe → (Val → Plan) → Plan
 withVal (Is v) f = f v
 withVal Nothing f = Stay
 
+-- an operator of two operands, the nearest live instructions before it: no fold if one is no operand, there is no result, or it is blocked
 unfoldable pub tryFoldBinop : (ℕ → Bool) → Op → ℕ → Chunk → Plan
 unfolding prevLive operandOf blocked
 tryFoldBinop bars o i s =
@@ -82,6 +86,7 @@ unfoldable pub foldUnary : Bool → Val → Maybe
 foldUnary true v = foldNeg v
 foldUnary false v = foldNot v
 
+-- Minus or Not of the nearest live instruction before it: no fold if that is no operand, there is no result, or it is blocked
 unfoldable pub tryFoldUnary : (ℕ → Bool) → Bool → ℕ → Chunk → Plan
 unfolding prevLive operandOf blocked foldUnary
 tryFoldUnary bars minus i s =
@@ -89,6 +94,7 @@ tryFoldUnary bars minus i s =
     withVal (operandOf (s .code) (s .kinds) (s .words) (s .constants) p) (λ a.
     withVal (foldUnary minus a) (λ v. cond (blocked bars (s .code) p i) Stay (Put p i v))))
 
+-- the attempt that the kind of the instruction at i asks for; none where it is no operator
 unfoldable pub planFor : Kind → (ℕ → Bool) → ℕ → Chunk → Plan
 unfolding tryFoldBinop tryFoldUnary
 planFor (Binop o) bars i s = tryFoldBinop bars o i s
@@ -96,6 +102,7 @@ planFor Not bars i s = tryFoldUnary bars false i s
 planFor Minus bars i s = tryFoldUnary bars true i s
 planFor Other bars i s = Stay
 
+-- the fold of the instruction at i, if it is an operator and there is one
 unfoldable pub planAt : (ℕ → Bool) → ℕ → Chunk → Plan
 unfolding planFor kindOf
 planAt bars i s = planFor (kindOf (opAt (s .code) i)) bars i s

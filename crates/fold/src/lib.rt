@@ -1,6 +1,6 @@
 // Folding: what an operator may fold to. Nothing is written here.
-use code::op::*;
 use operands::Found;
+use ops::*;
 use values::Maybe;
 use values::Op;
 use values::Val;
@@ -42,7 +42,7 @@ pub fn plan_at(
     requires { ⌜ Readable (chunk (now code) (now dead) (now kinds) (now words) constants) ip ⌝ }
     ensures { λ r. ⌜ r ≡ planAt (after last) ip (chunk (now (code .entry)) (now (dead .entry)) (now (kinds .entry)) (now (words .entry)) constants) ⌝ }
 {
-    let kind = kind_of(lent::op_at(code, ip));
+    let kind = kind_of(chunk::op_at(code, ip));
     match kind {
         Kind::Binop(op) => try_fold_binop(code, dead, kinds, words, constants, last, op, ip),
         Kind::Not => try_fold_unary(code, dead, kinds, words, constants, last, false, ip),
@@ -51,6 +51,7 @@ pub fn plan_at(
     }
 }
 
+// What an opcode folds as, if it is an operator.
 fn kind_of(o: u16) -> Kind
     ensures { λ r. ⌜ r ≡ kindOf o ⌝ }
 {
@@ -113,6 +114,7 @@ fn try_fold_binop(
     Plan::Put(prev2, prev1, result)
 }
 
+// The fold of Minus, or of Not, if its operand is a constant, there is a result, and nothing blocks it.
 fn try_fold_unary(
     code: &[u16],
     dead: &[u8],
@@ -124,7 +126,8 @@ fn try_fold_unary(
     ip: usize,
 ) -> Plan
     requires { ⌜ Readable (chunk (now code) (now dead) (now kinds) (now words) constants) ip ⌝ }
-    ensures { λ r. ⌜ r ≡ tryFoldUnary (after last) minus ip (chunk (now (code .entry)) (now (dead .entry)) (now (kinds .entry)) (now (words .entry)) constants) ⌝ }
+    ensures { λ r. ⌜ r ≡ tryFoldUnary (after last) minus ip (chunk (now (code .entry)) (now (dead .entry)) (now (kinds .entry)) (now (words .entry)) constants)
+        ⌝ }
 {
     let Found::At(prev1) = operands::prev_live(dead, ip) else {
         return Plan::Stay;
@@ -141,6 +144,7 @@ fn try_fold_unary(
     Plan::Put(prev1, ip, result)
 }
 
+// What Minus, or Not, makes of an operand.
 fn fold_unary(minus: bool, v: Val) -> Maybe
     requires { ⌜ SoundInt v ⌝ }
     ensures { λ r. ⌜ r ≡ foldUnary minus v ⌝ }

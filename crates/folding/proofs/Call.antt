@@ -6,16 +6,16 @@ use mathlib.Core.Logic.{_≢_}
 use mathlib.Core.Bool.{Bool}
 use mathlib.Core.List.{List, _++_}
 use lib.ListN.{length, take, drop, replicate, length-replicate}
-use Rattle.code.specs.Answers.{refusedOf}
-use Rattle.code.specs.declared.Answer.{Answer}
-use Rattle.code.specs.declared.Refusal.{Refusal}
-use Rattle.code.specs.declared.Refusal.the-variants as refusal
-use Rattle.code.specs.declared.Checked.{Checked}
-use Rattle.code.specs.declared.Checked.the-variants.{Count, No as Refused}
-use Rattle.lent.specs.Chunk.{chunkCount}
-use Rattle.lent.specs.Check.{sourceRoom, tallyOf, readyOf}
-use Rattle.lent.specs.declared.Counts.{Counts}
-use Rattle.lent.specs.declared.Lens.{Lens}
+use Rattle.refusals.specs.Answers.{refusedOf}
+use Rattle.refusals.specs.declared.Answer.{Answer}
+use Rattle.refusals.specs.declared.Refusal.{Refusal}
+use Rattle.refusals.specs.declared.Refusal.the-variants as refusal
+use Rattle.refusals.specs.declared.Checked.{Checked}
+use Rattle.refusals.specs.declared.Checked.the-variants.{Count, No as Refused}
+use Rattle.chunk.specs.Chunk.{chunkCount}
+use Rattle.chunk.specs.Check.{sourceRoom, tallyOf, readyOf}
+use Rattle.chunk.specs.declared.Counts.{Counts}
+use Rattle.chunk.specs.declared.Lens.{Lens}
 use Rattle.optimizer.specs.Fold.{buffers, lensOf, foldOutcome, settled, foldLent, Is, No}
 use Rattle.optimizer.specs.Inner.{FoldRoom}
 use Rattle.optimizer.specs.declared.Folded.{Folded}

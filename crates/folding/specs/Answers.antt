@@ -3,9 +3,9 @@ use Prim.Native.Nat.{ℕ}
 use mathlib.Core.Path.{_≡_}
 use mathlib.Core.Bool.{Bool}
 use mathlib.Core.List.{List}
-use Rattle.code.specs.Answers.{answerOf, refusedOf}
-use Rattle.code.specs.declared.Answer.{Answer}
-use Rattle.lent.specs.declared.Counts.{Counts}
+use Rattle.refusals.specs.Answers.{answerOf, refusedOf}
+use Rattle.refusals.specs.declared.Answer.{Answer}
+use Rattle.chunk.specs.declared.Counts.{Counts}
 use Rattle.optimizer.specs.Fold.{Buffers, foldOutcome, called, foldCall, FoldAnswer, Is, No}
 use Rattle.optimizer.specs.declared.Folded.{Folded}
 
@@ -13,6 +13,7 @@ use Rattle.optimizer.specs.declared.Folded.{Folded}
 abbrev pub foldedTold : Folded → Answer
 foldedTold f = answerOf (f .instructions) (f .constants) (f .map) (f .sources)
 
+-- the counts of what is left, or the refusal
 abbrev pub foldTold : FoldAnswer → Answer
 foldTold (Is f) = foldedTold f
 foldTold (No r) = refusedOf r

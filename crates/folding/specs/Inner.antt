@@ -1,7 +1,7 @@
 -- What only the inside of `folding` needs: contracts of inner functions and proofs cite it, no promise does. Assumes nothing.
-use Rattle.code.specs.Answers.{asked, answerOf, refusedOf}
-use Rattle.code.specs.declared.Answer.{Answer}
-use Rattle.code.specs.declared.Checked.{Checked}
+use Rattle.refusals.specs.Answers.{asked, answerOf, refusedOf}
+use Rattle.refusals.specs.declared.Answer.{Answer}
+use Rattle.refusals.specs.declared.Checked.{Checked}
 
 -- what the tests found: a refusal, or nothing yet
 abbrev pub testedTold : Checked → Answer

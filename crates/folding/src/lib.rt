@@ -1,29 +1,29 @@
 // The folding call: its refusals, then the fold over each buffer as far as it is needed, told.
 ghost use mathlib.Core.Path.{_≡_};
-ghost use Rattle.lent.specs.Check.{sourceRoom, tallyOf, readyOf};
+ghost use Rattle.chunk.specs.Check.{sourceRoom, tallyOf, readyOf};
 ghost use Rattle.optimizer.specs.Fold.{buffers};
 ghost use Rattle.folding.specs.Answers.{foldedTold, FoldTold};
 ghost use Rattle.folding.specs.Inner.{testedTold};
-use code::Answer;
-use code::Checked;
-use lent::Counts;
-use lent::Lens;
-use lent::STRIDE;
+use chunk::Counts;
+use chunk::Lens;
+use chunk::STRIDE;
 use optimizer::Folded;
+use refusals::Answer;
+use refusals::Checked;
 
 // How many words of phi_sources are needed.
 fn sources_needed(code: &[u16], sources: usize) -> usize
     ensures { λ r. ⌜ r ≡ sourceRoom sources (tallyOf (now (code .entry)) .phis) ⌝ }
 {
-    let t = lent::tallied(code);
-    lent::source_room(sources, t.phis)
+    let t = chunk::tallied(code);
+    chunk::source_room(sources, t.phis)
 }
 
 // The counts of what is left.
 fn told(f: Folded) -> Answer
     ensures { λ r. ⌜ r ≡ foldedTold f ⌝ }
 {
-    code::tell(
+    refusals::tell(
         f.instructions as u64,
         f.constants as u64,
         f.map as u64,
@@ -43,9 +43,9 @@ fn tested(
 ) -> Answer
     ensures { λ r. ⌜ r ≡ testedTold (readyOf (now (code .entry)) (now (tries .entry)) (now (kinds .entry)) (now (words .entry)) counts lens landings) ⌝ }
 {
-    match lent::ready(code, tries, kinds, words, counts, lens, landings) {
-        Checked::No(r) => code::refused(r),
-        Checked::Count(_) => code::tell(0, 0, 0, 0),
+    match chunk::ready(code, tries, kinds, words, counts, lens, landings) {
+        Checked::No(r) => refusals::refused(r),
+        Checked::Count(_) => refusals::tell(0, 0, 0, 0),
     }
 }
 

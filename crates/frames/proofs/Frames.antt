@@ -30,7 +30,8 @@ unfolding enterOf
 accepted s l q u e = go (ltb 64 (regsOf s)) refl (ltb (firstStrange (regsOf s) l) (length l)) refl (ltb (freeOf (inUse s)) (needOf l)) refl e
   where
     go : (a : Bool) → ltb 64 (regsOf s) ≡ a → (b : Bool) → ltb (firstStrange (regsOf s) l) (length l) ≡ b → (c : Bool) → ltb (freeOf (inUse s)) (needOf l) ≡ c
-        → cond a (ends s (Registers (regsOf s))) (cond b (ends s (Listed (firstStrange (regsOf s) l))) (cond c (ends s (Full (freeOf (inUse s)))) (ends (entered s l q) (Used (inUse s + needOf l))))) .answer ≡ Used u
+        → cond a (ends s (Registers (regsOf s))) (cond b (ends s (Listed (firstStrange (regsOf s) l))) (cond c (ends s (Full (freeOf (inUse s))))
+        (ends (entered s l q) (Used (inUse s + needOf l))))) .answer ≡ Used u
         → Accepted s l q
     go true p b q′ c r h = let z : _≡_ {A = ℕ} 0 1 = cc in absurd (omega arith)
     go false p true q′ c r h = let z : _≡_ {A = ℕ} 0 1 = cc in absurd (omega arith)

@@ -93,7 +93,8 @@ module _ (s : Saver) (ok : Sound s) (l : List ℕ) (q u : ℕ) (entry : enterOf 
     where
       go : Dec (r ≡ q) → getD (fileOf (leaveOf t (returned v) .left)) r 0 ≡ getD (putIn (regsOf s) q v (fileOf s)) r 0
       go (yes e) = subst (λ (x : ℕ). getD (fileOf (leaveOf t (returned v) .left)) x 0 ≡ getD (putIn (regsOf s) q v (fileOf s)) x 0) (sym e)
-          (held-result v (subst (λ (x : ℕ). x < regsOf s) e (below r i)) ∙ sym (in-same (regsOf s) q v (fileOf s) (subst (λ (x : ℕ). x < regsOf s) e (below r i)) long))
+          (held-result v (subst (λ (x : ℕ). x < regsOf s) e (below r i))
+          ∙ sym (in-same (regsOf s) q v (fileOf s) (subst (λ (x : ℕ). x < regsOf s) e (below r i)) long))
       go (no n) = held-return v r i n ∙ sym (in-other (regsOf s) q v (fileOf s) r n)
 
   -- .. and on the result register

@@ -18,7 +18,8 @@ restored regs f (r ∷ l) g = restored regs f l (putIn regs r (getD f r 0) g)
 -- whatever the call makes of it.
 pub data Play : Saver → List CallEvent → Saver → Type 0 where
   done : {s : Saver} → Play s [] s
-  enter : {s t : Saver} {l : List ℕ} {q u : ℕ} {es : List CallEvent} → enterOf s l q .answer ≡ Used u → Play (enterOf s l q .left) es t → Play s (enters l q ∷ es) t
+  enter : {s t : Saver} {l : List ℕ} {q u : ℕ} {es : List CallEvent} → enterOf s l q .answer ≡ Used u → Play (enterOf s l q .left) es t
+      → Play s (enters l q ∷ es) t
   write : {s t : Saver} {new : List ℕ} {es : List CallEvent} → length new ≡ length (s .file) → Play (saver (s .head) (s .area) new) es t
       → Play s (writes new ∷ es) t
   leave : {s t : Saver} {back : Back} {es : List CallEvent} → Play (leaveOf s back .left) es t → Play s (leaves back ∷ es) t

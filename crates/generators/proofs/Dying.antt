@@ -9,12 +9,12 @@ use native.Mathlib.Omega.{arith}
 use lib.ListN.{length}
 use Rattle.laws.specs.Table.{clearedTo}
 use Rattle.laws.proofs.Table.{cleared-length, cleared-twice}
-use Rattle.code.specs.Op.{Phi}
+use Rattle.ops.specs.Op.{Phi}
 use Rattle.code.specs.Ins.{insAt}
 use Rattle.code.specs.declared.Ins.{Ins}
 use Rattle.laid.specs.Section.{laid}
 use Rattle.paths.specs.Search.{Says, SearchSettles}
-use Rattle.phis.specs.Phi.{Dead}
+use Rattle.unread.specs.Phi.{Dead}
 use Rattle.phi_paths.specs.Inner.{PhiRoom}
 use Rattle.outside.specs.Outside.{made, returnsOutside}
 use Rattle.generators.specs.Generator.{PhisDead, GenPure}
@@ -36,7 +36,8 @@ module _ (w a b x y : List ℕ) (room : PhiRoom w a b) (e : x ≡ clearedTo (len
         waiting = rw f (sym (cleared-twice (length w / 6 + 1) b));
       }
 
-  pub settled : (c : Bool) (x′ y′ : List ℕ) → SearchSettles (PhisDead w (length w / 6)) (length w / 6 + 1) x y c x′ y′ → SearchSettles (PhisDead w (length w / 6)) (length w / 6 + 1) a b c x′ y′
+  pub settled : (c : Bool) (x′ y′ : List ℕ) → SearchSettles (PhisDead w (length w / 6)) (length w / 6 + 1) x y c x′ y′ → SearchSettles
+      (PhisDead w (length w / 6)) (length w / 6 + 1) a b c x′ y′
   settled c x′ y′ s =
       record {
         says = s .says;
@@ -129,13 +130,15 @@ pub ruleset walking = (begins, room-at, marks-length, waiting-length, ends, no-p
 
 -- all four tests
 module _ (w : List ℕ) where
-  all-four : (l d m o : Bool) → l ≡ laid w true → Says (PhisDead w (length w / 6)) d → m ≡ made w → o ≡ returnsOutside w → Says (GenPure w) (l && d && not m && o)
+  all-four : (l d m o : Bool) → l ≡ laid w true → Says (PhisDead w (length w / 6)) d → m ≡ made w → o ≡ returnsOutside w → Says (GenPure w)
+      (l && d && not m && o)
   all-four true true false true e s f g = record { laid = sym e; dead = s; unmade = sym f; outside = sym g }
   all-four true true false false e s f g = λ p. false≢true (g ∙ p .outside)
   all-four true true true o e s f g = λ p. true≢false (f ∙ p .unmade)
   all-four true false m o e s f g = λ p. s (p .dead)
   all-four false d m o e s f g = λ p. false≢true (e ∙ p .laid)
 
-  pub generator : (x y x′ y′ : List ℕ) (l d m o : Bool) → SearchSettles (PhisDead w (length w / 6)) (length w / 6 + 1) x y d x′ y′ → l ≡ laid w true → m ≡ made w → o ≡ returnsOutside w
+  pub generator : (x y x′ y′ : List ℕ) (l d m o : Bool) → SearchSettles (PhisDead w (length w / 6)) (length w / 6 + 1) x y d x′ y′ → l ≡ laid w true
+      → m ≡ made w → o ≡ returnsOutside w
       → SearchSettles (GenPure w) (length w / 6 + 1) x y (l && d && not m && o) x′ y′
   generator x y x′ y′ l d m o s e f g = record { says = all-four l d m o e (s .says) f g; marks = s .marks; waiting = s .waiting }

@@ -3,8 +3,8 @@ use Prim.Native.Nat.{ℕ, _+_}
 use mathlib.Core.List.{List}
 use Rattle.code.specs.Ins.{count}
 use Rattle.code.specs.Check.{checkOf}
-use Rattle.code.specs.declared.Answer.{Answer}
-use Rattle.phis.specs.Answers.{roomBoth, Tells}
+use Rattle.refusals.specs.declared.Answer.{Answer}
+use Rattle.unread.specs.Answers.{roomBoth, Tells}
 use Rattle.generators.specs.Generator.{GenPure}
 
 -- 1, 2, 5

@@ -3,10 +3,10 @@ use Prim.Native.Nat.{ℕ, _<_}
 use mathlib.Core.Path.{_≡_}
 use mathlib.Core.Bool.{true, false}
 use mathlib.Core.List.{List}
-use Rattle.code.specs.Op.{Phi}
+use Rattle.ops.specs.Op.{Phi}
 use Rattle.code.specs.Ins.{insAt, count}
 use Rattle.laid.specs.Section.{laid}
-use Rattle.phis.specs.Phi.{Dead}
+use Rattle.unread.specs.Phi.{Dead}
 use Rattle.outside.specs.Outside.{made, returnsOutside}
 
 -- every Phi before m is dead

@@ -11,12 +11,30 @@ use Rattle.groups.specs.Inner.{Sums}
 
 module _ (f g : Figures) where
   pub join-better : (t : Bool) → t ≡ betterOf f g → t ≡ true
-      → record { bodies = f .bodies + g .bodies; levels = f .levels + g .levels; kept = f .kept + g .kept; longest = g .longest; found = f .found || g .found; body = f .bodies + g .body; at = g .at } ≡ joinOf f g
+      → record {
+        bodies = f .bodies + g .bodies;
+        levels = f .levels + g .levels;
+        kept = f .kept + g .kept;
+        longest = g .longest;
+        found = f .found
+            || g .found;
+        body = f .bodies + g .body;
+        at = g .at;
+      } ≡ joinOf f g
   unfolding joinOf
   join-better t e h = rw (sym e ∙ h)
 
   pub join-other : (t : Bool) → t ≡ betterOf f g → t ≡ false
-      → record { bodies = f .bodies + g .bodies; levels = f .levels + g .levels; kept = f .kept + g .kept; longest = f .longest; found = f .found || g .found; body = f .body; at = f .at } ≡ joinOf f g
+      → record {
+        bodies = f .bodies + g .bodies;
+        levels = f .levels + g .levels;
+        kept = f .kept + g .kept;
+        longest = f .longest;
+        found = f .found
+            || g .found;
+        body = f .body;
+        at = f .at;
+      } ≡ joinOf f g
   unfolding joinOf
   join-other t e h = rw (sym e ∙ h)
 

@@ -164,5 +164,6 @@ module _ (n m : ℕ) where
       go : Dec (longestOf (x ∷ xs) < longestOf (y ∷ ys))
           → joinOf (figuresOf n (x ∷ xs)) (figuresOf m (y ∷ ys)) ≡ figuresOf (n + m) ((x ∷ xs) ++ moved n (y ∷ ys))
       go (yes h) = rw (lt-ltb (longestOf (x ∷ xs)) (longestOf (y ∷ ys)) h)
-          (later (x ∷ xs) y ys (longest-both (x ∷ xs) (y ∷ ys) ∙ high (longestOf (x ∷ xs)) (longestOf (y ∷ ys)) h) (first-behind (longestOf (y ∷ ys)) (x ∷ xs) (moved n (y ∷ ys)) h))
+          (later (x ∷ xs) y ys (longest-both (x ∷ xs) (y ∷ ys) ∙ high (longestOf (x ∷ xs)) (longestOf (y ∷ ys)) h) (first-behind (longestOf (y ∷ ys)) (x ∷ xs)
+          (moved n (y ∷ ys)) h))
       go (no h) = rw (le-ltb (longestOf (x ∷ xs)) (longestOf (y ∷ ys)) (omega arith)) (earlier x xs (y ∷ ys) (omega arith))

@@ -14,6 +14,7 @@ pub record Met : Type 0 where
   pub at : ℕ
   pub len : ℕ
 
+-- the level of body b at k, whose list has n registers
 abbrev pub met : ℕ → ℕ → ℕ → Met
 met b k n = record { body = b; at = k; len = n }
 
@@ -22,6 +23,7 @@ unfoldable pub sumOf : List Met → ℕ
 sumOf [] = 0
 sumOf (m ∷ ms) = m .len + sumOf ms
 
+-- the length of the longest list, 0 where there is no level
 unfoldable pub longestOf : List Met → ℕ
 longestOf [] = 0
 longestOf (m ∷ ms) = max (m .len) (longestOf ms)
@@ -31,6 +33,7 @@ unfoldable pub firstAt : ℕ → List Met → Met
 firstAt n [] = met 0 0 0
 firstAt n (m ∷ ms) = cond (eqb (m .len) n) m (firstAt n ms)
 
+-- some level was met
 abbrev pub any : List Met → Bool
 any [] = false
 any (m ∷ ms) = true
@@ -52,6 +55,7 @@ figuresOf b ms = record {
 unfoldable pub betterOf : Figures → Figures → Bool
 betterOf f g = g .found && (not (f .found) || ltb (f .longest) (g .longest))
 
+-- the figures of two groups as those of one, f the earlier
 unfoldable pub joinOf : Figures → Figures → Figures
 joinOf f g =
     let t = betterOf f g in
@@ -69,6 +73,7 @@ joinOf f g =
 abbrev pub most : ℕ
 most = 18446744073709551615
 
+-- two groups joined, or 13 with the number of the first total that would pass 64 bits
 unfoldable pub sumsOf : Figures → Figures → FiguresAnswer
 sumsOf f g =
     cond (ltb (most - f .bodies) (g .bodies)) (Over 1)

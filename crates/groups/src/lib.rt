@@ -2,7 +2,7 @@
 ghost use mathlib.Core.Path.{_≡_};
 ghost use Rattle.groups.specs.Groups.{joinOf, betterOf, sumsOf};
 ghost use Rattle.groups.specs.Inner.{Sums};
-use code::Refusal;
+use refusals::Refusal;
 
 // What is known of a group of bodies: how many, their levels, the registers that these keep, the longest list, and the body and position where
 // it first stands. `found` says that there is a level.

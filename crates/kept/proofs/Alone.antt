@@ -7,10 +7,10 @@ use native.Mathlib.Omega.{arith}
 use lib.ListN.{length, take, drop, length-drop, take-append-drop}
 use lib.Seq.{ext-getD, drop-drop, getD-drop, length-take-le}
 use Rattle.code.specs.Ins.{count}
-use Rattle.code.specs.declared.Refusal.{Refusal}
-use Rattle.code.specs.declared.Checked.{Checked}
-use Rattle.code.specs.declared.Checked.the-variants as stage
-use Rattle.code.specs.declared.Refusal.the-variants.{Short}
+use Rattle.refusals.specs.declared.Refusal.{Refusal}
+use Rattle.refusals.specs.declared.Checked.{Checked}
+use Rattle.refusals.specs.declared.Checked.the-variants as stage
+use Rattle.refusals.specs.declared.Refusal.the-variants.{Short}
 use Rattle.flow.specs.Flow.{Flow}
 use Rattle.flow.specs.Words.{value, rowsOf, Small}
 use Rattle.flow.proofs.Words.{holds-one}
@@ -32,7 +32,8 @@ small-drop : (bits n : ℕ) (l : List ℕ) → Small bits l → Small bits (drop
 small-drop bits n l s j = rw (getD-drop n l j 0) (s (n + j))
 
 -- and a buffer by its rows and the words past them
-buffer-one : (bits : ℕ) → 0 < bits → (words m : ℕ) (a b : List ℕ) → length a ≡ length b → Small bits a → Small bits b → m * words ≤ length a → rowsOf bits words m a ≡ rowsOf bits words m b
+buffer-one : (bits : ℕ) → 0 < bits → (words m : ℕ) (a b : List ℕ) → length a ≡ length b → Small bits a → Small bits b → m * words ≤ length a
+    → rowsOf bits words m a ≡ rowsOf bits words m b
     → drop (m * words) a ≡ drop (m * words) b → a ≡ b
 unfolding rowsOf
 buffer-one bits some words zero a b e sa sb l q d = ap (λ (x : ℕ). drop x a) (none words) ∙ d ∙ sym (ap (λ (x : ℕ). drop x b) (none words))
@@ -41,7 +42,8 @@ buffer-one bits some words zero a b e sa sb l q d = ap (λ (x : ℕ). drop x a) 
     none x = omega arith
 buffer-one bits some words (suc m) a b e sa sb l q d =
     sym (take-append-drop words a)
-    ∙ ap₂ _++_ heads (buffer-one bits some words m (drop words a) (drop words b) (omega (arith, length-drop words a, length-drop words b)) (small-drop bits words a sa) (small-drop bits words b sb)
+    ∙ ap₂ _++_ heads (buffer-one bits some words m (drop words a) (drop words b) (omega (arith, length-drop words a, length-drop words b))
+    (small-drop bits words a sa) (small-drop bits words b sb)
     (omega (arith, suc-mul m words, length-drop words a)) (tail-eq-of-cons-eq q) (later a ∙ d ∙ sym (later b)))
     ∙ take-append-drop words b
   where
@@ -49,7 +51,8 @@ buffer-one bits some words (suc m) a b e sa sb l q d =
     fits = omega (arith, suc-mul m words)
 
     heads : take words a ≡ take words b
-    heads = value-one bits some (take words a) (take words b) (length-take-le words a fits ∙ sym (length-take-le words b (omega (arith, fits)))) (small-window bits words 0 a sa) (small-window bits words 0 b sb) (head-eq-of-cons-eq q)
+    heads = value-one bits some (take words a) (take words b) (length-take-le words a fits ∙ sym (length-take-le words b (omega (arith, fits))))
+        (small-window bits words 0 a sa) (small-window bits words 0 b sb) (head-eq-of-cons-eq q)
 
     later : (x : List ℕ) → drop (m * words) (drop words x) ≡ drop (suc m * words) x
     later x = drop-drop (m * words) words x ∙ ap (λ (y : ℕ). drop y x) (sum (suc-mul m words))
@@ -73,7 +76,8 @@ module _ (f : Flow) (start bits : ℕ) (some : 0 < bits) (w : List ℕ) (regs : 
 
   -- the scratch being words of so many bits, any two outcomes by the same equations are the same
   pub outcome-one : {a b c a′ b′ c′ : List ℕ} {r r′ : KeptAnswer} → Small bits a → Small bits a′
-      → ListsLeft f start bits w regs tries rows offsets list a b c r → ListsLeft f start bits w regs tries rows offsets list a′ b′ c′ r′ → (a ≡ a′) × (b ≡ b′) × (c ≡ c′) × (r ≡ r′)
+      → ListsLeft f start bits w regs tries rows offsets list a b c r → ListsLeft f start bits w regs tries rows offsets list a′ b′ c′ r′ → (a ≡ a′) × (b ≡ b′)
+      × (c ≡ c′) × (r ≡ r′)
   outcome-one sa sb (refused p) (refused q) = (refl, refl, refl, refusal-one (stagesOf bits w regs tries (length rows) (length offsets)) _ _ p q)
   outcome-one sa sb (refused p) (short q s g) = never (stagesOf bits w regs tries (length rows) (length offsets)) _ _ q p
   outcome-one sa sb (refused p) (told q s g) = never (stagesOf bits w regs tries (length rows) (length offsets)) _ _ q p

@@ -72,14 +72,21 @@ module _ (f : Flow) (start bits : ℕ) (w : List ℕ) (regs : ℕ) (tries rows o
     pub lists : c ≡ over (listsTo regs w tries (rowsIn bits regs w a) (count w)) list
     pub total : t ≡ length (listsTo regs w tries (rowsIn bits regs w a) (count w))
 
-  pub left-by : {a b c : List ℕ} {r : KeptAnswer} → ListsLeft f start bits w regs tries rows offsets list a b c r → (t x y : ℕ) → r ≡ Is t x y → LeftBy a b c t x y
+  pub left-by : {a b c : List ℕ} {r : KeptAnswer} → ListsLeft f start bits w regs tries rows offsets list a b c r → (t x y : ℕ) → r ≡ Is t x y
+      → LeftBy a b c t x y
   left-by (refused p) t x y e = let z : _≡_ {A = ℕ} 0 1 = cc in absurd (omega arith)
   left-by (short p q l) t x y e = let z : _≡_ {A = ℕ} 0 1 = cc in absurd (omega arith)
   left-by {a = a} (told {full = full} {abandoned = lost} p q l) t x y e =
       let h : full ≡ x = cc in
       let k : lost ≡ y = cc in
       let m : length (listsTo regs w tries (rowsIn bits regs w a) (count w)) ≡ t = cc in
-      record { valid = accepted-valid bits w regs tries (length rows) (length offsets) (count w) p; scratch = rw (← h, ← k) q; begins = refl; lists = refl; total = sym m }
+      record {
+        valid = accepted-valid bits w regs tries (length rows) (length offsets) (count w) p;
+        scratch = rw (← h, ← k) q;
+        begins = refl;
+        lists = refl;
+        total = sym m;
+      }
 
   module _ (new o l : List ℕ) (total full abandoned : ℕ) (out : ListsLeft f start bits w regs tries rows offsets list new o l (Is total full abandoned)) (k : ℕ)
       (inCode : k < count w) where
@@ -88,7 +95,8 @@ module _ (f : Flow) (start bits : ℕ) (w : List ℕ) (regs : ℕ) (tries rows o
 
     -- offsets[k]..offsets[k + 1] of the lent list is the kept list of position k, by the rows in the scratch
     pub stands-by : partAt o l k ≡ keptAt regs w tries (rowsIn bits regs w new) k
-    stands-by = ap₂ (λ (x y : List ℕ). partAt x y k) (answer-by .begins) (answer-by .lists) ∙ part-is regs w tries (rowsIn bits regs w new) (count w) k offsets list inCode
+    stands-by = ap₂ (λ (x y : List ℕ). partAt x y k) (answer-by .begins) (answer-by .lists) ∙ part-is regs w tries (rowsIn bits regs w new) (count w) k offsets
+        list inCode
 
     -- which is empty where k is no level
     pub empty-by : isLevel (insAt w k) ≡ false → partAt o l k ≡ []
@@ -125,7 +133,8 @@ module _ (bits : ℕ) (w : List ℕ) (regs : ℕ) (tries : List ℕ) (wide : Boo
 
     -- demand 3: what stands in the lent list is enough for the level, and no register of it is idle
     pub demand-3 : Keeps (flow regs w) (partAt o l k) (levelOf regs w tries k)
-    demand-3 = subst (λ (x : List ℕ). Keeps (flow regs w) x (levelOf regs w tries k)) (sym level-list) (level-keeps (flow regs w) (routeStart bits wide regs w) (inside bits wide regs w) (rowsIn bits regs w new) full abandoned (answer .scratch .found) k (resumeOf w k) (resultOf regs w k) tries
+    demand-3 = subst (λ (x : List ℕ). Keeps (flow regs w) x (levelOf regs w tries k)) (sym level-list) (level-keeps (flow regs w) (routeStart bits wide regs w)
+        (inside bits wide regs w) (rowsIn bits regs w new) full abandoned (answer .scratch .found) k (resumeOf w k) (resultOf regs w k) tries
         (before bits wide regs w k inCode level) inCode (resume-in w k (answer .valid) inCode .0))
 
     -- drop any register from any kept list: two files agree on what is left and are told apart

@@ -32,7 +32,8 @@ use Rattle.lists.proofs.Handlers.{union-count, kept-wide}
 
 -- ---- the resume row less the result register
 
-module _ (bits hand regs : ℕ) (w : List ℕ) (words : ℕ) (rows : List ℕ) (k at result : ℕ) (ready : LevelsRoom bits hand regs w words rows) (l : k < count w) (g : Goes w k at result) where
+module _ (bits hand regs : ℕ) (w : List ℕ) (words : ℕ) (rows : List ℕ) (k at result : ℕ) (ready : LevelsRoom bits hand regs w words rows) (l : k < count w)
+    (g : Goes w k at result) where
   at-in : at ≤ count w
   at-in = omega (arith, g .resumes, resume-in w k (ready .valid) l .1)
 
@@ -47,7 +48,8 @@ module _ (bits hand regs : ℕ) (w : List ℕ) (words : ℕ) (rows : List ℕ) (
       → Holds bits out (minus (row (rowsOf bits words (suc (count w)) rows) (resumeOf w k)) (resultOf regs w k))
   unfolding joined
   main-is whole out p q = as-set q (ap₂ minus
-      (p .is ∙ ap (λ (x : ℕ). bitOr x (value bits (take words (drop (at * words) rows)))) (holds-none bits (ready .width .some) hand .is) ∙ or-zero-l (value bits (take words (drop (at * words) rows)))
+      (p .is ∙ ap (λ (x : ℕ). bitOr x (value bits (take words (drop (at * words) rows)))) (holds-none bits (ready .width .some) hand .is)
+      ∙ or-zero-l (value bits (take words (drop (at * words) rows)))
       ∙ sym (rows-at bits words (suc (count w)) rows at (omega (arith, at-in))) ∙ ap (row (rowsOf bits words (suc (count w)) rows)) (g .resumes))
       (or-zero-r (alone regs result) ∙ ap (alone regs) (g .results)))
 
@@ -74,7 +76,8 @@ module _ (bits hand regs : ℕ) (w tries rows : List ℕ) (words k : ℕ) (ready
   module _ (u : List ℕ) (g : Holds bits u (bitOr (value bits s) (joined (row (rowsOf bits words (suc (count w)) rows)) (handlersOf (count w) k tries)))) (r : ℕ)
       (c : r ≡ length (listed (words * bits) 0 (value bits u))) where
     pub level-count : r ≡ length (kept regs (row (rowsOf bits words (suc (count w)) rows)) (levelOf regs w tries k))
-    level-count = c ∙ ap (λ (x : ℕ). length (listed (words * bits) 0 x)) (g .is) ∙ sym (union-count (words * bits) Q (handlersOf (count w) k tries) (value bits s)) ∙ ap length (sym whole)
+    level-count = c ∙ ap (λ (x : ℕ). length (listed (words * bits) 0 x)) (g .is) ∙ sym (union-count (words * bits) Q (handlersOf (count w) k tries)
+        (value bits s)) ∙ ap length (sym whole)
 
     pub level-few : r ≤ 1024
     level-few = omega (arith, c, listed-le (words * bits) 0 (value bits u), mul-le-mul-right bits (ready .narrow), ready .width .span)
@@ -88,11 +91,14 @@ module _ (bits hand regs : ℕ) (w tries rows : List ℕ) (words k : ℕ) (ready
     level-room = omega (arith, sizes)
 
     module _ (out : List ℕ) (at : ℕ) (a : Listing (listed (words * bits) 0 (value bits s)) old m out at) where
-      pub level-rest : at + length (added (words * bits) (row (rowsOf bits words (suc (count w)) rows)) (value bits s) (handlersOf (count w) k tries)) ≤ length out
+      pub level-rest : at + length (added (words * bits) (row (rowsOf bits words (suc (count w)) rows)) (value bits s) (handlersOf (count w) k tries)) ≤ length
+          out
       level-rest = omega (arith, sizes, a .past, ap length (a .put), length-paste old m first (length first) (omega (arith, sizes)) (omega arith))
 
-      pub level-list : (out′ : List ℕ) (at′ : ℕ) → Listing (added (words * bits) (row (rowsOf bits words (suc (count w)) rows)) (value bits s) (handlersOf (count w) k tries)) out at out′ at′
+      pub level-list : (out′ : List ℕ) (at′ : ℕ) → Listing (added (words * bits) (row (rowsOf bits words (suc (count w)) rows)) (value bits s)
+          (handlersOf (count w) k tries)) out at out′ at′
           → Listing (kept regs (row (rowsOf bits words (suc (count w)) rows)) (levelOf regs w tries k)) old m out′ at′
-      level-list out′ at′ b = subst (λ (x : List ℕ). Listing x old m out′ at′) (sym whole) (listing-append first then old out out′ m at at′ (omega (arith, fits, ap length whole)) a b)
+      level-list out′ at′ b = subst (λ (x : List ℕ). Listing x old m out′ at′) (sym whole) (listing-append first then old out out′ m at at′
+          (omega (arith, fits, ap length whole)) a b)
 
 pub ruleset levels = (level-count, level-few, level-room, level-rest, level-list)

@@ -16,7 +16,8 @@ module _ (l old : List ℕ) where
   pub over-paste : (K : List ℕ) (m : ℕ) → m ≡ length l → paste (over l old) m K (length K) ≡ over (l ++ K) old
   over-paste K m e = ap (λ (x : ℕ). paste (over l old) x K (length K)) e ∙ ap₂ _++_
       (ap₂ _++_ (take-append-seam l (drop (length l) old)) (ap (take (length K)) (sym (append-nil K)) ∙ take-append-seam K []))
-      (sym (drop-drop (length K) (length l) (over l old)) ∙ ap (drop (length K)) (drop-append-seam l (drop (length l) old)) ∙ drop-drop (length K) (length l) old
+      (sym (drop-drop (length K) (length l) (over l old)) ∙ ap (drop (length K)) (drop-append-seam l (drop (length l) old)) ∙ drop-drop (length K)
+      (length l) old
       ∙ ap (λ (x : ℕ). drop x old) (sym (length-append l K)))
 
   -- one more word

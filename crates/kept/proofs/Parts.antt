@@ -48,19 +48,27 @@ module _ (regs : ℕ) (w tries rows : List ℕ) where
       go : Dec (k ≡ n) → (k < n → (rest : List ℕ) × (L n ≡ L k ++ (one k ++ rest))) → (rest : List ℕ) × (L n ++ one n ≡ L k ++ (one k ++ rest))
       go (yes e) rec = ([], ap (λ (x : ℕ). L x ++ one x) (sym e) ∙ ap (λ (x : List ℕ). L k ++ x) (sym (append-nil (one k))))
       go (no ne) rec =
-          let (rest, q) = rec (omega arith) in
-          (rest ++ one n, ap (λ (x : List ℕ). x ++ one n) q ∙ append-assoc (L k) (one k ++ rest) (one n) ∙ ap (λ (x : List ℕ). L k ++ x) (append-assoc (one k) rest (one n)))
+          let (rest, q) = rec (omega arith) in (
+            rest ++ one n,
+            ap (λ (x : List ℕ). x ++ one n) q ∙ append-assoc (L k) (one k ++ rest) (one n) ∙ ap (λ (x : List ℕ). L k ++ x)
+                (append-assoc (one k) rest (one n)),
+          )
 
   -- offsets[k]..offsets[k + 1] is the list of k
-  pub part-is : (n k : ℕ) (offsets list : List ℕ) → k < n → partAt (over (offsetsTo regs w tries rows (suc n)) offsets) (over (listsTo regs w tries rows n) list) k ≡ keptAt regs w tries rows k
+  pub part-is : (n k : ℕ) (offsets list : List ℕ) → k < n → partAt (over (offsetsTo regs w tries rows (suc n)) offsets)
+      (over (listsTo regs w tries rows n) list) k ≡ keptAt regs w tries rows k
   unfolding listsTo
   part-is n k offsets list l =
-      ap₂ (λ (a b : ℕ). take (a - b) (drop b (over (L n) list))) (there (k + 1) (omega arith) ∙ ap (λ (x : ℕ). length (L x)) (add-one k)) (there k (omega arith))
-      ∙ ap₂ (λ (d : ℕ) (x : List ℕ). take d x) size (ap (λ (x : List ℕ). drop (length (L k)) (x ++ drop (length (L n)) list)) (q) ∙ ap (drop (length (L k))) (append-assoc (L k) (one k ++ rest) (drop (length (L n)) list)) ∙ drop-append-seam (L k) ((one k ++ rest) ++ drop (length (L n)) list) ∙ append-assoc (one k) rest (drop (length (L n)) list))
+      ap₂ (λ (a b : ℕ). take (a - b) (drop b (over (L n) list))) (there (k + 1) (omega arith) ∙ ap (λ (x : ℕ). length (L x)) (add-one k))
+      (there k (omega arith))
+      ∙ ap₂ (λ (d : ℕ) (x : List ℕ). take d x) size (ap (λ (x : List ℕ). drop (length (L k)) (x ++ drop (length (L n)) list)) (q) ∙ ap (drop (length (L k)))
+      (append-assoc (L k) (one k ++ rest) (drop (length (L n)) list)) ∙ drop-append-seam (L k) ((one k ++ rest) ++ drop (length (L n)) list) ∙ append-assoc
+      (one k) rest (drop (length (L n)) list))
       ∙ take-append-seam (one k) (rest ++ drop (length (L n)) list)
     where
       there : (j : ℕ) → j < suc n → getD (over (O (suc n)) offsets) j 0 ≡ length (L j)
-      there j h = List·getD-append (O (suc n)) (drop (length (O (suc n))) offsets) 0 j (omega (arith, offsets-long regs w tries rows (suc n))) ∙ offset-at (suc n) j h
+      there j h = List·getD-append (O (suc n)) (drop (length (O (suc n))) offsets) 0 j (omega (arith, offsets-long regs w tries rows (suc n)))
+          ∙ offset-at (suc n) j h
 
       rest : List ℕ
       rest = split n k l .0

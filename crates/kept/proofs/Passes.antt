@@ -40,11 +40,13 @@ module _ (regs : ℕ) (w tries rows : List ℕ) (k : ℕ) (i : Ins) (e : i ≡ i
     pub keep-room : b ≡ true → m + length (keptAt regs w tries rows k) ≤ length old → m + length (kept regs (row rows) (levelOf regs w tries k)) ≤ length old
     keep-room h l = subst (λ (L : List ℕ). m + length L ≤ length old) (at-level true h) l
 
-    pub keep-is : b ≡ true → (out : List ℕ) (r : ℕ) → Listing (kept regs (row rows) (levelOf regs w tries k)) old m out r → Listing (keptAt regs w tries rows k) old m out r
+    pub keep-is : b ≡ true → (out : List ℕ) (r : ℕ) → Listing (kept regs (row rows) (levelOf regs w tries k)) old m out r → Listing (keptAt regs w tries rows k)
+        old m out r
     keep-is h out r p = subst (λ (L : List ℕ). Listing L old m out r) (sym (at-level true h)) p
 
     pub keep-none : b ≡ false → m + length (keptAt regs w tries rows k) ≤ length old → Listing (keptAt regs w tries rows k) old m old m
-    keep-none h l = subst (λ (L : List ℕ). Listing L old m old m) (sym (at-level false h)) (written-end [] old m old m [] (written-start [] old m [] refl) (omega arith) refl)
+    keep-none h l = subst (λ (L : List ℕ). Listing L old m old m) (sym (at-level false h)) (written-end [] old m old m [] (written-start [] old m [] refl)
+        (omega arith) refl)
 
 pub ruleset counted = (count-is, count-none)
 
@@ -74,7 +76,8 @@ module _ (regs : ℕ) (w tries rows : List ℕ) where
     where
       same : k ≡ 0 + k
       same = omega arith
-  grows (suc d) k = subst (λ (x : ℕ). length (listsTo regs w tries rows k) ≤ length (listsTo regs w tries rows x)) same (omega (arith, grows d k, sum-next (d + k)))
+  grows (suc d) k = subst (λ (x : ℕ). length (listsTo regs w tries rows k) ≤ length (listsTo regs w tries rows x)) same
+      (omega (arith, grows d k, sum-next (d + k)))
     where
       same : d + k + 1 ≡ suc d + k
       same = omega arith
@@ -150,7 +153,8 @@ module _ (regs : ℕ) (w tries rows : List ℕ) where
       filling-room a = omega (arith, filling-list, h .sum, sum-next k, lists-mono (k + 1) (count w) (omega arith))
 
       module _ (there : count w < length offsets) where
-        pub filling-more : k < count w → (l′ : List ℕ) (m′ : ℕ) → Listing (keptAt regs w tries rows k) l m l′ m′ → Filling offsets list (set o k m) l′ m′ (k + 1)
+        pub filling-more : k < count w → (l′ : List ℕ) (m′ : ℕ) → Listing (keptAt regs w tries rows k) l m l′ m′ → Filling offsets list (set o k m) l′ m′
+            (k + 1)
         filling-more a l′ m′ p = record {
           le = omega arith;
           sum = p .past ∙ ap (λ (x : ℕ). x + length (keptAt regs w tries rows k)) (h .sum) ∙ sym (sum-next k);
@@ -163,8 +167,10 @@ module _ (regs : ℕ) (w tries rows : List ℕ) where
         pub filling-end : count w ≤ k → Filled regs w tries rows offsets list (set o (count w) m) l
         unfolding offsetsTo
         filling-end a = record {
-          begins = ap₂ (λ (x : List ℕ) (y : ℕ). set x y m) (h .begins) (sym whole) ∙ over-set (offsetsTo regs w tries rows k) offsets m k (sym (offsets-long k)) (omega arith)
-              ∙ ap (λ (x : List ℕ). over x offsets) (ap (λ (x : ℕ). offsetsTo regs w tries rows k ++ (x ∷ [])) (h .sum) ∙ ap (λ (x : ℕ). offsetsTo regs w tries rows (suc x)) whole);
+          begins = ap₂ (λ (x : List ℕ) (y : ℕ). set x y m) (h .begins) (sym whole) ∙ over-set (offsetsTo regs w tries rows k) offsets m k (sym (offsets-long k))
+              (omega arith)
+              ∙ ap (λ (x : List ℕ). over x offsets) (ap (λ (x : ℕ). offsetsTo regs w tries rows k ++ (x ∷ [])) (h .sum)
+              ∙ ap (λ (x : ℕ). offsetsTo regs w tries rows (suc x)) whole);
           lists = h .lists ∙ ap (λ (x : ℕ). over (listsTo regs w tries rows x) list) whole;
         }
           where
@@ -173,4 +179,15 @@ module _ (regs : ℕ) (w tries rows : List ℕ) where
 
 pub ruleset summings = (summing-start, summing-end, summing-few, summing-fits, summing-more)
 
-pub ruleset fillings = (filling-start, filling-fits, filling-offsets, filling-write, filling-write-last, filling-set, filling-list, filling-room, filling-more, filling-end)
+pub ruleset fillings = (
+  filling-start,
+  filling-fits,
+  filling-offsets,
+  filling-write,
+  filling-write-last,
+  filling-set,
+  filling-list,
+  filling-room,
+  filling-more,
+  filling-end,
+)

@@ -9,13 +9,14 @@ use borrow.Author.Needs.{fits-under}
 use mir.Syntax.{w64}
 use mir.Val.{Fits}
 use Rattle.code.specs.Ins.{count}
-use Rattle.code.specs.Check.{checkOf, registersOf, triedOf, roomOf}
+use Rattle.code.specs.Check.{checkOf}
+use Rattle.refusals.specs.Stages.{registersOf, triedOf, roomOf}
 use Rattle.code.specs.Inner.{Valid}
-use Rattle.code.specs.declared.Refusal.{Refusal}
-use Rattle.code.specs.declared.Checked.{Checked}
-use Rattle.code.specs.declared.Checked.the-variants.{Count, No}
+use Rattle.refusals.specs.declared.Refusal.{Refusal}
+use Rattle.refusals.specs.declared.Checked.{Checked}
+use Rattle.refusals.specs.declared.Checked.the-variants.{Count, No}
 use Rattle.code.proofs.Checks.{counted, checked}
-use Rattle.code.proofs.Stages.{regs-before, regs-few, tries-before, room-before, room-there}
+use Rattle.refusals.proofs.Stages.{regs-before, regs-few, tries-before, room-before, room-there}
 use Rattle.rows.specs.Route.{wordsFor}
 use Rattle.rows.proofs.Routes.{words-few}
 use Rattle.kept.specs.Answers.{scratchFor, stagesOf}
@@ -60,7 +61,8 @@ module _ (w : List ℕ) (regs : ℕ) (tries : List ℕ) (v u t : Checked) (e : v
 
     module _ (bits m : ℕ) (q : m ≡ wordsFor bits regs) where
       pub stage-mul : 0 < bits → Fits w64 ((n + 1) * m)
-      stage-mul wide = scaled (n + 1) m (omega (arith, past-count w regs tries n (chain ∙ h), past-valid w regs tries n (chain ∙ h) .few)) (words-few bits regs m q 1024 wide (zero-lt-suc 1023) (far wide stage-few))
+      stage-mul wide = scaled (n + 1) m (omega (arith, past-count w regs tries n (chain ∙ h), past-valid w regs tries n (chain ∙ h) .few))
+          (words-few bits regs m q 1024 wide (zero-lt-suc 1023) (far wide stage-few))
 
       pub stage-yes : (x y : Checked) (a b : ℕ) → x ≡ roomOf (Count n) 1 a ((n + 1) * m) → y ≡ roomOf x 2 b (n + 1) → y ≡ stagesOf bits w regs tries a b
       unfolding stagesOf

@@ -73,7 +73,8 @@ module _ (w : List ℕ) (regs : ℕ) (tries : List ℕ) (valid : Valid w) (bits 
   unfolding keptAt
   kept-same k l = go (isLevel (insAt w k)) refl
     where
-      go : (t : Bool) → isLevel (insAt w k) ≡ t → cond t (kept regs (row R) (levelOf regs w tries k)) [] ≡ cond t (kept regs (row S) (levelOf regs w tries k)) []
+      go : (t : Bool) → isLevel (insAt w k) ≡ t → cond t (kept regs (row R) (levelOf regs w tries k)) [] ≡ cond t (kept regs (row S) (levelOf regs w tries k))
+          []
       go true e = kept-agree regs (row R) (row S) (levelOf regs w tries k)
           (from (resumeOf w k) (resume-in w k valid l .0)) (λ h m. from h (omega (arith, handlers-past (count w) k l tries h m .0)))
         where
@@ -107,7 +108,8 @@ module _ (bits : ℕ) (w : List ℕ) (regs : ℕ) (tries : List ℕ) (wide : Boo
 
   offsets-are : take (suc (count w)) b ≡ offsetsTo regs w tries (rowsIn bits regs w a) (suc (count w))
   offsets-are = ap (take (suc (count w))) (said .begins)
-      ∙ front (offsetsTo regs w tries (rowsIn bits regs w a) (suc (count w))) offsets (suc (count w)) (offsets-long regs w tries (rowsIn bits regs w a) (suc (count w)))
+      ∙ front (offsetsTo regs w tries (rowsIn bits regs w a) (suc (count w))) offsets (suc (count w)) (offsets-long regs w tries (rowsIn bits regs w a)
+      (suc (count w)))
 
 -- Two calls with the same code, register count and tries, of whatever widths and routes, that both answer: one length, one list, one page of offsets.
 module _ (w : List ℕ) (regs : ℕ) (tries : List ℕ) (bits bits′ : ℕ) (wide wide′ : Bool) (rows offsets list rows′ offsets′ list′ : List ℕ)
@@ -126,7 +128,8 @@ module _ (w : List ℕ) (regs : ℕ) (tries : List ℕ) (bits bits′ : ℕ) (wi
   totals-one = one .total ∙ ap length all ∙ sym (other .total)
 
   pub lists-one : take t c ≡ take t′ c′
-  lists-one = list-is bits w regs tries wide rows offsets list a b c t f g p ∙ all ∙ sym (list-is bits′ w regs tries wide′ rows′ offsets′ list′ a′ b′ c′ t′ f′ g′ q)
+  lists-one = list-is bits w regs tries wide rows offsets list a b c t f g p ∙ all ∙ sym (list-is bits′ w regs tries wide′ rows′ offsets′ list′ a′ b′ c′ t′ f′
+      g′ q)
 
   pub offsets-one : take (suc (count w)) b ≡ take (suc (count w)) b′
   offsets-one = offsets-are bits w regs tries wide rows offsets list a b c t f g p

@@ -5,11 +5,12 @@ use mathlib.Core.Bool.{Bool}
 use mathlib.Core.List.{List}
 use lib.ListN.{length, drop}
 use Rattle.code.specs.Ins.{count}
-use Rattle.code.specs.Check.{checkOf, registersOf, triedOf, roomOf}
-use Rattle.code.specs.declared.Checked.{Checked}
-use Rattle.code.specs.declared.Checked.the-variants as stage
-use Rattle.code.specs.declared.Refusal.{Refusal}
-use Rattle.code.specs.declared.Refusal.the-variants.{Short}
+use Rattle.code.specs.Check.{checkOf}
+use Rattle.refusals.specs.Stages.{registersOf, triedOf, roomOf}
+use Rattle.refusals.specs.declared.Checked.{Checked}
+use Rattle.refusals.specs.declared.Checked.the-variants as stage
+use Rattle.refusals.specs.declared.Refusal.{Refusal}
+use Rattle.refusals.specs.declared.Refusal.the-variants.{Short}
 use Rattle.flow.specs.Flow.{Flow}
 use Rattle.flow.specs.Sweep.{Found}
 use Rattle.steps.specs.Code.{flow}
@@ -24,7 +25,8 @@ scratchFor bits regs w = suc (count w) * wordsFor bits regs
 
 -- 1, 2, 3, 4, then 5 for the scratch and the offsets
 unfoldable pub stagesOf : ℕ → List ℕ → ℕ → List ℕ → ℕ → ℕ → Checked
-stagesOf bits w regs tries scratch offsets = roomOf (roomOf (triedOf (registersOf (checkOf w) regs) tries) 1 scratch (scratchFor bits regs w)) 2 offsets (suc (count w))
+stagesOf bits w regs tries scratch offsets = roomOf (roomOf (triedOf (registersOf (checkOf w) regs) tries) 1 scratch (scratchFor bits regs w)) 2 offsets
+    (suc (count w))
 
 -- the scratch holds the rows that the sweeps of some equations find from a start on, words past them as lent; the counts are the definition's
 pub record RowsLeft (f : Flow) (start bits regs : ℕ) (w old new : List ℕ) (full abandoned : ℕ) : Type 0 where
@@ -37,6 +39,7 @@ module _ (bits : ℕ) (w : List ℕ) (regs : ℕ) (tries : List ℕ) where
   abbrev pub listOf : List ℕ → List ℕ
   listOf new = listsTo regs w tries (rowsIn bits regs w new) (count w)
 
+  -- the n + 1 offsets of the lists, by the rows in the scratch
   abbrev pub offsetsOf : List ℕ → List ℕ
   offsetsOf new = offsetsTo regs w tries (rowsIn bits regs w new) (suc (count w))
 
@@ -52,7 +55,8 @@ module _ (f : Flow) (start bits : ℕ) (w : List ℕ) (regs : ℕ) (tries rows o
     -- the list's length and the two sweep counts
     told : {new : List ℕ} {full abandoned : ℕ} → stagesOf bits w regs tries (length rows) (length offsets) ≡ stage.Count (count w)
         → RowsLeft f start bits regs w rows new full abandoned → length (listOf bits w regs tries new) ≤ length list
-        → ListsLeft new (over (offsetsOf bits w regs tries new) offsets) (over (listOf bits w regs tries new) list) (Is (length (listOf bits w regs tries new)) full abandoned)
+        → ListsLeft new (over (offsetsOf bits w regs tries new) offsets) (over (listOf bits w regs tries new) list)
+        (Is (length (listOf bits w regs tries new)) full abandoned)
 
 -- the kept-register call of document 01
 abbrev pub Outcome : ℕ → List ℕ → ℕ → List ℕ → Bool → (rows offsets list new o l : List ℕ) → KeptAnswer → Type 0

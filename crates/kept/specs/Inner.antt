@@ -24,7 +24,8 @@ pub record Width (bits hand : ℕ) : Type 0 where
   pub few : hand ≤ 1024
   pub span : hand * bits ≡ 1024
 
--- what a pass over the levels relies on, with words of so many bits and so many of them in hand: valid code, its rows in so many words each, and no register at or above the count
+-- what a pass over the levels relies on, with words of so many bits and so many of them in hand: valid code, its rows in so many words each, and no register at
+-- or above the count
 pub record LevelsRoom (bits hand regs : ℕ) (w : List ℕ) (words : ℕ) (buf : List ℕ) : Type 0 where
   pub width : Width bits hand
   pub valid : Valid w

@@ -11,8 +11,8 @@ ghost use Rattle.kept.specs.Level.{resumeOf, resultOf, levelOf, keptAt};
 ghost use Rattle.kept.specs.Lists.{listsTo};
 ghost use Rattle.kept.specs.Inner.{rowsBy, LevelsRoom, Filled};
 ghost use Rattle.kept.specs.Answers.{stagesOf, Outcome};
-use code::Checked;
-use code::Refusal;
+use refusals::Checked;
+use refusals::Refusal;
 
 // The list's length and the counts of full and of abandoned sweeps, or the refusal.
 pub enum KeptAnswer {
@@ -30,7 +30,8 @@ pub fn kept(
     offsets: &mut [u32],
     list: &mut [u16],
 ) -> KeptAnswer
-    ensures { λ r. ⌜ Outcome 64 (now (code .entry)) regs (now (tries .entry)) wide (now (rows .entry)) (now (offsets .entry)) (now (list .entry)) (now (rows .exit)) (now (offsets .exit)) (now (list .exit)) r ⌝ }
+    ensures { λ r. ⌜ Outcome 64 (now (code .entry)) regs (now (tries .entry)) wide (now (rows .entry)) (now (offsets .entry)) (now (list .entry))
+        (now (rows .exit)) (now (offsets .exit)) (now (list .exit)) r ⌝ }
 {
     let v = stages(code, regs, tries, rows.len(), offsets.len());
     match v {
@@ -42,7 +43,8 @@ pub fn kept(
 // The resume row of the level at k, less its result register.
 pub fn main_row(code: &[u16], regs: usize, rows: &[u64], words: usize, k: usize) -> [u64; 16]
     requires { ⌜ LevelsRoom 64 16 regs (now code) words (now rows) × (k < count (now code)) ⌝ }
-    ensures { λ s. ⌜ Holds 64 s (minus (row (rowsBy 64 words (now (code .entry)) (now (rows .entry))) (resumeOf (now (code .entry)) k)) (resultOf regs (now (code .entry)) k)) ⌝ }
+    ensures { λ s. ⌜ Holds 64 s (minus (row (rowsBy 64 words (now (code .entry)) (now (rows .entry))) (resumeOf (now (code .entry)) k))
+        (resultOf regs (now (code .entry)) k)) ⌝ }
 {
     let a = steps::after(code, k);
     let whole = sets::join_row([0u64; 16], rows, a.at * words, words);
@@ -59,7 +61,8 @@ fn count_level(
     k: usize,
 ) -> usize
     requires { ⌜ LevelsRoom 64 16 regs (now code) words (now rows) × (k < count (now code)) ⌝ }
-    ensures { λ r. ⌜ (r ≡ length (keptOf regs (row (rowsBy 64 words (now (code .entry)) (now (rows .entry)))) (levelOf regs (now (code .entry)) (now (tries .entry)) k))) × (r ≤ 1024) ⌝ }
+    ensures { λ r. ⌜ (r ≡ length (keptOf regs (row (rowsBy 64 words (now (code .entry)) (now (rows .entry))))
+        (levelOf regs (now (code .entry)) (now (tries .entry)) k))) × (r ≤ 1024) ⌝ }
 {
     let main = main_row(code, regs, rows, words, k);
     let all = lists::join_tries(main, rows, code.len() / 6, words, k, tries);
@@ -77,8 +80,10 @@ fn keep_level(
     out: &mut [u16],
     m: usize,
 ) -> usize
-    requires { ⌜ LevelsRoom 64 16 regs (now code) words (now rows) × (k < count (now code)) × (m + length (keptOf regs (row (rowsBy 64 words (now code) (now rows))) (levelOf regs (now code) (now tries) k)) ≤ length (now out)) ⌝ }
-    ensures { λ r. ⌜ Listing (keptOf regs (row (rowsBy 64 words (now (code .entry)) (now (rows .entry)))) (levelOf regs (now (code .entry)) (now (tries .entry)) k)) (now (out .entry)) m (now (out .exit)) r ⌝ }
+    requires { ⌜ LevelsRoom 64 16 regs (now code) words (now rows) × (k < count (now code))
+        × (m + length (keptOf regs (row (rowsBy 64 words (now code) (now rows))) (levelOf regs (now code) (now tries) k)) ≤ length (now out)) ⌝ }
+    ensures { λ r. ⌜ Listing (keptOf regs (row (rowsBy 64 words (now (code .entry)) (now (rows .entry)))) (levelOf regs (now (code .entry)) (now (tries .entry))
+        k)) (now (out .entry)) m (now (out .exit)) r ⌝ }
 {
     let main = main_row(code, regs, rows, words, k);
     let at = lists::list_set(main, words, out, m);
@@ -88,7 +93,8 @@ fn keep_level(
 // How many registers are kept at k.
 fn count_at(code: &[u16], regs: usize, tries: &[u32], rows: &[u64], words: usize, k: usize) -> usize
     requires { ⌜ LevelsRoom 64 16 regs (now code) words (now rows) × (k < count (now code)) ⌝ }
-    ensures { λ r. ⌜ (r ≡ length (keptAt regs (now (code .entry)) (now (tries .entry)) (rowsBy 64 words (now (code .entry)) (now (rows .entry))) k)) × (r ≤ 1024) ⌝ }
+    ensures { λ r. ⌜ (r ≡ length (keptAt regs (now (code .entry)) (now (tries .entry)) (rowsBy 64 words (now (code .entry)) (now (rows .entry))) k))
+        × (r ≤ 1024) ⌝ }
 {
     if steps::level_at(code::ins_at(code, k)) {
         return count_level(code, regs, tries, rows, words, k);
@@ -107,8 +113,10 @@ fn keep_at(
     out: &mut [u16],
     m: usize,
 ) -> usize
-    requires { ⌜ LevelsRoom 64 16 regs (now code) words (now rows) × (k < count (now code)) × (m + length (keptAt regs (now code) (now tries) (rowsBy 64 words (now code) (now rows)) k) ≤ length (now out)) ⌝ }
-    ensures { λ r. ⌜ Listing (keptAt regs (now (code .entry)) (now (tries .entry)) (rowsBy 64 words (now (code .entry)) (now (rows .entry))) k) (now (out .entry)) m (now (out .exit)) r ⌝ }
+    requires { ⌜ LevelsRoom 64 16 regs (now code) words (now rows) × (k < count (now code))
+        × (m + length (keptAt regs (now code) (now tries) (rowsBy 64 words (now code) (now rows)) k) ≤ length (now out)) ⌝ }
+    ensures { λ r. ⌜ Listing (keptAt regs (now (code .entry)) (now (tries .entry)) (rowsBy 64 words (now (code .entry)) (now (rows .entry))) k)
+        (now (out .entry)) m (now (out .exit)) r ⌝ }
 {
     if steps::level_at(code::ins_at(code, k)) {
         return keep_level(code, regs, tries, rows, words, k, out, m);
@@ -119,7 +127,8 @@ fn keep_at(
 // The sum of the list lengths.
 fn count_all(code: &[u16], regs: usize, tries: &[u32], rows: &[u64], words: usize) -> usize
     requires { ⌜ LevelsRoom 64 16 regs (now code) words (now rows) ⌝ }
-    ensures { λ r. ⌜ (r ≡ length (listsTo regs (now (code .entry)) (now (tries .entry)) (rowsBy 64 words (now (code .entry)) (now (rows .entry))) (count (now (code .entry))))) × (r ≤ 67107840) ⌝ }
+    ensures { λ r. ⌜ (r ≡ length (listsTo regs (now (code .entry)) (now (tries .entry)) (rowsBy 64 words (now (code .entry)) (now (rows .entry)))
+        (count (now (code .entry))))) × (r ≤ 67107840) ⌝ }
 {
     let n = code.len() / 6;
     let mut m = 0;
@@ -141,8 +150,11 @@ fn each_call(
     offsets: &mut [u32],
     list: &mut [u16],
 )
-    requires { ⌜ LevelsRoom 64 16 regs (now code) words (now rows) × (count (now code) < length (now offsets)) × (length (listsTo regs (now code) (now tries) (rowsBy 64 words (now code) (now rows)) (count (now code))) ≤ length (now list)) × (length (listsTo regs (now code) (now tries) (rowsBy 64 words (now code) (now rows)) (count (now code))) ≤ 67107840) ⌝ }
-    ensures { λ _. ⌜ Filled regs (now (code .entry)) (now (tries .entry)) (rowsBy 64 words (now (code .entry)) (now (rows .entry))) (now (offsets .entry)) (now (list .entry)) (now (offsets .exit)) (now (list .exit)) ⌝ }
+    requires { ⌜ LevelsRoom 64 16 regs (now code) words (now rows) × (count (now code) < length (now offsets))
+        × (length (listsTo regs (now code) (now tries) (rowsBy 64 words (now code) (now rows)) (count (now code))) ≤ length (now list))
+        × (length (listsTo regs (now code) (now tries) (rowsBy 64 words (now code) (now rows)) (count (now code))) ≤ 67107840) ⌝ }
+    ensures { λ _. ⌜ Filled regs (now (code .entry)) (now (tries .entry)) (rowsBy 64 words (now (code .entry)) (now (rows .entry))) (now (offsets .entry))
+        (now (list .entry)) (now (offsets .exit)) (now (list .exit)) ⌝ }
 {
     let n = code.len() / 6;
     let mut m = 0;
@@ -159,14 +171,14 @@ fn each_call(
 pub fn stages(code: &[u16], regs: usize, tries: &[u32], scratch: usize, offsets: usize) -> Checked
     ensures { λ r. ⌜ r ≡ stagesOf 64 (now (code .entry)) regs (now (tries .entry)) scratch offsets ⌝ }
 {
-    let v = code::registers(code::check(code), regs);
-    let t = code::tried(v, tries);
+    let v = refusals::registers(code::check(code), regs);
+    let t = refusals::tried(v, tries);
     match t {
         Checked::No(r) => Checked::No(r),
         Checked::Count(n) => {
             let need = (n + 1) * rows::words_for(regs);
-            let u = code::room(Checked::Count(n), 1, scratch, need);
-            code::room(u, 2, offsets, n + 1)
+            let u = refusals::room(Checked::Count(n), 1, scratch, need);
+            refusals::room(u, 2, offsets, n + 1)
         }
     }
 }
@@ -182,7 +194,8 @@ fn keep_all(
     list: &mut [u16],
 ) -> KeptAnswer
     requires { ⌜ stagesOf 64 (now code) regs (now tries) (length (now rows)) (length (now offsets)) ≡ Checked.Count (count (now code)) ⌝ }
-    ensures { λ r. ⌜ Outcome 64 (now (code .entry)) regs (now (tries .entry)) wide (now (rows .entry)) (now (offsets .entry)) (now (list .entry)) (now (rows .exit)) (now (offsets .exit)) (now (list .exit)) r ⌝ }
+    ensures { λ r. ⌜ Outcome 64 (now (code .entry)) regs (now (tries .entry)) wide (now (rows .entry)) (now (offsets .entry)) (now (list .entry))
+        (now (rows .exit)) (now (offsets .exit)) (now (list .exit)) r ⌝ }
 {
     let words = rows::words_for(regs);
     let need = (code.len() / 6 + 1) * words;

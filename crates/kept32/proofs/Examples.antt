@@ -7,10 +7,11 @@ use native.Mathlib.Nat.{le-refl}
 use lib.ListN.{length, replicate}
 use Rattle.laws.specs.All.{every, many}
 use Rattle.laws.specs.Walk.{first}
-use Rattle.code.specs.Op as op
+use Rattle.ops.specs.Op as op
 use Rattle.code.specs.Ins.{count}
-use Rattle.code.specs.Rules.{rules, tryKept}
-use Rattle.code.specs.Check.{checkOf, firstBadTry}
+use Rattle.code.specs.Rules.{rules}
+use Rattle.refusals.specs.Stages.{tryKept, firstBadTry}
+use Rattle.code.specs.Check.{checkOf}
 use Rattle.roles.specs.Kinds.{page, ruleOf, kindsOf, hasRole, isJump}
 use Rattle.roles.specs.Sets.{cases, caseOf, usedBy, givenBy}
 use Rattle.flow.specs.Set as set

@@ -11,9 +11,9 @@ ghost use Rattle.kept.specs.Level.{resumeOf, resultOf, levelOf, keptAt};
 ghost use Rattle.kept.specs.Lists.{listsTo};
 ghost use Rattle.kept.specs.Inner.{rowsBy, LevelsRoom, Filled};
 ghost use Rattle.kept.specs.Answers.{stagesOf, Outcome};
-use code::Checked;
-use code::Refusal;
 use kept::KeptAnswer;
+use refusals::Checked;
+use refusals::Refusal;
 
 // The kept registers of every level: rows in the scratch, the flat list, and where each position's part begins.
 pub fn kept32(
@@ -25,7 +25,8 @@ pub fn kept32(
     offsets: &mut [u32],
     list: &mut [u16],
 ) -> KeptAnswer
-    ensures { λ r. ⌜ Outcome 32 (now (code .entry)) regs (now (tries .entry)) wide (now (rows .entry)) (now (offsets .entry)) (now (list .entry)) (now (rows .exit)) (now (offsets .exit)) (now (list .exit)) r ⌝ }
+    ensures { λ r. ⌜ Outcome 32 (now (code .entry)) regs (now (tries .entry)) wide (now (rows .entry)) (now (offsets .entry)) (now (list .entry))
+        (now (rows .exit)) (now (offsets .exit)) (now (list .exit)) r ⌝ }
 {
     let v = stages(code, regs, tries, rows.len(), offsets.len());
     match v {
@@ -37,7 +38,8 @@ pub fn kept32(
 // The resume row of the level at k, less its result register.
 pub fn main_row(code: &[u16], regs: usize, rows: &[u32], words: usize, k: usize) -> [u32; 32]
     requires { ⌜ LevelsRoom 32 32 regs (now code) words (now rows) × (k < count (now code)) ⌝ }
-    ensures { λ s. ⌜ Holds 32 s (minus (row (rowsBy 32 words (now (code .entry)) (now (rows .entry))) (resumeOf (now (code .entry)) k)) (resultOf regs (now (code .entry)) k)) ⌝ }
+    ensures { λ s. ⌜ Holds 32 s (minus (row (rowsBy 32 words (now (code .entry)) (now (rows .entry))) (resumeOf (now (code .entry)) k))
+        (resultOf regs (now (code .entry)) k)) ⌝ }
 {
     let a = steps::after(code, k);
     let whole = sets32::join_row([0u32; 32], rows, a.at * words, words);
@@ -54,7 +56,8 @@ fn count_level(
     k: usize,
 ) -> usize
     requires { ⌜ LevelsRoom 32 32 regs (now code) words (now rows) × (k < count (now code)) ⌝ }
-    ensures { λ r. ⌜ (r ≡ length (keptOf regs (row (rowsBy 32 words (now (code .entry)) (now (rows .entry)))) (levelOf regs (now (code .entry)) (now (tries .entry)) k))) × (r ≤ 1024) ⌝ }
+    ensures { λ r. ⌜ (r ≡ length (keptOf regs (row (rowsBy 32 words (now (code .entry)) (now (rows .entry))))
+        (levelOf regs (now (code .entry)) (now (tries .entry)) k))) × (r ≤ 1024) ⌝ }
 {
     let main = main_row(code, regs, rows, words, k);
     let all = lists32::join_tries(main, rows, code.len() / 6, words, k, tries);
@@ -72,8 +75,10 @@ fn keep_level(
     out: &mut [u16],
     m: usize,
 ) -> usize
-    requires { ⌜ LevelsRoom 32 32 regs (now code) words (now rows) × (k < count (now code)) × (m + length (keptOf regs (row (rowsBy 32 words (now code) (now rows))) (levelOf regs (now code) (now tries) k)) ≤ length (now out)) ⌝ }
-    ensures { λ r. ⌜ Listing (keptOf regs (row (rowsBy 32 words (now (code .entry)) (now (rows .entry)))) (levelOf regs (now (code .entry)) (now (tries .entry)) k)) (now (out .entry)) m (now (out .exit)) r ⌝ }
+    requires { ⌜ LevelsRoom 32 32 regs (now code) words (now rows) × (k < count (now code))
+        × (m + length (keptOf regs (row (rowsBy 32 words (now code) (now rows))) (levelOf regs (now code) (now tries) k)) ≤ length (now out)) ⌝ }
+    ensures { λ r. ⌜ Listing (keptOf regs (row (rowsBy 32 words (now (code .entry)) (now (rows .entry)))) (levelOf regs (now (code .entry)) (now (tries .entry))
+        k)) (now (out .entry)) m (now (out .exit)) r ⌝ }
 {
     let main = main_row(code, regs, rows, words, k);
     let at = lists32::list_set(main, words, out, m);
@@ -83,7 +88,8 @@ fn keep_level(
 // How many registers are kept at k.
 fn count_at(code: &[u16], regs: usize, tries: &[u32], rows: &[u32], words: usize, k: usize) -> usize
     requires { ⌜ LevelsRoom 32 32 regs (now code) words (now rows) × (k < count (now code)) ⌝ }
-    ensures { λ r. ⌜ (r ≡ length (keptAt regs (now (code .entry)) (now (tries .entry)) (rowsBy 32 words (now (code .entry)) (now (rows .entry))) k)) × (r ≤ 1024) ⌝ }
+    ensures { λ r. ⌜ (r ≡ length (keptAt regs (now (code .entry)) (now (tries .entry)) (rowsBy 32 words (now (code .entry)) (now (rows .entry))) k))
+        × (r ≤ 1024) ⌝ }
 {
     if steps::level_at(code::ins_at(code, k)) {
         return count_level(code, regs, tries, rows, words, k);
@@ -102,8 +108,10 @@ fn keep_at(
     out: &mut [u16],
     m: usize,
 ) -> usize
-    requires { ⌜ LevelsRoom 32 32 regs (now code) words (now rows) × (k < count (now code)) × (m + length (keptAt regs (now code) (now tries) (rowsBy 32 words (now code) (now rows)) k) ≤ length (now out)) ⌝ }
-    ensures { λ r. ⌜ Listing (keptAt regs (now (code .entry)) (now (tries .entry)) (rowsBy 32 words (now (code .entry)) (now (rows .entry))) k) (now (out .entry)) m (now (out .exit)) r ⌝ }
+    requires { ⌜ LevelsRoom 32 32 regs (now code) words (now rows) × (k < count (now code))
+        × (m + length (keptAt regs (now code) (now tries) (rowsBy 32 words (now code) (now rows)) k) ≤ length (now out)) ⌝ }
+    ensures { λ r. ⌜ Listing (keptAt regs (now (code .entry)) (now (tries .entry)) (rowsBy 32 words (now (code .entry)) (now (rows .entry))) k)
+        (now (out .entry)) m (now (out .exit)) r ⌝ }
 {
     if steps::level_at(code::ins_at(code, k)) {
         return keep_level(code, regs, tries, rows, words, k, out, m);
@@ -114,7 +122,8 @@ fn keep_at(
 // The sum of the list lengths.
 fn count_all(code: &[u16], regs: usize, tries: &[u32], rows: &[u32], words: usize) -> usize
     requires { ⌜ LevelsRoom 32 32 regs (now code) words (now rows) ⌝ }
-    ensures { λ r. ⌜ (r ≡ length (listsTo regs (now (code .entry)) (now (tries .entry)) (rowsBy 32 words (now (code .entry)) (now (rows .entry))) (count (now (code .entry))))) × (r ≤ 67107840) ⌝ }
+    ensures { λ r. ⌜ (r ≡ length (listsTo regs (now (code .entry)) (now (tries .entry)) (rowsBy 32 words (now (code .entry)) (now (rows .entry)))
+        (count (now (code .entry))))) × (r ≤ 67107840) ⌝ }
 {
     let n = code.len() / 6;
     let mut m = 0;
@@ -136,8 +145,11 @@ fn each_call(
     offsets: &mut [u32],
     list: &mut [u16],
 )
-    requires { ⌜ LevelsRoom 32 32 regs (now code) words (now rows) × (count (now code) < length (now offsets)) × (length (listsTo regs (now code) (now tries) (rowsBy 32 words (now code) (now rows)) (count (now code))) ≤ length (now list)) × (length (listsTo regs (now code) (now tries) (rowsBy 32 words (now code) (now rows)) (count (now code))) ≤ 67107840) ⌝ }
-    ensures { λ _. ⌜ Filled regs (now (code .entry)) (now (tries .entry)) (rowsBy 32 words (now (code .entry)) (now (rows .entry))) (now (offsets .entry)) (now (list .entry)) (now (offsets .exit)) (now (list .exit)) ⌝ }
+    requires { ⌜ LevelsRoom 32 32 regs (now code) words (now rows) × (count (now code) < length (now offsets))
+        × (length (listsTo regs (now code) (now tries) (rowsBy 32 words (now code) (now rows)) (count (now code))) ≤ length (now list))
+        × (length (listsTo regs (now code) (now tries) (rowsBy 32 words (now code) (now rows)) (count (now code))) ≤ 67107840) ⌝ }
+    ensures { λ _. ⌜ Filled regs (now (code .entry)) (now (tries .entry)) (rowsBy 32 words (now (code .entry)) (now (rows .entry))) (now (offsets .entry))
+        (now (list .entry)) (now (offsets .exit)) (now (list .exit)) ⌝ }
 {
     let n = code.len() / 6;
     let mut m = 0;
@@ -154,14 +166,14 @@ fn each_call(
 pub fn stages(code: &[u16], regs: usize, tries: &[u32], scratch: usize, offsets: usize) -> Checked
     ensures { λ r. ⌜ r ≡ stagesOf 32 (now (code .entry)) regs (now (tries .entry)) scratch offsets ⌝ }
 {
-    let v = code::registers(code::check(code), regs);
-    let t = code::tried(v, tries);
+    let v = refusals::registers(code::check(code), regs);
+    let t = refusals::tried(v, tries);
     match t {
         Checked::No(r) => Checked::No(r),
         Checked::Count(n) => {
             let need = (n + 1) * rows32::words_for(regs);
-            let u = code::room(Checked::Count(n), 1, scratch, need);
-            code::room(u, 2, offsets, n + 1)
+            let u = refusals::room(Checked::Count(n), 1, scratch, need);
+            refusals::room(u, 2, offsets, n + 1)
         }
     }
 }
@@ -177,7 +189,8 @@ fn keep_all(
     list: &mut [u16],
 ) -> KeptAnswer
     requires { ⌜ stagesOf 32 (now code) regs (now tries) (length (now rows)) (length (now offsets)) ≡ Checked.Count (count (now code)) ⌝ }
-    ensures { λ r. ⌜ Outcome 32 (now (code .entry)) regs (now (tries .entry)) wide (now (rows .entry)) (now (offsets .entry)) (now (list .entry)) (now (rows .exit)) (now (offsets .exit)) (now (list .exit)) r ⌝ }
+    ensures { λ r. ⌜ Outcome 32 (now (code .entry)) regs (now (tries .entry)) wide (now (rows .entry)) (now (offsets .entry)) (now (list .entry))
+        (now (rows .exit)) (now (offsets .exit)) (now (list .exit)) r ⌝ }
 {
     let words = rows32::words_for(regs);
     let need = (code.len() / 6 + 1) * words;

@@ -6,18 +6,18 @@ ghost use Rattle.code.specs.Inner.{Whole};
 ghost use Rattle.roles.specs.Roles.{roleTable};
 ghost use Rattle.laid.specs.Section.{stackWork, jumpFits, plainFits, yieldFits, fits, laidAt, laid};
 ghost use Rattle.laid.specs.Answers.{pureAnswer};
-use code::Answer;
-use code::Checked;
 use code::Ins;
-use code::op::*;
+use ops::*;
+use refusals::Answer;
+use refusals::Checked;
 
 // `pure`: refusals 1, 2.
 pub fn pure(code: &[u16]) -> Answer
     ensures { λ r. ⌜ r ≡ pureAnswer (now (code .entry)) ⌝ }
 {
     match code::check(code) {
-        Checked::No(r) => code::refused(r),
-        Checked::Count(_) => code::tell(all_laid(code, false) as u64, 0, 0, 0),
+        Checked::No(r) => refusals::refused(r),
+        Checked::Count(_) => refusals::tell(all_laid(code, false) as u64, 0, 0, 0),
     }
 }
 
@@ -213,6 +213,7 @@ fn before(k: usize) -> usize
     k - 1
 }
 
+// Whether the instruction at k may stand in a section; `yields` allows what only a generator's body holds.
 fn laid_at(roles: &[u8; 1280], code: &[u16], yields: bool, k: usize) -> bool
     requires { ⌜ (now roles ≡ roleTable) × Whole (now code) × (k < length (now code)) ⌝ }
     ensures { λ r. ⌜ r ≡ laidAt (now (code .entry)) yields k ⌝ }

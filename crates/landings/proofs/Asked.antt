@@ -14,7 +14,7 @@ use Rattle.laws.specs.Some.{some}
 use Rattle.laws.proofs.Each.{each-at, each-word}
 use Rattle.laws.proofs.Some.{passes-at}
 use Rattle.laws.proofs.Branch.{and-true, or-true}
-use Rattle.lent.specs.Chunk.{chunkCount, operandAt, marksJump, lands}
+use Rattle.chunk.specs.Chunk.{chunkCount, operandAt, marksJump, lands}
 use Rattle.landings.specs.Landings.{handlerAt, jumpLands, handlerLands, landingsAt, landingsOf, landsAny, handles, handlesAny, barred}
 use Rattle.landings.specs.Latest.{latest, isLanding}
 
@@ -201,5 +201,6 @@ module _ (w tries : List ℕ) (p i : ℕ) (h : i ≤ chunkCount w) where
           let a = and-true strict (landsAny w p i || handlesAny tries p i) e in
           let s = lost (a .1) in
           let z : getD (landingsOf w tries) (s .place) 0 ≡ landingsAt w tries (s .place) = table-at w tries (s .place) (omega (arith, s .high)) in
-          let y : f (s .place) ≡ true = ap (λ (b : Bool). b && not (eqb (getD (landingsOf w tries) (s .place) 0) 0)) (a .0) ∙ positive (getD (landingsOf w tries) (s .place) 0) (omega (arith, s .counted)) in
+          let y : f (s .place) ≡ true = ap (λ (b : Bool). b && not (eqb (getD (landingsOf w tries) (s .place) 0) 0)) (a .0)
+          ∙ positive (getD (landingsOf w tries) (s .place) 0) (omega (arith, s .counted)) in
           lt-ltb p last (omega (arith, latest-last f (suc i) (s .place) y (omega (arith, s .high)), s .low))

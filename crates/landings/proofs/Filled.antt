@@ -14,7 +14,7 @@ use Rattle.laws.specs.Each.{each}
 use Rattle.laws.proofs.Many.{many-more, many-few}
 use Rattle.laws.proofs.Each.{each-word, each-at}
 use Rattle.laws.proofs.Table.{fill-on}
-use Rattle.lent.specs.Chunk.{chunkCount, operandAt, marksJump}
+use Rattle.chunk.specs.Chunk.{chunkCount, operandAt, marksJump}
 use Rattle.laws.proofs.Counting.{zeros-at}
 use Rattle.landings.specs.Landings.{handlerAt, jumpLands, handlerLands, landingsAt, landingsOf}
 use Rattle.landings.specs.Inner.{bumped, Counts, FewAt, Zeros, Jumped, Handled}
@@ -103,7 +103,9 @@ module _ (w l₀ l : List ℕ) (k : ℕ) (d : Jumped w l₀ l k) {b : Bool} (e :
   module _ {v x : ℕ} (ex : x ≡ operandAt w k) (ev : v ≡ x) where
     pub jumped-more : {l′ : List ℕ} → not b ≡ false → l′ ≡ bumped l v → Jumped w l₀ l′ (k + 1)
     jumped-more n q =
-        record { counts = rw (q, ev, ex) (counted (jumpLands w) (λ t. getD l₀ t 0) l (length l₀) k (d .counts) (operandAt w k) (λ t. rw (sym e, yes b n) refl)) }
+        record {
+          counts = rw (q, ev, ex) (counted (jumpLands w) (λ t. getD l₀ t 0) l (length l₀) k (d .counts) (operandAt w k) (λ t. rw (sym e, yes b n) refl));
+        }
       where
         yes : (b : Bool) → not b ≡ false → b ≡ true
         yes true h = refl
@@ -121,7 +123,8 @@ counts-low l m f b c h = record { each = λ t. go t (ltb t (length l)) refl }
     go t false e = omega (arith, List·getD-eq-default l 0 (ltb-false t (length l) e))
 
 pub jumped-low : (w l₀ l : List ℕ) (k : ℕ) → FewAt l₀ 0 → Jumped w l₀ l k → FewAt l k
-jumped-low w l₀ l k z d = counts-low l (length l₀) (λ t. getD l₀ t 0 + many (jumpLands w t) k) k (d .counts) (λ t. omega (arith, z .each t, many-few (jumpLands w t) k))
+jumped-low w l₀ l k z d = counts-low l (length l₀) (λ t. getD l₀ t 0 + many (jumpLands w t) k) k (d .counts)
+    (λ t. omega (arith, z .each t, many-few (jumpLands w t) k))
 
 pub jump-fits : (w l₀ l : List ℕ) (k n x : ℕ) → FewAt l₀ 0 → Jumped w l₀ l k → k < n → n ≡ chunkCount w → length w < 2 ^ 64 → getD l x 0 + 1 < 2 ^ 64
 jump-fits w l₀ l k n x z d h e f = omega (arith, jumped-low w l₀ l k z d .each x)
@@ -137,7 +140,8 @@ module _ (tries l₀ l : List ℕ) (k : ℕ) (d : Handled tries l₀ l k) where
   handled-more e q = record { counts = rw (q, e) (counted (handlerLands tries) (λ t. getD l₀ t 0) l (length l₀) k (d .counts) (handlerAt tries k) (λ t. refl)) }
 
   pub handled-low : (b : ℕ) → FewAt l₀ b → FewAt l (b + k)
-  handled-low b z = counts-low l (length l₀) (λ t. getD l₀ t 0 + many (handlerLands tries t) k) (b + k) (d .counts) (λ t. omega (arith, z .each t, many-few (handlerLands tries t) k))
+  handled-low b z = counts-low l (length l₀) (λ t. getD l₀ t 0 + many (handlerLands tries t) k) (b + k) (d .counts)
+      (λ t. omega (arith, z .each t, many-few (handlerLands tries t) k))
 
   pub handle-fits : (n x : ℕ) → FewAt l₀ 65535 → k < n → n ≡ length tries / 2 → length tries < 2 ^ 64 → getD l x 0 + 1 < 2 ^ 64
   handle-fits n x z h e f = omega (arith, handled-low 65535 z .each x)

@@ -7,7 +7,7 @@ use lib.Dec.{eqb}
 use lib.ListN.{length}
 use Rattle.laws.specs.Each.{each}
 use Rattle.laws.proofs.Each.{each-ext}
-use Rattle.lent.specs.Chunk.{stride, chunkCount, operandAt, marksJump}
+use Rattle.chunk.specs.Chunk.{stride, chunkCount, operandAt, marksJump}
 use Rattle.laws.proofs.Counting.{many-ext}
 use Rattle.landings.specs.Landings.{jumpLands, landingsAt, landingsOf}
 

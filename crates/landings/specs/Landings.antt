@@ -8,8 +8,8 @@ use lib.ListN.{length, getD}
 use Rattle.laws.specs.All.{many}
 use Rattle.laws.specs.Some.{some}
 use Rattle.laws.specs.Each.{each}
-use Rattle.code.specs.Op.{LoadConst}
-use Rattle.lent.specs.Chunk.{chunkCount, opAt, operandAt, marksJump, lands}
+use Rattle.ops.specs.Op.{LoadConst}
+use Rattle.chunk.specs.Chunk.{chunkCount, opAt, operandAt, marksJump, lands}
 
 -- the tries are pairs (s, h): the handler of try j
 abbrev pub handlerAt : List ℕ → ℕ → ℕ

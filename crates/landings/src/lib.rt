@@ -3,11 +3,11 @@ ghost use mathlib.Core.Path.{_≡_};
 ghost use mathlib.Core.Bool.{cond};
 ghost use Prim.Native.Nat.{_+_, _*_, _/_, _^_, _<_, _≤_};
 ghost use lib.ListN.{length, getD};
-ghost use Rattle.lent.specs.Chunk.{chunkCount};
+ghost use Rattle.chunk.specs.Chunk.{chunkCount};
 ghost use Rattle.landings.specs.Landings.{landingsOf};
 ghost use Rattle.landings.specs.Inner.{bumped, FewAt, Zeros, Jumped, Handled};
 ghost use Rattle.landings.specs.Latest.{isLanding};
-use lent::STRIDE;
+use chunk::STRIDE;
 
 // All 0.
 fn clear(landings: &mut [u64])
@@ -30,12 +30,14 @@ fn bump(landings: &mut [u64], t: usize)
     }
 }
 
+// A jump's operand as a position.
 fn wide(x: u16) -> usize
     ensures { λ r. ⌜ r ≡ x ⌝ }
 {
     x as usize
 }
 
+// A word of the tries as a position.
 fn long(x: u32) -> usize
     ensures { λ r. ⌜ r ≡ x ⌝ }
 {
@@ -52,10 +54,10 @@ fn count_jumps(code: &[u16], landings: &mut [u64])
     while k < n {
         let at = k;
         k += 1;
-        if !lent::is_jump(code, at) {
+        if !chunk::is_jump(code, at) {
             continue;
         }
-        bump(landings, wide(lent::operand_at(code, at)));
+        bump(landings, wide(chunk::operand_at(code, at)));
     }
 }
 

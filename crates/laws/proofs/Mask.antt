@@ -75,7 +75,8 @@ module _ (f : ℕ → Bool) where
       lower : m ≡ m - (1 + r) + (1 + r) → (mask f m + boolByte (f m) * 2 ^ m) / 2 ^ r % 2 ≡ mask f m / 2 ^ r % 2
       lower e =
           let b : mask f m < 2 ^ (m - (1 + r) + (1 + r)) = rw (← e) (mask-below m) in
-          subst (λ (z : ℕ). (mask f m + boolByte (f m) * 2 ^ z) / 2 ^ r % 2 ≡ mask f m / 2 ^ r % 2) (sym e) (low-same (mask f m) (boolByte (f m)) (m - (1 + r)) r b)
+          subst (λ (z : ℕ). (mask f m + boolByte (f m) * 2 ^ z) / 2 ^ r % 2 ≡ mask f m / 2 ^ r % 2) (sym e) (low-same (mask f m) (boolByte (f m)) (m - (1 + r))
+          r b)
 
   -- written out
   pub mask-five : mask f 5 ≡ 1 * boolByte (f 0) + 2 * boolByte (f 1) + 4 * boolByte (f 2) + 8 * boolByte (f 3) + 16 * boolByte (f 4)

@@ -9,9 +9,11 @@ unfoldable pub table : (ℕ → ℕ) → ℕ → List ℕ
 table f zero = []
 table f (suc m) = table f m ++ (f m ∷ [])
 
+-- the first m words are f 0, f 1 and so on, the words past them as they were
 abbrev pub filledTo : (ℕ → ℕ) → ℕ → List ℕ → List ℕ
 filledTo f m l = table f m ++ drop m l
 
+-- the first m words are 0, the words past them as they were
 abbrev pub clearedTo : ℕ → List ℕ → List ℕ
 clearedTo m l = replicate m 0 ++ drop m l
 

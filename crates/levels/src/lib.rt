@@ -4,15 +4,15 @@ ghost use Prim.Native.Nat.{_<_};
 ghost use Rattle.code.specs.Ins.{count};
 ghost use Rattle.code.specs.Inner.{Valid};
 ghost use Rattle.levels.specs.Answers.{levelTold, levelAnswer};
-use code::Answer;
-use code::Checked;
+use refusals::Answer;
+use refusals::Checked;
 
 // The level at a position: refusals 1, 2, 6.
 pub fn level(code: &[u16], at: usize) -> Answer
     ensures { λ r. ⌜ r ≡ levelAnswer (now (code .entry)) at ⌝ }
 {
-    match code::inside(code::check(code), at) {
-        Checked::No(r) => code::refused(r),
+    match refusals::inside(code::check(code), at) {
+        Checked::No(r) => refusals::refused(r),
         Checked::Count(_) => level_in(code, at),
     }
 }
@@ -24,7 +24,7 @@ fn level_in(code: &[u16], k: usize) -> Answer
 {
     if steps::level_at(code::ins_at(code, k)) {
         let a = steps::after(code, k);
-        return code::tell(1, a.at as u64, a.result as u64, 0);
+        return refusals::tell(1, a.at as u64, a.result as u64, 0);
     }
-    code::tell(0, 0, 0, 0)
+    refusals::tell(0, 0, 0, 0)
 }

@@ -39,7 +39,18 @@ listed-or : (d p s x : ℕ) → length (listed d p (bitOr s x)) ≡ length (list
 unfolding listed
 listed-or zero p s x = refl
 listed-or (suc d) p s x =
-    let low : bitOr s x % 2 ≡ s % 2 + minus x s % 2 = omega (arith, low-bit (bitOr s x), low-bit s, low-bit x, low-bit (minus x s), or-bit s x 0, minus-bit x s 0, bit-lt s 0, bit-lt x 0) in
+    let low : bitOr s x % 2 ≡ s % 2 + minus x s % 2 = omega (
+      arith,
+      low-bit (bitOr s x),
+      low-bit s,
+      low-bit x,
+      low-bit (minus x s),
+      or-bit s x 0,
+      minus-bit x s
+          0,
+      bit-lt s 0,
+      bit-lt x 0,
+    ) in
     omega (
       arith,
       low,
@@ -52,16 +63,33 @@ listed-or (suc d) p s x =
     )
   where
     half-or : bitOr s x / 2 ≡ bitOr (s / 2) (x / 2)
-    half-or = bit-ext (bitOr s x / 2) (bitOr (s / 2) (x / 2)) (λ r. omega (arith, half-bit (bitOr s x) r, or-bit s x (suc r), or-bit (s / 2) (x / 2) r, half-bit s r, half-bit x r))
+    half-or = bit-ext (bitOr s x / 2) (bitOr (s / 2) (x / 2)) (λ r. omega (
+      arith,
+      half-bit (bitOr s x) r,
+      or-bit s x (suc r),
+      or-bit (s / 2) (x / 2) r,
+      half-bit
+          s r,
+      half-bit x r,
+    ))
 
     half-minus : minus x s / 2 ≡ minus (x / 2) (s / 2)
-    half-minus = bit-ext (minus x s / 2) (minus (x / 2) (s / 2)) (λ r. omega (arith, half-bit (minus x s) r, minus-bit x s (suc r), minus-bit (x / 2) (s / 2) r, half-bit s r, half-bit x r))
+    half-minus = bit-ext (minus x s / 2) (minus (x / 2) (s / 2)) (λ r. omega (
+      arith,
+      half-bit (minus x s) r,
+      minus-bit x s (suc r),
+      minus-bit (x / 2)
+          (s / 2) r,
+      half-bit s r,
+      half-bit x r,
+    ))
 
 module _ (d : ℕ) (R : ℕ → ℕ) where
   -- the resumed set and what the handlers add: the registers of the union
   pub union-count : (hs : List ℕ) (s : ℕ) → length (listed d 0 s ++ added d R s hs) ≡ length (listed d 0 (bitOr s (joined R hs)))
   unfolding joined
-  union-count [] s = ap length (ap (λ (l : List ℕ). listed d 0 s ++ l) (added-none d R s) ∙ append-nil (listed d 0 s)) ∙ ap (λ (x : ℕ). length (listed d 0 x)) (sym (or-zero-r s))
+  union-count [] s = ap length (ap (λ (l : List ℕ). listed d 0 s ++ l) (added-none d R s) ∙ append-nil (listed d 0 s)) ∙ ap (λ (x : ℕ). length (listed d 0 x))
+      (sym (or-zero-r s))
   union-count (h ∷ hs) s = omega (
     arith,
     length-append (listed d 0 s) (added d R s (h ∷ hs)),
@@ -81,7 +109,8 @@ module _ (d e : ℕ) (R : ℕ → ℕ) (le : d ≤ e) (lt : (k : ℕ) → R k < 
   added-wide (h ∷ hs) s = ap₂ _++_ (listed-wide d e 0 (minus (R h) s) (minus-lt d (R h) s (lt h)) le) (added-wide hs (bitOr s (R h)))
 
   pub kept-wide : (v : Level) → kept e R v ≡ kept d R v
-  kept-wide v = ap₂ _++_ (listed-wide d e 0 (minus (R (v .resume)) (v .result)) (minus-lt d (R (v .resume)) (v .result) (lt (v .resume))) le) (added-wide (v .handlers) (minus (R (v .resume)) (v .result)))
+  kept-wide v = ap₂ _++_ (listed-wide d e 0 (minus (R (v .resume)) (v .result)) (minus-lt d (R (v .resume)) (v .result) (lt (v .resume))) le)
+      (added-wide (v .handlers) (minus (R (v .resume)) (v .result)))
 
 -- ---- the tries, pair by pair
 
@@ -111,7 +140,8 @@ added-append : (d : ℕ) (R : ℕ → ℕ) (hs gs : List ℕ) (s : ℕ) → adde
 unfolding added joined
 added-append d R [] gs s = ap (λ (x : ℕ). added d R x gs) (sym (or-zero-r s))
 added-append d R (h ∷ hs) gs s =
-    ap (λ (l : List ℕ). listed d 0 (minus (R h) s) ++ l) (added-append d R hs gs (bitOr s (R h)) ∙ ap (λ (x : ℕ). added d R (bitOr s (R h)) hs ++ added d R x gs) (or-assoc s (R h) (joined R hs)))
+    ap (λ (l : List ℕ). listed d 0 (minus (R h) s) ++ l) (added-append d R hs gs (bitOr s (R h)) ∙ ap (λ (x : ℕ). added d R (bitOr s (R h)) hs
+    ++ added d R x gs) (or-assoc s (R h) (joined R hs)))
     ∙ sym (append-assoc (listed d 0 (minus (R h) s)) (added d R (bitOr s (R h)) hs) (added d R (bitOr s (joined R (h ∷ hs))) gs))
 
 module _ (bits n k words : ℕ) (rows tries : List ℕ) where
@@ -149,7 +179,8 @@ module _ (bits n k words : ℕ) (rows tries : List ℕ) where
     unfolding joined
     holding-end end = record {
       small = h .small;
-      is = sym (ap (λ (l : List ℕ). bitOr (value bits seen) (joined R l)) (handlers-none n k (drop i tries) (omega (arith, length-drop i tries))) ∙ or-zero-r (value bits seen)) ∙ h .all;
+      is = sym (ap (λ (l : List ℕ). bitOr (value bits seen) (joined R l)) (handlers-none n k (drop i tries) (omega (arith, length-drop i tries)))
+          ∙ or-zero-r (value bits seen)) ∙ h .all;
     }
 
   -- of what the handlers add to the set s, some is written
@@ -157,11 +188,19 @@ module _ (bits n k words : ℕ) (rows tries : List ℕ) where
     pub le : i ≤ length tries
     pub small : Small bits seen
     pub fits : m + length (added (words * bits) R (value bits s) (handlersOf n k tries)) ≤ length old
-    pub so : Written (added (words * bits) R (value bits s) (handlersOf n k tries)) old m out at (added (words * bits) R (value bits seen) (handlersOf n k (drop i tries)))
+    pub so : Written (added (words * bits) R (value bits s) (handlersOf n k tries)) old m out at (added (words * bits) R (value bits seen)
+        (handlersOf n k (drop i tries)))
 
-  pub keeping-start : (s old : List ℕ) (m : ℕ) → Small bits s → m + length (added (words * bits) (row (rowsOf bits words (suc n) rows)) (value bits s) (handlersOf n k tries)) ≤ length old
+  pub keeping-start : (s old : List ℕ) (m : ℕ) → Small bits s → m + length (added (words * bits) (row (rowsOf bits words (suc n) rows)) (value bits s)
+      (handlersOf n k tries)) ≤ length old
       → Keeping s old m old s m 0
-  keeping-start s old m h f = record { le = zero-le; small = h; fits = f; so = written-start (added (words * bits) R (value bits s) (handlersOf n k tries)) old m (added (words * bits) R (value bits s) (handlersOf n k tries)) refl }
+  keeping-start s old m h f = record {
+    le = zero-le;
+    small = h;
+    fits = f;
+    so = written-start (added (words * bits) R (value bits s) (handlersOf n k tries)) old
+        m (added (words * bits) R (value bits s) (handlersOf n k tries)) refl;
+  }
 
   module _ (s old : List ℕ) (m : ℕ) (out seen : List ℕ) (at i : ℕ) (p : Keeping s old m out seen at i) where
     abbrev L : List ℕ
@@ -173,9 +212,11 @@ module _ (bits n k words : ℕ) (rows tries : List ℕ) where
     pub keeping-long : length out ≡ length old
     keeping-long = written-long L old m out at rest (p .so) (p .fits)
 
-    pub keeping-end : length tries ≤ i + 1 → Listing (added (words * bits) (row (rowsOf bits words (suc n) rows)) (value bits s) (handlersOf n k tries)) old m out at
+    pub keeping-end : length tries ≤ i + 1 → Listing (added (words * bits) (row (rowsOf bits words (suc n) rows)) (value bits s) (handlersOf n k tries)) old m
+        out at
     keeping-end end = written-end L old m out at rest (p .so) (p .fits)
-        (ap (added (words * bits) R (value bits seen)) (handlers-none n k (drop i tries) (omega (arith, length-drop i tries))) ∙ added-none (words * bits) R (value bits seen))
+        (ap (added (words * bits) R (value bits seen)) (handlers-none n k (drop i tries) (omega (arith, length-drop i tries))) ∙ added-none (words * bits) R
+        (value bits seen))
 
     module _ (l : i + 1 < length tries) (a b : ℕ) (e : a ≡ getD tries i 0) (f : b ≡ getD tries (i + 1) 0) where
       abbrev here : List ℕ
@@ -191,7 +232,8 @@ module _ (bits n k words : ℕ) (rows tries : List ℕ) where
       pub keeping-try : at + length (added (words * bits) (row (rowsOf bits words (suc n) rows)) (value bits seen) (handlersOf n k (a ∷ b ∷ []))) ≤ length out
       keeping-try = written-room L old m out at rest (p .so) (p .fits) here later split
 
-      pub keeping-more : (out′ : List ℕ) (at′ : ℕ) → Listing (added (words * bits) (row (rowsOf bits words (suc n) rows)) (value bits seen) (handlersOf n k (a ∷ b ∷ []))) out at out′ at′
+      pub keeping-more : (out′ : List ℕ) (at′ : ℕ) → Listing (added (words * bits) (row (rowsOf bits words (suc n) rows)) (value bits seen)
+          (handlersOf n k (a ∷ b ∷ []))) out at out′ at′
           → (next : List ℕ) → Holds bits next (bitOr (value bits seen) (joined (row (rowsOf bits words (suc n) rows)) (handlersOf n k (a ∷ b ∷ []))))
           → Keeping s old m out′ next at′ (i + 2)
       keeping-more out′ at′ z next g = record {
@@ -205,4 +247,5 @@ module _ (bits n k words : ℕ) (rows tries : List ℕ) where
 
       -- a try that is not around k adds nothing
       pub keeping-skip : (t : Bool) → t ≡ ltb a k && ltb k b → t ≡ false → Keeping s old m out seen at (i + 2)
-      keeping-skip t d z = keeping-more out at (list-out n k a b t d z R (words * bits) (value bits seen) out at keeping-try) seen (join-out n k a b t d z R bits seen (p .small))
+      keeping-skip t d z = keeping-more out at (list-out n k a b t d z R (words * bits) (value bits seen) out at keeping-try) seen
+          (join-out n k a b t d z R bits seen (p .small))

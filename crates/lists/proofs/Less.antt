@@ -45,7 +45,8 @@ module _ (rows less : List ℕ) (at words : ℕ) where
   lessing-start hand = record { le = zero-le; long = length-replicate {A = ℕ} hand 0; front = front-none A B (replicate hand 0) (λ i. zeros-at hand i) }
 
   module _ (bits hand j : ℕ) (out : List ℕ) (p : Lessing hand rows less at words j out) (sl : Small bits less) (sr : Small bits rows) where
-    pub lessing-more : j < words → words ≤ hand → Lessing hand rows less at words (j + 1) (set out j (bitAnd (getD rows (at + j) 0) ((2 ^ bits - 1) - getD less j 0)))
+    pub lessing-more : j < words → words ≤ hand → Lessing hand rows less at words (j + 1)
+        (set out j (bitAnd (getD rows (at + j) 0) ((2 ^ bits - 1) - getD less j 0)))
     lessing-more l f = record {
       le = omega arith;
       long = length-set out j (bitAnd (getD rows (at + j) 0) ((2 ^ bits - 1) - getD less j 0)) ∙ p .long;

@@ -49,18 +49,21 @@ module _ (n k s h : ℕ) (b : Bool) (t : b ≡ ltb s k && ltb k h) where
           (row-of ∙ sym (or-zero-r (row (rowsOf bits words (suc n) rows) (min h n))) ∙ ap (joined (row (rowsOf bits words (suc n) rows))) (sym (one true yes))))
 
       module _ (more : List ℕ) (p : Holds bits more (minus (value bits (take words (drop (at * words) rows))) (value bits seen))) where
-        all : listed (words * bits) 0 (value bits more) ≡ added (words * bits) (row (rowsOf bits words (suc n) rows)) (value bits seen) (handlersOf n k (s ∷ h ∷ []))
+        all : listed (words * bits) 0 (value bits more) ≡ added (words * bits) (row (rowsOf bits words (suc n) rows)) (value bits seen)
+            (handlersOf n k (s ∷ h ∷ []))
         all =
             ap (listed (words * bits) 0) (p .is ∙ ap (λ (x : ℕ). minus x (value bits seen)) row-of)
             ∙ sym (append-nil (listed (words * bits) 0 (minus (R (min h n)) (value bits seen))))
-            ∙ ap (λ (l : List ℕ). listed (words * bits) 0 (minus (R (min h n)) (value bits seen)) ++ l) (sym (added-none (words * bits) R (bitOr (value bits seen) (R (min h n)))))
+            ∙ ap (λ (l : List ℕ). listed (words * bits) 0 (minus (R (min h n)) (value bits seen)) ++ l)
+            (sym (added-none (words * bits) R (bitOr (value bits seen) (R (min h n)))))
             ∙ sym (added-next (words * bits) R (value bits seen) (min h n) [])
             ∙ ap (added (words * bits) R (value bits seen)) (sym (one true yes))
           where
             R : ℕ → ℕ
             R = row (rowsOf bits words (suc n) rows)
 
-        pub list-room : (m len : ℕ) → m + length (added (words * bits) (row (rowsOf bits words (suc n) rows)) (value bits seen) (handlersOf n k (s ∷ h ∷ []))) ≤ len
+        pub list-room : (m len : ℕ) → m + length (added (words * bits) (row (rowsOf bits words (suc n) rows)) (value bits seen) (handlersOf n k (s ∷ h ∷ []))) ≤
+            len
             → m + length (listed (words * bits) 0 (value bits more)) ≤ len
         list-room m len l = rw all l
 
@@ -72,9 +75,11 @@ module _ (n k s h : ℕ) (b : Bool) (t : b ≡ ltb s k && ltb k h) where
   module _ (no : b ≡ false) (R : ℕ → ℕ) where
     pub join-out : (bits : ℕ) (seen : List ℕ) → Small bits seen → Holds bits seen (bitOr (value bits seen) (joined R (handlersOf n k (s ∷ h ∷ []))))
     unfolding joined
-    join-out bits seen sm = as-set (held bits seen sm) (sym (ap (λ (l : List ℕ). bitOr (value bits seen) (joined R l)) (one false no) ∙ or-zero-r (value bits seen)))
+    join-out bits seen sm = as-set (held bits seen sm) (sym (ap (λ (l : List ℕ). bitOr (value bits seen) (joined R l)) (one false no)
+        ∙ or-zero-r (value bits seen)))
 
-    pub list-out : (d x : ℕ) (old : List ℕ) (m : ℕ) → m + length (added d R x (handlersOf n k (s ∷ h ∷ []))) ≤ length old → Listing (added d R x (handlersOf n k (s ∷ h ∷ []))) old m old m
+    pub list-out : (d x : ℕ) (old : List ℕ) (m : ℕ) → m + length (added d R x (handlersOf n k (s ∷ h ∷ []))) ≤ length old
+        → Listing (added d R x (handlersOf n k (s ∷ h ∷ []))) old m old m
     list-out d x old m l = subst (λ (L : List ℕ). Listing L old m old m) (sym (ap (added d R x) (one false no) ∙ added-none d R x))
         (written-end [] old m old m [] (written-start [] old m [] refl) (omega arith) refl)
 

@@ -26,7 +26,8 @@ pub record Walked (bits base word : ℕ) (old : List ℕ) (m : ℕ) (out : List 
   pub fits : m + length (listed bits base word) ≤ length old
   pub so : Written (listed bits base word) old m out n (listed bits base rest)
 
-pub walked-start : (bits base word : ℕ) (old : List ℕ) (m : ℕ) → word < 2 ^ bits → m + length (listed bits base word) ≤ length old → Walked bits base word old m old m word
+pub walked-start : (bits base word : ℕ) (old : List ℕ) (m : ℕ) → word < 2 ^ bits → m + length (listed bits base word) ≤ length old → Walked bits base word old m
+    old m word
 walked-start bits base word old m s f = record { small = s; fits = f; so = written-start (listed bits base word) old m (listed bits base word) refl }
 
 module _ {bits base word : ℕ} {old : List ℕ} {m : ℕ} {out : List ℕ} {n rest : ℕ} (h : Walked bits base word old m out n rest) where
@@ -76,7 +77,8 @@ module _ (bits words : ℕ) (s : List ℕ) where
   pub listings-start : (old : List ℕ) (m : ℕ) → m + length (allOf bits words s) ≤ length old → Listings bits words s old m old m 0
   listings-start old m f = record { le = zero-le; fits = f; so = written-start (allOf bits words s) old m (onward bits words s 0) (onward-start bits words s) }
 
-  next : (hand j : ℕ) → j < words → words ≤ hand → length s ≡ hand → Small bits s → onward bits words s j ≡ listed bits (bits * j) (getD s j 0) ++ onward bits words s (j + 1)
+  next : (hand j : ℕ) → j < words → words ≤ hand → length s ≡ hand → Small bits s → onward bits words s j ≡ listed bits (bits * j) (getD s j 0)
+      ++ onward bits words s (j + 1)
   next hand j l f e sm = onward-next bits words s j l (omega arith) (sm j)
 
   module _ (old : List ℕ) (m : ℕ) (out : List ℕ) (n j : ℕ) (h : Listings bits words s old m out n j) where
@@ -88,13 +90,15 @@ module _ (bits words : ℕ) (s : List ℕ) where
 
     module _ (hand : ℕ) (l : j < words) (f : words ≤ hand) (e : length s ≡ hand) (sm : Small bits s) where
       pub listings-room : n + length (listed bits (bits * j) (getD s j 0)) ≤ length out
-      listings-room = written-room (allOf bits words s) old m out n (onward bits words s j) (h .so) (h .fits) (listed bits (bits * j) (getD s j 0)) (onward bits words s (j + 1)) (next hand j l f e sm)
+      listings-room = written-room (allOf bits words s) old m out n (onward bits words s j) (h .so) (h .fits) (listed bits (bits * j) (getD s j 0))
+          (onward bits words s (j + 1)) (next hand j l f e sm)
 
       pub listings-more : (out′ : List ℕ) (n′ : ℕ) → Listing (listed bits (bits * j) (getD s j 0)) out n out′ n′ → Listings bits words s old m out′ n′ (j + 1)
       listings-more out′ n′ a = record {
         le = omega arith;
         fits = h .fits;
-        so = written-more (allOf bits words s) old m out n (onward bits words s j) (h .so) (h .fits) (listed bits (bits * j) (getD s j 0)) (onward bits words s (j + 1)) (next hand j l f e sm) out′ n′ a;
+        so = written-more (allOf bits words s) old m out n (onward bits words s j) (h .so) (h .fits) (listed bits (bits * j) (getD s j 0))
+            (onward bits words s (j + 1)) (next hand j l f e sm) out′ n′ a;
       }
 
   -- ---- the same, counted
@@ -115,7 +119,8 @@ module _ (bits words : ℕ) (s : List ℕ) where
 
     module _ (hand : ℕ) (l : j < words) (f : words ≤ hand) (e : length s ≡ hand) (sm : Small bits s) where
       step : length (onward bits words s j) ≡ ones (getD s j 0) + length (onward bits words s (j + 1))
-      step = ap length (next hand j l f e sm) ∙ length-append (listed bits (bits * j) (getD s j 0)) (onward bits words s (j + 1)) ∙ ap (λ (x : ℕ). x + length (onward bits words s (j + 1))) (listed-ones bits (bits * j) (getD s j 0) (sm j))
+      step = ap length (next hand j l f e sm) ∙ length-append (listed bits (bits * j) (getD s j 0)) (onward bits words s (j + 1))
+          ∙ ap (λ (x : ℕ). x + length (onward bits words s (j + 1))) (listed-ones bits (bits * j) (getD s j 0) (sm j))
 
       within : hand * bits ≤ 1024 → n + ones (getD s j 0) < 1025
       within few = omega (arith, step, h .sum, listed-le (words * bits) 0 (value bits s), mul-le-mul-right bits f)

@@ -72,6 +72,7 @@ pub fn count_set(set: [u64; 16], words: usize) -> usize
     n
 }
 
+// A word of the tries as a position.
 pub fn wide_of(x: u32) -> usize
     ensures { λ r. ⌜ r ≡ x ⌝ }
 {
@@ -99,7 +100,7 @@ fn join_try(
     ensures { λ r. ⌜ Holds 64 r (bitOr (value 64 seen) (joined (row (rowsOf 64 words (suc n) (now (rows .entry)))) (handlersOf n k (s ∷ h ∷ [])))) ⌝ }
 {
     if around(s, k, h) {
-        return sets::join_row(seen, rows, code::least(h, n) * words, words);
+        return sets::join_row(seen, rows, refusals::least(h, n) * words, words);
     }
     seen
 }
@@ -116,11 +117,13 @@ fn list_try(
     out: &mut [u16],
     m: usize,
 ) -> usize
-    requires { ⌜ (n ≤ 65535) × (words ≤ 16) × (suc n * words ≤ length (now rows)) × Small 64 seen × Small 64 (now rows) × (m + length (added (words * 64) (row (rowsOf 64 words (suc n) (now rows))) (value 64 seen) (handlersOf n k (s ∷ h ∷ []))) ≤ length (now out)) ⌝ }
-    ensures { λ r. ⌜ Listing (added (words * 64) (row (rowsOf 64 words (suc n) (now (rows .entry)))) (value 64 seen) (handlersOf n k (s ∷ h ∷ []))) (now (out .entry)) m (now (out .exit)) r ⌝ }
+    requires { ⌜ (n ≤ 65535) × (words ≤ 16) × (suc n * words ≤ length (now rows)) × Small 64 seen × Small 64 (now rows)
+        × (m + length (added (words * 64) (row (rowsOf 64 words (suc n) (now rows))) (value 64 seen) (handlersOf n k (s ∷ h ∷ []))) ≤ length (now out)) ⌝ }
+    ensures { λ r. ⌜ Listing (added (words * 64) (row (rowsOf 64 words (suc n) (now (rows .entry)))) (value 64 seen) (handlersOf n k (s ∷ h ∷ [])))
+        (now (out .entry)) m (now (out .exit)) r ⌝ }
 {
     if around(s, k, h) {
-        let more = less_row(rows, code::least(h, n) * words, words, seen);
+        let more = less_row(rows, refusals::least(h, n) * words, words, seen);
         return list_set(more, words, out, m);
     }
     m
@@ -163,8 +166,10 @@ pub fn list_tries(
     out: &mut [u16],
     m: usize,
 ) -> usize
-    requires { ⌜ (n ≤ 65535) × (words ≤ 16) × (suc n * words ≤ length (now rows)) × Small 64 seen × Small 64 (now rows) × (m + length (added (words * 64) (row (rowsOf 64 words (suc n) (now rows))) (value 64 seen) (handlersOf n k (now tries))) ≤ length (now out)) ⌝ }
-    ensures { λ r. ⌜ Listing (added (words * 64) (row (rowsOf 64 words (suc n) (now (rows .entry)))) (value 64 seen) (handlersOf n k (now (tries .entry)))) (now (out .entry)) m (now (out .exit)) r ⌝ }
+    requires { ⌜ (n ≤ 65535) × (words ≤ 16) × (suc n * words ≤ length (now rows)) × Small 64 seen × Small 64 (now rows)
+        × (m + length (added (words * 64) (row (rowsOf 64 words (suc n) (now rows))) (value 64 seen) (handlersOf n k (now tries))) ≤ length (now out)) ⌝ }
+    ensures { λ r. ⌜ Listing (added (words * 64) (row (rowsOf 64 words (suc n) (now (rows .entry)))) (value 64 seen) (handlersOf n k (now (tries .entry))))
+        (now (out .entry)) m (now (out .exit)) r ⌝ }
 {
     let mut all = seen;
     let mut at = m;

@@ -84,7 +84,7 @@ fn join_try(
     ensures { λ r. ⌜ Holds 32 r (bitOr (value 32 seen) (joined (row (rowsOf 32 words (suc n) (now (rows .entry)))) (handlersOf n k (s ∷ h ∷ [])))) ⌝ }
 {
     if lists::around(s, k, h) {
-        return sets32::join_row(seen, rows, code::least(h, n) * words, words);
+        return sets32::join_row(seen, rows, refusals::least(h, n) * words, words);
     }
     seen
 }
@@ -101,11 +101,13 @@ fn list_try(
     out: &mut [u16],
     m: usize,
 ) -> usize
-    requires { ⌜ (n ≤ 65535) × (words ≤ 32) × (suc n * words ≤ length (now rows)) × Small 32 seen × Small 32 (now rows) × (m + length (added (words * 32) (row (rowsOf 32 words (suc n) (now rows))) (value 32 seen) (handlersOf n k (s ∷ h ∷ []))) ≤ length (now out)) ⌝ }
-    ensures { λ r. ⌜ Listing (added (words * 32) (row (rowsOf 32 words (suc n) (now (rows .entry)))) (value 32 seen) (handlersOf n k (s ∷ h ∷ []))) (now (out .entry)) m (now (out .exit)) r ⌝ }
+    requires { ⌜ (n ≤ 65535) × (words ≤ 32) × (suc n * words ≤ length (now rows)) × Small 32 seen × Small 32 (now rows)
+        × (m + length (added (words * 32) (row (rowsOf 32 words (suc n) (now rows))) (value 32 seen) (handlersOf n k (s ∷ h ∷ []))) ≤ length (now out)) ⌝ }
+    ensures { λ r. ⌜ Listing (added (words * 32) (row (rowsOf 32 words (suc n) (now (rows .entry)))) (value 32 seen) (handlersOf n k (s ∷ h ∷ [])))
+        (now (out .entry)) m (now (out .exit)) r ⌝ }
 {
     if lists::around(s, k, h) {
-        let more = less_row(rows, code::least(h, n) * words, words, seen);
+        let more = less_row(rows, refusals::least(h, n) * words, words, seen);
         return list_set(more, words, out, m);
     }
     m
@@ -148,8 +150,10 @@ pub fn list_tries(
     out: &mut [u16],
     m: usize,
 ) -> usize
-    requires { ⌜ (n ≤ 65535) × (words ≤ 32) × (suc n * words ≤ length (now rows)) × Small 32 seen × Small 32 (now rows) × (m + length (added (words * 32) (row (rowsOf 32 words (suc n) (now rows))) (value 32 seen) (handlersOf n k (now tries))) ≤ length (now out)) ⌝ }
-    ensures { λ r. ⌜ Listing (added (words * 32) (row (rowsOf 32 words (suc n) (now (rows .entry)))) (value 32 seen) (handlersOf n k (now (tries .entry)))) (now (out .entry)) m (now (out .exit)) r ⌝ }
+    requires { ⌜ (n ≤ 65535) × (words ≤ 32) × (suc n * words ≤ length (now rows)) × Small 32 seen × Small 32 (now rows)
+        × (m + length (added (words * 32) (row (rowsOf 32 words (suc n) (now rows))) (value 32 seen) (handlersOf n k (now tries))) ≤ length (now out)) ⌝ }
+    ensures { λ r. ⌜ Listing (added (words * 32) (row (rowsOf 32 words (suc n) (now (rows .entry)))) (value 32 seen) (handlersOf n k (now (tries .entry))))
+        (now (out .entry)) m (now (out .exit)) r ⌝ }
 {
     let mut all = seen;
     let mut at = m;

@@ -64,7 +64,13 @@ module _ (m a b : ℕ) (out₀ out : List ℕ) (p : ℕ) (s : Adding m a b out�
   keeps-length = s .added .held .same
 
   pub fits-word : p < b → getD out p 0 ≤ 65536
-  fits-word h = omega (arith, s .added .each p (omega (arith, s .low .inside)), s .low .small p (omega (arith, s .low .inside)), byte-small (leb a p && ltb p p))
+  fits-word h = omega (
+    arith,
+    s .added .each p (omega (arith, s .low .inside)),
+    s .low .small p (omega (arith, s .low .inside)),
+    byte-small
+        (leb a p && ltb p p),
+  )
 
   pub ends : b ≤ p → Added m a b out₀ out
   ends h =

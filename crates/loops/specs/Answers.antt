@@ -3,8 +3,9 @@ use Prim.Native.Nat.{ℕ, _+_}
 use mathlib.Core.List.{List}
 use lib.ListN.{length}
 use Rattle.code.specs.Ins.{count}
-use Rattle.code.specs.Check.{checkOf, roomOf}
-use Rattle.code.specs.declared.Answer.{Answer}
+use Rattle.code.specs.Check.{checkOf}
+use Rattle.refusals.specs.Stages.{roomOf}
+use Rattle.refusals.specs.declared.Answer.{Answer}
 use Rattle.surveys.specs.Answers.{Fills}
 use Rattle.loops.specs.Loops.{depth}
 

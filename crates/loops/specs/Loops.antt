@@ -5,7 +5,7 @@ use mathlib.Core.List.{List}
 use lib.Dec.{eqb, ltb}
 use Rattle.laws.specs.All.{many}
 use Rattle.laws.specs.Walk.{first}
-use Rattle.code.specs.Op.{GetIter, ForIterR, ForIter}
+use Rattle.ops.specs.Op.{GetIter, ForIterR, ForIter}
 use Rattle.code.specs.Ins.{insAt, count}
 
 -- a `for` steps at k

@@ -7,19 +7,19 @@ ghost use Rattle.code.specs.Inner.{Whole};
 ghost use Rattle.loops.specs.Answers.{LoopsAround};
 ghost use Rattle.loops.specs.Loops.{nextStep, leavesAt, endOf, depth};
 ghost use Rattle.loops.specs.Inner.{Added, CanGrow, Space, Zeroed, Counted};
-use code::Answer;
-use code::Checked;
-use code::op::*;
+use ops::*;
+use refusals::Answer;
+use refusals::Checked;
 
 // `loops_around`: refusals 1, 2, 5.
 pub fn loops_around(code: &[u16], out: &mut [u32]) -> Answer
     ensures { λ r. ⌜ LoopsAround (now (code .entry)) (now (out .entry)) r (now (out .exit)) ⌝ }
 {
-    match code::room(code::check(code), 1, out.len(), code.len() / 6 + 1) {
-        Checked::No(r) => code::refused(r),
+    match refusals::room(code::check(code), 1, out.len(), code.len() / 6 + 1) {
+        Checked::No(r) => refusals::refused(r),
         Checked::Count(_) => {
             fill_loops(code, out);
-            code::tell(0, 0, 0, 0)
+            refusals::tell(0, 0, 0, 0)
         }
     }
 }
@@ -51,7 +51,7 @@ fn leaves_at(code: &[u16], f: usize) -> usize
         return 0;
     }
     let i = code::ins_at(code, f);
-    code::least(i.a as usize, n)
+    refusals::least(i.a as usize, n)
 }
 
 // Where the loop of the GetIter at g ends, else 0.
@@ -97,6 +97,6 @@ fn fill_loops(code: &[u16], out: &mut [u32])
     requires { ⌜ Space (now code) (now out) ⌝ }
     ensures { λ _. ⌜ now (out .exit) ≡ filledTo (depth (now (code .entry))) (length (now (code .entry)) / 6 + 1) (now (out .entry)) ⌝ }
 {
-    walks::clear_words(out, code.len() / 6 + 1);
+    sections::clear_words(out, code.len() / 6 + 1);
     count_loops(code, out);
 }

@@ -75,7 +75,7 @@ fn handled(tries: &[u32], n: usize, p: usize, q: usize) -> bool
     while i + 1 < tries.len() {
         let s = long(tries[i]);
         let h = long(tries[i + 1]);
-        let to = code::least(h, n);
+        let to = refusals::least(h, n);
         if (s < p) & (p < h) & (q == to) {
             return true;
         }

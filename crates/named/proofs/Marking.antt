@@ -13,7 +13,7 @@ use Rattle.laws.specs.Some.{some}
 use Rattle.laws.specs.Table.{Held, clearedTo}
 use Rattle.laws.proofs.Some.{nowhere-yet, some-more}
 use Rattle.laws.proofs.Table.{cleared-tail, cleared-length, cleared-at}
-use Rattle.lent.specs.Chunk.{chunkCount, operandAt, names}
+use Rattle.chunk.specs.Chunk.{chunkCount, operandAt, names}
 use Rattle.named.specs.Unused.{namesIt, constantNamed}
 use Rattle.named.specs.Inner.{noted, NamedMarks}
 

@@ -11,7 +11,7 @@ use borrow.Author.Tests.{lt-ltb, le-ltb}
 use Rattle.laws.specs.Each.{each}
 use Rattle.laws.proofs.Each.{each-more}
 use Rattle.laws.proofs.InPlace.{Walked, walk-none, walk-read, walk-put, walk-at, walk-as, walk-whole}
-use Rattle.lent.specs.Chunk.{stride, chunkCount, opAt, markAt, operandAt, originAt, names}
+use Rattle.chunk.specs.Chunk.{stride, chunkCount, opAt, markAt, operandAt, originAt, names}
 use Rattle.named.specs.Unused.{renumbered, renamedOperand, insOf, recoded}
 use Rattle.named.specs.Inner.{LowNumbers, numberIn}
 

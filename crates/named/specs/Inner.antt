@@ -7,7 +7,7 @@ use lib.Dec.{eqb, ltb}
 use lib.ListN.{length, getD, set}
 use mir.Val.{boolByte}
 use Rattle.laws.specs.Table.{Held}
-use Rattle.lent.specs.Chunk.{operandAt, names}
+use Rattle.chunk.specs.Chunk.{operandAt, names}
 use Rattle.named.specs.Unused.{constantNamed}
 
 -- scratch with a mark for the constant that instruction k names
@@ -19,6 +19,7 @@ pub record NamedMarks (w : List ℕ) (m : ℕ) (old s : List ℕ) : Type 0 where
   pub held : Held m old s
   pub at : (i : ℕ) → i < m → getD s i 0 ≡ boolByte (constantNamed w i)
 
+-- the scratch has a mark for constant i
 abbrev pub markedIn : List ℕ → ℕ → Bool
 markedIn s i = not (eqb (getD s i 0) 0)
 
@@ -28,5 +29,6 @@ pub record LowNumbers (m : ℕ) (s : List ℕ) : Type 0 where
   pub few : m ≤ 65536
   pub at : (i : ℕ) → i < m → getD s i 0 ≤ i
 
+-- the new number that the scratch has for constant i
 abbrev pub numberIn : List ℕ → ℕ → ℕ
 numberIn s i = getD s i 0

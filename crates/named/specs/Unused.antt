@@ -9,7 +9,7 @@ use lib.ListN.{getD, drop, replicate}
 use Rattle.laws.specs.All.{many}
 use Rattle.laws.specs.Some.{some}
 use Rattle.laws.specs.Each.{each}
-use Rattle.lent.specs.Chunk.{chunkCount, opAt, markAt, operandAt, originAt, names}
+use Rattle.chunk.specs.Chunk.{chunkCount, opAt, markAt, operandAt, originAt, names}
 
 -- instruction k has the mark, and its operand is i
 abbrev pub namesIt : List ℕ → ℕ → ℕ → Bool
@@ -27,6 +27,7 @@ before w i = many (constantNamed w) i
 abbrev pub packedAt : (ℕ → Bool) → List ℕ → ℕ → List ℕ
 packedAt f l i = cond (f i) (getD l i 0 ∷ []) []
 
+-- the entries that pass f, of the first m, as one list
 unfoldable pub packedList : (ℕ → Bool) → ℕ → List ℕ → List ℕ
 packedList f m l = each (packedAt f l) m
 

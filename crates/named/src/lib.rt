@@ -3,11 +3,12 @@ ghost use mathlib.Core.Path.{_≡_};
 ghost use Prim.Native.Nat.{_*_, _≤_, _<_};
 ghost use lib.ListN.{length};
 ghost use Rattle.laws.specs.Table.{clearedTo};
-ghost use Rattle.lent.specs.Chunk.{stride, chunkCount};
+ghost use Rattle.chunk.specs.Chunk.{stride, chunkCount};
 ghost use Rattle.named.specs.Unused.{renamedOperand, recoded};
 ghost use Rattle.named.specs.Inner.{noted, NamedMarks, LowNumbers, numberIn};
-use lent::STRIDE;
+use chunk::STRIDE;
 
+// An operand as the number of a constant.
 fn wide(x: u16) -> usize
     ensures { λ r. ⌜ r ≡ x ⌝ }
 {
@@ -31,11 +32,11 @@ fn note(code: &[u16], scratch: &mut [u32], m: usize, k: usize)
     requires { ⌜ (k < chunkCount (now code)) × (m ≤ length (now scratch)) ⌝ }
     ensures { λ _. ⌜ now (scratch .exit) ≡ noted (now (code .entry)) m k (now (scratch .entry)) ⌝ }
 {
-    let v = wide(lent::operand_at(code, k));
+    let v = wide(chunk::operand_at(code, k));
     if m <= v {
         return;
     }
-    let named = lent::names_constant(code, k);
+    let named = chunk::names_constant(code, k);
     if named {
         scratch[v] = 1;
     }
@@ -60,12 +61,12 @@ fn operand_of(code: &[u16], scratch: &[u32], m: usize, k: usize) -> u16
     requires { ⌜ (k < chunkCount (now code)) × LowNumbers m (now scratch) ⌝ }
     ensures { λ r. ⌜ r ≡ renamedOperand (numberIn (now (scratch .entry))) m (now (code .entry)) k ⌝ }
 {
-    let v = lent::operand_at(code, k);
+    let v = chunk::operand_at(code, k);
     let at = wide(v);
     if m <= at {
         return v;
     }
-    if lent::names_constant(code, k) {
+    if chunk::names_constant(code, k) {
         return scratch[at] as u16;
     }
     v

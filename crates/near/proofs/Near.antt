@@ -11,7 +11,7 @@ use lib.Bits.{bitAnd, bitOr, or-zero-l, or-zero-r}
 use lib.Dec.{ltb, eqb}
 use lib.ListN.{length, getD, drop, set, length-set, length-drop}
 use lib.Seq.{drop-cons, getD-set-other}
-use Rattle.code.specs.Op.{ReturnR, Jump, UnpackR, WithEnter, WithExit, CallGlobalR, CallR, CallMethodR, CallSpreadR, JumpIfFalseR, GetAttrR, Call}
+use Rattle.ops.specs.Op.{ReturnR, Jump, UnpackR, WithEnter, WithExit, CallGlobalR, CallR, CallMethodR, CallSpreadR, JumpIfFalseR, GetAttrR, Call}
 use Rattle.code.specs.Ins.{insAt, count, dunder}
 use Rattle.code.specs.Inner.{Valid}
 use Rattle.code.proofs.Rules.{op-known}

@@ -17,7 +17,7 @@ ghost use Rattle.flow.specs.Kept.{handlersOf};
 ghost use Rattle.nested.specs.Raising.{raising, mays};
 ghost use Rattle.near.specs.Inner.{moreOf, moreStep, Stretch, edgeOf, lowestOf, Covered};
 use code::Ins;
-use code::op::*;
+use ops::*;
 use rows::Counts;
 use steps::Step;
 
@@ -69,7 +69,8 @@ fn put_word(s: Step, regs: usize, rows: &mut [u64], k: usize, more: u64) -> bool
     true
 }
 
-// What the opcode alone tells of a step, a function of this route alone so that it stands in place: the bits of `kinds`, none for no role; 32 more where the row after it is not read; 64 where it does not tell all.
+// What the opcode alone tells of a step, a function of this route alone so that it stands in place: the bits of `kinds`, none for no role; 32 more where the
+// row after it is not read; 64 where it does not tell all.
 fn calm_of(o: u16) -> u8
     requires { ⌜ o ≤ 190 ⌝ }
     ensures { λ r. ⌜ r ≡ calmOf o ⌝ }
@@ -254,7 +255,7 @@ fn handlers_word(rows: &[u64], n: usize, k: usize, tries: &[u32]) -> u64
     loop {
         let s = lists::wide_of(tries[i]);
         let h = lists::wide_of(tries[i + 1]);
-        out = out | row_if(lists::around(s, k, h), rows, code::least(h, n));
+        out = out | row_if(lists::around(s, k, h), rows, refusals::least(h, n));
         i += 2;
         if tries.len() <= i + 1 {
             return out;

@@ -42,7 +42,8 @@ module _ (regs r : ℕ) where
   set-bit [] h = bit-zero r
   set-bit (x ∷ l) h = or-bit (alone regs x) (setOf regs l) r ∙ go (eqb r x) (among r l) (alone-bit x h) (set-bit l h)
     where
-      go : (s t : Bool) → bit (alone regs x) r ≡ cond s 1 0 → bit (setOf regs l) r ≡ cond t 1 0 → max (bit (alone regs x) r) (bit (setOf regs l) r) ≡ cond (s || t) 1 0
+      go : (s t : Bool) → bit (alone regs x) r ≡ cond s 1 0 → bit (setOf regs l) r ≡ cond t 1 0 → max (bit (alone regs x) r) (bit (setOf regs l) r) ≡ cond
+          (s || t) 1 0
       go true true p q = rw (p, q)
       go true false p q = rw (p, q)
       go false true p q = rw (p, q)
@@ -111,7 +112,8 @@ least-zero f rows full lost found = subst (λ (x : ℕ). Least f x (row rows)) (
     same false = refl
 
 -- The answer equals the bit in the finished rows from start 0.
-pub needs-bit : (f : Flow) → ((k : ℕ) → f .raises k ≡ []) → (rows : List ℕ) (full lost : ℕ) → Found f 0 rows full lost → (r k : ℕ) (b : Bool) → Says (Needs f r k) b → bit (row rows k) r ≡ cond b 1 0
+pub needs-bit : (f : Flow) → ((k : ℕ) → f .raises k ≡ []) → (rows : List ℕ) (full lost : ℕ) → Found f 0 rows full lost → (r k : ℕ) (b : Bool)
+    → Says (Needs f r k) b → bit (row rows k) r ≡ cond b 1 0
 needs-bit f calm rows full lost found r k true s = omega (arith, needs-row f r (row rows) (least-zero f rows full lost found) s, bit-lt (row rows k) r)
 needs-bit f calm rows full lost found r k false s = at (decLt 0 (bit (row rows k) r))
   where

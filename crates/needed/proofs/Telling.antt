@@ -9,13 +9,14 @@ use lib.Dec.{ltb}
 use lib.ListN.{length}
 use Rattle.laws.specs.Table.{clearedTo}
 use Rattle.laws.proofs.Table.{cleared-length}
-use Rattle.code.specs.Check.{checkOf, registersOf, roomOf}
-use Rattle.code.specs.declared.Refusal.{Refusal}
-use Rattle.code.specs.declared.Refusal.the-variants.{Position}
-use Rattle.code.specs.declared.Checked.{Checked}
-use Rattle.code.specs.declared.Checked.the-variants.{Count, No}
+use Rattle.code.specs.Check.{checkOf}
+use Rattle.refusals.specs.Stages.{registersOf, roomOf}
+use Rattle.refusals.specs.declared.Refusal.{Refusal}
+use Rattle.refusals.specs.declared.Refusal.the-variants.{Position}
+use Rattle.refusals.specs.declared.Checked.{Checked}
+use Rattle.refusals.specs.declared.Checked.the-variants.{Count, No}
 use Rattle.code.proofs.Checks.{counted, checked}
-use Rattle.code.proofs.Stages.{regs-before, room-before, room-there}
+use Rattle.refusals.proofs.Stages.{regs-before, room-before, room-there}
 use Rattle.steps.specs.Code.{flow}
 use Rattle.needed.specs.Path.{Needs}
 use Rattle.paths.specs.Search.{Says, SearchSettles}
@@ -64,7 +65,8 @@ module _ (w seen todo : List ℕ) (regs k : ℕ) (c g p u v : Checked) (ec : c �
   pub chain : v ≡ roomOf (roomOf (uptoOf (registersOf (checkOf w) regs) k) 1 (length seen) (length w / 6 + 1)) 2 (length todo) (length w / 6 + 1)
   chain =
       ev ∙ ap (λ (x : Checked). roomOf x 2 (length todo) (length w / 6 + 1)) eu
-      ∙ ap (λ (x : Checked). roomOf (roomOf x 1 (length seen) (length w / 6 + 1)) 2 (length todo) (length w / 6 + 1)) (ep ∙ ap (λ (x : Checked). uptoOf x k) (eg ∙ ap (λ (x : Checked). registersOf x regs) ec))
+      ∙ ap (λ (x : Checked). roomOf (roomOf x 1 (length seen) (length w / 6 + 1)) 2 (length todo) (length w / 6 + 1)) (ep ∙ ap (λ (x : Checked). uptoOf x k)
+      (eg ∙ ap (λ (x : Checked). registersOf x regs) ec))
 
   module _ (n : ℕ) (h : v ≡ Count n) where
     marks-on : u ≡ Count n

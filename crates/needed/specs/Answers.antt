@@ -4,12 +4,13 @@ use mathlib.Core.Bool.{cond}
 use mathlib.Core.List.{List}
 use lib.Dec.{ltb}
 use Rattle.code.specs.Ins.{count}
-use Rattle.code.specs.Check.{andThen, checkOf, registersOf}
-use Rattle.code.specs.declared.Answer.{Answer}
-use Rattle.code.specs.declared.Checked.{Checked}
-use Rattle.code.specs.declared.Checked.the-variants.{Count, No}
-use Rattle.code.specs.declared.Refusal.the-variants.{Position}
-use Rattle.phis.specs.Answers.{roomBoth, Tells}
+use Rattle.refusals.specs.Stages.{andThen, registersOf}
+use Rattle.code.specs.Check.{checkOf}
+use Rattle.refusals.specs.declared.Answer.{Answer}
+use Rattle.refusals.specs.declared.Checked.{Checked}
+use Rattle.refusals.specs.declared.Checked.the-variants.{Count, No}
+use Rattle.refusals.specs.declared.Refusal.the-variants.{Position}
+use Rattle.unread.specs.Answers.{roomBoth, Tells}
 use Rattle.steps.specs.Code.{flow}
 use Rattle.needed.specs.Path.{Needs}
 

@@ -1,7 +1,7 @@
 -- A body whose plain lists are not enough: the call at 2 overwrites r5, the call at 6 raises, and the handler at 9 reads r5. Assumes nothing.
 use mathlib.Core.Path.{_≡_, refl, sym, ap, _∙_, subst}
 use mathlib.Core.Bool.{Bool, true, false, cond}
-use mathlib.Core.List.{List, [], _∷_, _++_, map, List·Memᴰ, List·Memᴰ·head, List·Memᴰ·not-nil}
+use mathlib.Core.List.{List, [], _∷_, map, List·Memᴰ, List·Memᴰ·head, List·Memᴰ·not-nil}
 use Prim.Native.Nat.{ℕ}
 use native.Mathlib.Omega.{arith}
 use borrow.Author.Tests.{eqb-true}
@@ -35,11 +35,13 @@ rows′ = 0 ∷ 0 ∷ 49 ∷ 32 ∷ 34 ∷ 50 ∷ 50 ∷ 0 ∷ 4 ∷ 32 ∷ 0 �
 
 -- document 01's rows, and the rows with handlers; each from the first level, in one sweep
 pub plain-found : Found (flow 6 body) 2 rows 1 0
-unfolding minus joined rowAt sweep below tally page ruleOf kindsOf hasRole isJump cases caseOf usedBy givenBy storeOf overPending pastStore restores idle usedAt givenAt afterAt
+unfolding minus joined rowAt sweep below tally page ruleOf kindsOf hasRole isJump cases caseOf usedBy givenBy storeOf overPending pastStore restores idle usedAt
+    givenAt afterAt
 plain-found = record { sweeps = done (last-straight (flow 6 body) 2 (replicate 11 0) refl); left = refl }
 
 pub raising-found : Found (raising (levels body) 6 body tries) 2 rows′ 1 0
-unfolding minus joined rowAt sweep below tally page ruleOf kindsOf hasRole isJump cases caseOf usedBy givenBy storeOf overPending pastStore restores idle usedAt givenAt afterAt isLevel handlersOf raisesAt
+unfolding minus joined rowAt sweep below tally page ruleOf kindsOf hasRole isJump cases caseOf usedBy givenBy storeOf overPending pastStore restores idle usedAt
+    givenAt afterAt isLevel handlersOf raisesAt
 raising-found = record { sweeps = done (last-straight (raising (levels body) 6 body tries) 2 (replicate 11 0) refl); left = refl }
 
 abbrev pub plainAt : ℕ → List ℕ
@@ -86,7 +88,8 @@ told x = (2, 10 ∷ 14 ∷ []) ∷ (3, []) ∷ (4, []) ∷ (5, []) ∷ (6, 22 �
 
 runs : (nested (frame (levels body) 6 body tries) lost events 2 file ≡ told 77)
     × (nested (frame (levels body) 6 body tries) undisturbed events 2 file ≡ told 55)
-unfolding nested lost bit listed page ruleOf kindsOf hasRole isJump cases caseOf usedBy givenBy storeOf overPending pastStore restores idle usedAt givenAt afterAt isLevel handlersOf raisesAt argsAt resumeOf resultAt joined
+unfolding nested lost bit listed page ruleOf kindsOf hasRole isJump cases caseOf usedBy givenBy storeOf overPending pastStore restores idle usedAt givenAt
+    afterAt isLevel handlersOf raisesAt argsAt resumeOf resultAt joined
 runs = (refl, refl)
 
 -- so document 01's lists do not shelter nested frames
@@ -105,7 +108,8 @@ abbrev untidy-rows′ : List ℕ
 untidy-rows′ = 4 ∷ 4 ∷ 5 ∷ 4 ∷ 0 ∷ []
 
 untidy-found : Found (raising (mays true untidy) 3 untidy []) 0 untidy-rows′ 1 0
-unfolding minus joined rowAt sweep below tally page ruleOf kindsOf hasRole isJump cases caseOf usedBy givenBy storeOf overPending pastStore restores idle usedAt givenAt afterAt isLevel handlersOf raisesAt
+unfolding minus joined rowAt sweep below tally page ruleOf kindsOf hasRole isJump cases caseOf usedBy givenBy storeOf overPending pastStore restores idle usedAt
+    givenAt afterAt isLevel handlersOf raisesAt
 untidy-found = record { sweeps = done (last-straight (raising (mays true untidy) 3 untidy []) 0 (replicate 5 0) refl); left = refl }
 
 abbrev untidyAt : ℕ → List ℕ
@@ -134,7 +138,8 @@ untidy-told x = (0, []) ∷ (1, []) ∷ (2, 0 ∷ []) ∷ (3, x ∷ []) ∷ []
 
 untidy-runs : (nested (frame (mays true untidy) 3 untidy []) untidy-lost untidy-events 0 (10 ∷ 11 ∷ 55 ∷ []) ≡ untidy-told 77)
     × (nested (frame (mays true untidy) 3 untidy []) undisturbed untidy-events 0 (10 ∷ 11 ∷ 55 ∷ []) ≡ untidy-told 55)
-unfolding nested untidy-lost bit listed page ruleOf kindsOf hasRole isJump cases caseOf usedBy givenBy storeOf overPending pastStore restores idle usedAt givenAt afterAt isLevel handlersOf raisesAt argsAt resumeOf resultAt joined
+unfolding nested untidy-lost bit listed page ruleOf kindsOf hasRole isJump cases caseOf usedBy givenBy storeOf overPending pastStore restores idle usedAt
+    givenAt afterAt isLevel handlersOf raisesAt argsAt resumeOf resultAt joined
 untidy-runs = (refl, refl)
 
 -- So where the mark stands on a ReturnR document 01's lists do not shelter nested frames, though no try is lent: the call goes on where the rows
@@ -148,18 +153,21 @@ untidy-not-enough s =
 -- ---- Raise, which is no level: where anything may raise, the call at 1 keeps r5 for the handler at 6
 
 pub raise-all-found : Found (raising (mays true raised) 6 raised (3 ∷ 6 ∷ [])) (beginsAt 6 raised) (0 ∷ 32 ∷ 32 ∷ 34 ∷ 34 ∷ 34 ∷ 32 ∷ 0 ∷ []) 1 0
-unfolding minus joined rowAt sweep below tally page ruleOf kindsOf hasRole isJump cases caseOf usedBy givenBy storeOf overPending pastStore restores idle usedAt givenAt afterAt isLevel handlersOf raisesAt routeStart firstLevel first
+unfolding minus joined rowAt sweep below tally page ruleOf kindsOf hasRole isJump cases caseOf usedBy givenBy storeOf overPending pastStore restores idle usedAt
+    givenAt afterAt isLevel handlersOf raisesAt routeStart firstLevel first
 raise-all-found = record { sweeps = done (last-straight (raising (mays true raised) 6 raised (3 ∷ 6 ∷ [])) 1 (replicate 8 0) refl); left = refl }
 
 -- ---- a handler wants what its level gives up
 
 -- row 4 has r1, which 4 would write: an exception leaves before it is given up
 pub wanted-found : Found (raising (mays false wanted) 3 wanted (3 ∷ 6 ∷ [])) (beginsAt 3 wanted) (0 ∷ 2 ∷ 2 ∷ 6 ∷ 6 ∷ 2 ∷ 2 ∷ 0 ∷ []) 1 0
-unfolding minus joined rowAt sweep below tally page ruleOf kindsOf hasRole isJump cases caseOf usedBy givenBy storeOf overPending pastStore restores idle usedAt givenAt afterAt isLevel handlersOf raisesAt routeStart firstLevel first
+unfolding minus joined rowAt sweep below tally page ruleOf kindsOf hasRole isJump cases caseOf usedBy givenBy storeOf overPending pastStore restores idle usedAt
+    givenAt afterAt isLevel handlersOf raisesAt routeStart firstLevel first
 wanted-found = record { sweeps = done (last-straight (raising (mays false wanted) 3 wanted (3 ∷ 6 ∷ [])) 1 (replicate 8 0) refl); left = refl }
 
 -- 4 raises: 99, which it would write to r1, is not written, and the handler at 6 reads the 11 of before
 wanted-run : nested (frame (mays false wanted) 3 wanted (3 ∷ 6 ∷ [])) undisturbed (step 0 (0 ∷ 99 ∷ []) ∷ step 0 [] ∷ []) 4 (10 ∷ 11 ∷ 12 ∷ [])
     ≡ (4, 12 ∷ []) ∷ (6, 11 ∷ []) ∷ []
-unfolding nested bit listed page ruleOf kindsOf hasRole isJump cases caseOf usedBy givenBy storeOf overPending pastStore restores idle usedAt givenAt afterAt isLevel handlersOf raisesAt argsAt resumeOf resultAt joined
+unfolding nested bit listed page ruleOf kindsOf hasRole isJump cases caseOf usedBy givenBy storeOf overPending pastStore restores idle usedAt givenAt afterAt
+    isLevel handlersOf raisesAt argsAt resumeOf resultAt joined
 wanted-run = refl

@@ -48,7 +48,12 @@ module _ (may : ℕ → Bool) (bits : ℕ) (wide : Bool) (regs : ℕ) (w tries :
       low = omega (arith, start-le (raising may regs w tries) (routeStart bits wide regs w), inside bits wide regs w)
 
       none : (k : ℕ) → k < start → (t : Bool) → isLevel (insAt w k) ≡ t → t ≡ false
-      none k l true e = absurd (omega (arith, start-le (raising may regs w tries) (routeStart bits wide regs w), before bits wide regs w k (omega (arith, low)) e))
+      none k l true e = absurd (omega (
+        arith,
+        start-le (raising may regs w tries) (routeStart bits wide regs w),
+        before bits wide regs w k (omega (arith, low))
+            e,
+      ))
       none k l false e = refl
 
   module _ (k : ℕ) (inCode : k < count w) (level : isLevel (insAt w k) ≡ true) where

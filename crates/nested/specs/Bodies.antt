@@ -1,7 +1,7 @@
 -- The bodies of the examples, in numbers. Assumes nothing.
 use mathlib.Core.List.{List, [], _∷_, _++_}
 use Prim.Native.Nat.{ℕ}
-use Rattle.code.specs.Op.{LoadGlobalR, CallR, CallGlobalR, StoreTopR, SetupExcept, Raise, ReturnR}
+use Rattle.ops.specs.Op.{LoadGlobalR, CallR, CallGlobalR, StoreTopR, SetupExcept, Raise, ReturnR}
 
 -- opcode, a, b, x, without marks
 abbrev pub unmarked : ℕ → ℕ → ℕ → ℕ → List ℕ
@@ -21,10 +21,12 @@ body =
     ++ unmarked ReturnR 0 2 0
     ++ unmarked ReturnR 0 5 0
 
+-- the one try of that body: from 5 on, its handler at 9
 abbrev pub tries : List ℕ
 tries = 5 ∷ 9 ∷ []
 
 -- Raise, which is no level: 0 LoadGlobalR a5; 1 CallGlobalR a4 x0; 2 StoreTopR a1; 3 SetupExcept 6; 4 Raise; 5 ReturnR b1; 6 ReturnR b5; try (3, 6)
 abbrev pub raised : List ℕ
-raised = unmarked LoadGlobalR 5 1 0 ++ unmarked CallGlobalR 4 0 0 ++ unmarked StoreTopR 1 0 0 ++ unmarked SetupExcept 6 0 0 ++ unmarked Raise 0 0 0 ++ unmarked ReturnR 0 1 0 ++ unmarked ReturnR
+raised = unmarked LoadGlobalR 5 1 0 ++ unmarked CallGlobalR 4 0 0 ++ unmarked StoreTopR 1 0 0 ++ unmarked SetupExcept 6 0 0 ++ unmarked Raise 0 0 0
+    ++ unmarked ReturnR 0 1 0 ++ unmarked ReturnR
     0 5 0

@@ -6,7 +6,7 @@ use Prim.Native.Nat.{ℕ, _≤_, _<_, max}
 use Rattle.flow.specs.Set.{bit}
 use Rattle.flow.specs.Flow.{Solution, Closed}
 use Rattle.nested.specs.Machine.{Frame}
-use Rattle.code.specs.Op.{LoadGlobalR, CallGlobalR, StoreTopR, SetupExcept, GetAttrR, ReturnR}
+use Rattle.ops.specs.Op.{LoadGlobalR, CallGlobalR, StoreTopR, SetupExcept, GetAttrR, ReturnR}
 use Rattle.nested.specs.Bodies.{unmarked}
 
 -- Rows that shelter: they solve the equations of the code, and a level's row has what its call reads, what its handlers want, and what its
@@ -25,7 +25,9 @@ pub record Shelters (c : Frame) (start : ℕ) (R : ℕ → ℕ) : Type 0 where
 abbrev pub untidy : List ℕ
 untidy = unmarked CallGlobalR 0 0 0 ++ unmarked StoreTopR 0 0 0 ++ (ReturnR ∷ 2 ∷ 0 ∷ 0 ∷ 0 ∷ 0 ∷ []) ++ unmarked ReturnR 0 2 0
 
--- a handler wants what its level gives up: 0 LoadGlobalR a1; 1 CallGlobalR; 2 StoreTopR a2; 3 SetupExcept 6; 4 GetAttrR a1 b2; 5 ReturnR b1; 6 ReturnR b1; try (3, 6)
+-- a handler wants what its level gives up: 0 LoadGlobalR a1; 1 CallGlobalR; 2 StoreTopR a2; 3 SetupExcept 6; 4 GetAttrR a1 b2; 5 ReturnR b1; 6 ReturnR b1; try
+-- (3, 6)
 abbrev pub wanted : List ℕ
-wanted = unmarked LoadGlobalR 1 7 0 ++ unmarked CallGlobalR 4 0 0 ++ unmarked StoreTopR 2 0 0 ++ unmarked SetupExcept 6 0 0 ++ unmarked GetAttrR 1 2 0 ++ unmarked ReturnR 0 1 0 ++ unmarked
+wanted = unmarked LoadGlobalR 1 7 0 ++ unmarked CallGlobalR 4 0 0 ++ unmarked StoreTopR 2 0 0 ++ unmarked SetupExcept 6 0 0 ++ unmarked GetAttrR 1 2 0
+    ++ unmarked ReturnR 0 1 0 ++ unmarked
     ReturnR 0 1 0

@@ -5,7 +5,7 @@ use mathlib.Core.Bool.{Bool, false, cond, _&&_, _||_}
 use mathlib.Core.List.{List, [], _++_}
 use lib.Bits.{bitOr}
 use lib.Dec.{eqb}
-use Rattle.code.specs.Op.{ReturnR, Jump, UnpackR, WithEnter, WithExit}
+use Rattle.ops.specs.Op.{ReturnR, Jump, UnpackR, WithEnter, WithExit}
 use Rattle.code.specs.Ins.{insAt, count, wide, dunder}
 use Rattle.code.specs.declared.Ins.{Ins}
 use Rattle.roles.specs.Sets.{only}
@@ -25,6 +25,7 @@ stranded i = let o = i .op in dunder i && (eqb o ReturnR || eqb o Jump || eqb o 
 abbrev pub leaving : Bool → Bool → ℕ → ℕ → List ℕ → List ℕ
 leaving may past n k tries = only past (k + 1) ++ cond may (handlersOf n k tries) []
 
+-- where position k of lent code may go on before it gives up a register; `may` says which positions raise
 unfoldable pub raisesAt : (ℕ → Bool) → List ℕ → List ℕ → ℕ → List ℕ
 raisesAt may w tries k = leaving (may k) (stranded (insAt w k)) (count w) k tries
 

@@ -53,8 +53,11 @@ module _ (w o : List ℕ) (len : ℕ) (passed : count w + 1 ≤ firstWrong w o l
       zeroth e = eqb-true (getD o 0 0) 0 (not-false (eqb (getD o 0 0) 0) e)
 
       go : (n : ℕ) → count w ≡ n → getD o 0 0 ≡ 0
-      go zero e = zeroth (or-left (not (eqb (getD o 0 0) 0)) (not (eqb (getD o 0 0) len)) (subst (λ (x : ℕ). (eqb x 0 && not (eqb (getD o x 0) 0)) || not (eqb (getD o x 0) len) ≡ false) e end))
-      go (suc n) e = zeroth (or-left (not (eqb (getD o 0 0) 0)) (ltb (getD o 1 0) (getD o 0 0)) (or-left (not (eqb (getD o 0 0) 0) || ltb (getD o 1 0) (getD o 0 0)) (not (isLevel (insAt w 0)) && not (eqb (getD o 1 0) (getD o 0 0))) (rule 0 (omega arith))))
+      go zero e = zeroth (or-left (not (eqb (getD o 0 0) 0)) (not (eqb (getD o 0 0) len))
+          (subst (λ (x : ℕ). (eqb x 0 && not (eqb (getD o x 0) 0)) || not (eqb (getD o x 0) len) ≡ false) e end))
+      go (suc n) e = zeroth (or-left (not (eqb (getD o 0 0) 0)) (ltb (getD o 1 0) (getD o 0 0))
+          (or-left (not (eqb (getD o 0 0) 0) || ltb (getD o 1 0) (getD o 0 0)) (not (isLevel (insAt w 0)) && not (eqb (getD o 1 0) (getD o 0 0)))
+          (rule 0 (omega arith))))
 
   pub right-of : Valid w → count w + 1 ≤ length o → Right w o
   right-of v long = record {
@@ -62,10 +65,13 @@ module _ (w o : List ℕ) (len : ℕ) (passed : count w + 1 ≤ firstWrong w o l
     long = omega arith;
     start = begins;
     rise = λ k h. ltb-false (getD o (k + 1) 0) (getD o k 0)
-        (or-right (eqb k 0 && not (eqb (getD o k 0) 0)) (ltb (getD o (k + 1) 0) (getD o k 0)) (or-left ((eqb k 0 && not (eqb (getD o k 0) 0)) || ltb (getD o (k + 1) 0) (getD o k 0)) (not (isLevel (insAt w k)) && not (eqb (getD o (k + 1) 0) (getD o k 0))) (rule k h)));
+        (or-right (eqb k 0 && not (eqb (getD o k 0) 0)) (ltb (getD o (k + 1) 0) (getD o k 0))
+        (or-left ((eqb k 0 && not (eqb (getD o k 0) 0)) || ltb (getD o (k + 1) 0) (getD o k 0)) (not (isLevel (insAt w k))
+        && not (eqb (getD o (k + 1) 0) (getD o k 0))) (rule k h)));
     idle = λ k h e. eqb-true (getD o (k + 1) 0) (getD o k 0) (not-false (eqb (getD o (k + 1) 0) (getD o k 0))
         (subst (λ (t : Bool). not t && not (eqb (getD o (k + 1) 0) (getD o k 0)) ≡ false) e
-        (or-right ((eqb k 0 && not (eqb (getD o k 0) 0)) || ltb (getD o (k + 1) 0) (getD o k 0)) (not (isLevel (insAt w k)) && not (eqb (getD o (k + 1) 0) (getD o k 0))) (rule k h))));
+        (or-right ((eqb k 0 && not (eqb (getD o k 0) 0)) || ltb (getD o (k + 1) 0) (getD o k 0)) (not (isLevel (insAt w k))
+        && not (eqb (getD o (k + 1) 0) (getD o k 0))) (rule k h))));
   }
 
 -- Offsets that begin at 0, never fall, give a list to levels alone and end at the list's length are not refused with 15.

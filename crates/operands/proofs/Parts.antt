@@ -7,14 +7,14 @@ use mathlib.Core.List.{List}
 use lib.Dec.{eqb, ltb, leb}
 use lib.ListN.{getD}
 use borrow.Author.Tests.{eq-eqb, ne-eqb, lt-ltb, eqb-true}
-use Rattle.code.specs.Op.{LoadConst}
-use Rattle.lent.specs.Chunk.{opAt, operandAt, marksJump, lands}
+use Rattle.ops.specs.Op.{LoadConst}
+use Rattle.chunk.specs.Chunk.{opAt, operandAt, marksJump, lands}
 use Rattle.values.specs.Inner.{SoundInt}
 use Rattle.values.specs.declared.Val.{Val}
 use Rattle.values.specs.declared.Maybe.{Maybe}
 use Rattle.values.specs.declared.Maybe.the-variants.{Is, Nothing}
-use Rattle.chunk.specs.Pool.{toVal, constToVal}
-use Rattle.chunk.proofs.Store.{val-sound}
+use Rattle.pool.specs.Pool.{toVal, constToVal}
+use Rattle.pool.proofs.Store.{val-sound}
 use Rattle.operands.specs.Operands.{prevLive, operandOf, skipsInto, blocked, after}
 use Rattle.operands.specs.declared.Found.{Found}
 use Rattle.operands.specs.declared.Found.the-variants.{At, Nowhere}

@@ -4,11 +4,11 @@ use mathlib.Core.Bool.{Bool, cond, _&&_, _||_}
 use mathlib.Core.List.{List}
 use lib.Dec.{ltb, eqb}
 use lib.ListN.{getD}
-use Rattle.code.specs.Op.{LoadConst}
-use Rattle.lent.specs.Chunk.{opAt, operandAt, lands}
+use Rattle.ops.specs.Op.{LoadConst}
+use Rattle.chunk.specs.Chunk.{opAt, operandAt, lands}
 use Rattle.values.specs.declared.Maybe.{Maybe}
 use Rattle.values.specs.declared.Maybe.the-variants.{Nothing}
-use Rattle.chunk.specs.Pool.{constToVal}
+use Rattle.pool.specs.Pool.{constToVal}
 use Rattle.operands.specs.declared.Found.{Found}
 use Rattle.operands.specs.declared.Found.the-variants.{At, Nowhere}
 

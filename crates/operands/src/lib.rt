@@ -1,10 +1,10 @@
 // The operands of an attempt to fold: where they stand, what they load, and whether a jump or a landing keeps them from folding.
-use code::op::*;
+use ops::*;
 use values::Maybe;
 ghost use mathlib.Core.Path.{_≡_};
 ghost use Prim.Native.Nat.{_≤_, _<_};
 ghost use lib.ListN.{length};
-ghost use Rattle.lent.specs.Chunk.{chunkCount, lands};
+ghost use Rattle.chunk.specs.Chunk.{chunkCount, lands};
 ghost use Rattle.operands.specs.Operands.{prevLive, operandOf, skipsInto, blocked, after};
 
 // A position, where there is one.
@@ -33,10 +33,10 @@ pub fn operand_of(code: &[u16], kinds: &[u8], words: &[u64], constants: usize, p
     requires { ⌜ (p < chunkCount (now code)) × (constants ≤ length (now kinds)) × (constants ≤ length (now words)) ⌝ }
     ensures { λ r. ⌜ r ≡ operandOf (now (code .entry)) (now (kinds .entry)) (now (words .entry)) constants p ⌝ }
 {
-    if lent::op_at(code, p) != LoadConst {
+    if chunk::op_at(code, p) != LoadConst {
         return Maybe::Nothing;
     }
-    chunk::const_to_val(kinds, words, constants, wide(lent::operand_at(code, p)))
+    pool::const_to_val(kinds, words, constants, wide(chunk::operand_at(code, p)))
 }
 
 // Whether a jump just before, or the last landing, keeps the fold of (start, end] from being made.
@@ -66,10 +66,11 @@ fn lands_at(code: &[u16], start: usize, end: usize, k: usize) -> bool
     requires { ⌜ k < chunkCount (now code) ⌝ }
     ensures { λ r. ⌜ r ≡ lands (now (code .entry)) start end k ⌝ }
 {
-    let target = wide(lent::operand_at(code, k));
-    lent::is_jump(code, k) & ((start < target) & (target <= end))
+    let target = wide(chunk::operand_at(code, k));
+    chunk::is_jump(code, k) & ((start < target) & (target <= end))
 }
 
+// An operand as the number of a constant, or as a position.
 fn wide(x: u16) -> usize
     ensures { λ r. ⌜ r ≡ x ⌝ }
 {

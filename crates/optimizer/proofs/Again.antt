@@ -14,21 +14,21 @@ use Rattle.laws.specs.Each.{each}
 use Rattle.laws.specs.Walk.{first}
 use Rattle.laws.proofs.Branch.{or-false}
 use Rattle.laws.proofs.Many.{many-few}
-use Rattle.code.specs.Answers.{asked}
-use Rattle.code.specs.declared.Refusal.{Refusal}
-use Rattle.code.specs.declared.Refusal.the-variants.{Length, Record}
-use Rattle.code.specs.declared.Checked.{Checked}
-use Rattle.code.specs.declared.Checked.the-variants.{Count, No as Refused}
-use Rattle.lent.specs.Chunk.{stride, chunkCount, opAt, markAt, originAt, folds, chunkRules, breaksAt}
-use Rattle.lent.specs.Check.{unevenChunk, firstBadOf, chunkCheckOf, readyOf}
-use Rattle.lent.specs.declared.Counts.{Counts}
-use Rattle.lent.proofs.Checks.{accepted}
+use Rattle.refusals.specs.Answers.{asked}
+use Rattle.refusals.specs.declared.Refusal.{Refusal}
+use Rattle.refusals.specs.declared.Refusal.the-variants.{Length, Record}
+use Rattle.refusals.specs.declared.Checked.{Checked}
+use Rattle.refusals.specs.declared.Checked.the-variants.{Count, No as Refused}
+use Rattle.chunk.specs.Chunk.{stride, chunkCount, opAt, markAt, originAt, folds, chunkRules, breaksAt}
+use Rattle.chunk.specs.Check.{unevenChunk, firstBadOf, chunkCheckOf, readyOf}
+use Rattle.chunk.specs.declared.Counts.{Counts}
+use Rattle.chunk.proofs.Checks.{accepted}
 use Rattle.laws.proofs.Counting.{zeros-at}
 use Rattle.values.specs.declared.Val.{Val}
 use Rattle.values.specs.declared.Val.the-variants.{Int, Float as Real, Bool as Truth}
-use Rattle.chunk.specs.Pool.{findOrPushConst}
-use Rattle.chunk.specs.declared.Kept.{Kept}
-use Rattle.chunk.specs.declared.Kept.the-variants.{At, Full}
+use Rattle.pool.specs.Pool.{findOrPushConst}
+use Rattle.pool.specs.declared.Kept.{Kept}
+use Rattle.pool.specs.declared.Kept.the-variants.{At, Full}
 use Rattle.fold.specs.Plan.{Chunk, chunk, planAt}
 use Rattle.fold.specs.Pass.{Loading, loadOf, constLoad, markOf, put, landed, applied, tryFold, Bars, byScan, folded, foldAll}
 use Rattle.fold.specs.declared.Loaded.{Loaded}
@@ -220,7 +220,8 @@ checks w w′ n k e = go (unevenChunk w) refl (ltb (firstBadOf w) (chunkCount w)
     go false p true q h = never n (Record (firstBadOf w)) (rw (p, q) at h)
     go false p false q h =
         let z : Count (chunkCount w) ≡ Count n = rw (p, q) at h in
-        let l : length w % stride ≡ 0 = eqb-true (length w % stride) 0 (not-false _ (or-false (not (eqb (length w % stride) 0)) (ltb 65535 (chunkCount w)) p .0)) in
+        let l : length w % stride ≡ 0 = eqb-true (length w % stride) 0
+        (not-false _ (or-false (not (eqb (length w % stride) 0)) (ltb 65535 (chunkCount w)) p .0)) in
         let r : Ruled w′ = k .ruled (ruled-of w (omega arith) (ltb-false (firstBadOf w) (chunkCount w) q)) in
         let f : firstBadOf w′ ≡ 0 + chunkCount w′ = reaches (breaksAt w′) (chunkCount w′) 0 (λ j a b. ap not (r j)) in
         let u : unevenChunk w′ ≡ false = rw (k .long) p in

@@ -5,14 +5,13 @@ use mathlib.Core.Path.{_≡_, refl, sym}
 use mathlib.Core.Bool.{Bool, true}
 use mathlib.Core.List.{List}
 use lib.ListN.{length}
-use Rattle.code.specs.Rules.{tryKept}
-use Rattle.code.specs.Check.{pairs}
-use Rattle.code.specs.Answers.{asked}
-use Rattle.code.specs.declared.Checked.{Checked}
-use Rattle.code.specs.declared.Checked.the-variants.{Count, No as Refused}
-use Rattle.lent.specs.Chunk.{chunkCount}
-use Rattle.lent.specs.Check.{readyOf}
-use Rattle.lent.specs.declared.Counts.{Counts}
+use Rattle.refusals.specs.Stages.{tryKept, pairs}
+use Rattle.refusals.specs.Answers.{asked}
+use Rattle.refusals.specs.declared.Checked.{Checked}
+use Rattle.refusals.specs.declared.Checked.the-variants.{Count, No as Refused}
+use Rattle.chunk.specs.Chunk.{chunkCount}
+use Rattle.chunk.specs.Check.{readyOf}
+use Rattle.chunk.specs.declared.Counts.{Counts}
 use Rattle.fold.specs.Pass.{byScan}
 use Rattle.optimizer.specs.Fold.{Buffers, lensOf, needed, foldOutcome, constantFold, joinedBuffers, foldLent, called, rejoined, foldCall, Is, No}
 use Rattle.optimizer.specs.Inner.{FoldRoom, Exact}

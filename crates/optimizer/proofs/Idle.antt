@@ -11,9 +11,9 @@ use lib.Seq.{ext-getD}
 use borrow.Author.Tests.{eqb-true, ltb-true, ltb-false}
 use Rattle.laws.specs.All.{every}
 use Rattle.laws.proofs.Each.{each-at}
-use Rattle.lent.specs.Chunk.{chunkCount}
+use Rattle.chunk.specs.Chunk.{chunkCount}
 use Rattle.laws.proofs.Counting.{every-at}
-use Rattle.lent.specs.declared.Counts.{Counts}
+use Rattle.chunk.specs.declared.Counts.{Counts}
 use Rattle.positions.specs.Remap.{alive}
 use Rattle.phi_pass.specs.Phi.{phiMarkAt, marked}
 use Rattle.phi_pass.proofs.Pairs.{marked-length, dead-stays}

@@ -8,8 +8,8 @@ use lib.Dec.{ltb}
 use lib.ListN.{length, List·getD-eq-default}
 use borrow.Author.Tests.{ltb-true, ltb-false, not-false}
 use Rattle.laws.proofs.Walk.{none-passed}
-use Rattle.lent.specs.Chunk.{stride, chunkCount, opAt, markAt, folds, chunkRules, breaksAt}
-use Rattle.lent.specs.Check.{firstBadOf}
+use Rattle.chunk.specs.Chunk.{stride, chunkCount, opAt, markAt, folds, chunkRules, breaksAt}
+use Rattle.chunk.specs.Check.{firstBadOf}
 
 -- every instruction keeps the record rules; past the end there is none to break them
 abbrev pub Ruled : List ℕ → Type 0

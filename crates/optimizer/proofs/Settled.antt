@@ -4,7 +4,7 @@ use native.Mathlib.Omega.{arith}
 use mathlib.Core.Path.{_≡_, ap, _∙_}
 use mathlib.Core.List.{List}
 use lib.ListN.{length}
-use Rattle.lent.specs.Chunk.{stride, chunkCount}
+use Rattle.chunk.specs.Chunk.{stride, chunkCount}
 use Rattle.landings.specs.Landings.{landingsOf}
 use Rattle.landings.proofs.Asked.{table-long}
 

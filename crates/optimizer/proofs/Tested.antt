@@ -12,20 +12,19 @@ use borrow.Author.Tests.{eqb-true, leb-true, ltb-false, not-false}
 use Rattle.laws.specs.All.{every}
 use Rattle.laws.proofs.Branch.{and-true, or-false, or-true}
 use Rattle.laws.proofs.Walk.{none-passed}
-use Rattle.code.specs.Op.{LoadConst}
-use Rattle.code.specs.Rules.{tryKept}
-use Rattle.code.specs.Check.{pairs, firstBadTry, triedOf, roomOf}
-use Rattle.code.proofs.Stages.{room-before, room-there}
-use Rattle.code.specs.declared.Refusal.{Refusal}
-use Rattle.code.specs.declared.Refusal.the-variants.{Length, Record, Try, Table}
-use Rattle.code.specs.declared.Checked.{Checked}
-use Rattle.code.specs.declared.Checked.the-variants.{Count, No}
-use Rattle.lent.specs.Chunk.{stride, chunkCount, opAt, markAt, folds, chunkRules}
+use Rattle.ops.specs.Op.{LoadConst}
+use Rattle.refusals.specs.Stages.{tryKept, pairs, firstBadTry, triedOf, roomOf}
+use Rattle.refusals.proofs.Stages.{room-before, room-there}
+use Rattle.refusals.specs.declared.Refusal.{Refusal}
+use Rattle.refusals.specs.declared.Refusal.the-variants.{Length, Record, Try, Table}
+use Rattle.refusals.specs.declared.Checked.{Checked}
+use Rattle.refusals.specs.declared.Checked.the-variants.{Count, No}
+use Rattle.chunk.specs.Chunk.{stride, chunkCount, opAt, markAt, folds, chunkRules}
 use Rattle.landings.specs.Landings.{Unmarked}
-use Rattle.lent.specs.Tables.{constantKept, within, mapKept, pairsKept, tableOf}
-use Rattle.lent.specs.Check.{unevenChunk, firstBadOf, chunkCheckOf, tablesOf, tallyOf, sourceRoom, roomsOf, readyOf}
-use Rattle.lent.specs.declared.Counts.{Counts}
-use Rattle.lent.proofs.Kept.{few}
+use Rattle.chunk.specs.Tables.{constantKept, within, mapKept, pairsKept, tableOf}
+use Rattle.chunk.specs.Check.{unevenChunk, firstBadOf, chunkCheckOf, tablesOf, tallyOf, sourceRoom, roomsOf, readyOf}
+use Rattle.chunk.specs.declared.Counts.{Counts}
+use Rattle.chunk.proofs.Kept.{few}
 use Rattle.optimizer.specs.Fold.{Buffers, lensOf}
 use Rattle.optimizer.specs.Inner.{FoldRoom}
 use Rattle.optimizer.proofs.Ruled.{ruled-of}
@@ -110,13 +109,15 @@ module _ (b : Buffers) (tries : List ℕ) (c : Counts) (landings n : ℕ) (v : C
     ≡ readyOf (b .code) tries (b .kinds) (b .words) c (lensOf b) landings) (f : v ≡ Count n) where
   pub table-there : chunkCount (b .code) + 1 ≤ landings
   unfolding readyOf
-  table-there = room-met n (roomsOf (tablesOf (triedOf (chunkCheckOf (b .code)) tries) (chunkCount (b .code)) (b .kinds) (b .words) c (lensOf b)) (b .code) c (lensOf b))
+  table-there = room-met n (roomsOf (tablesOf (triedOf (chunkCheckOf (b .code)) tries) (chunkCount (b .code)) (b .kinds) (b .words) c (lensOf b)) (b .code) c
+      (lensOf b))
       7 landings (chunkCount (b .code) + 1) (sym f ∙ e) .1
 
   passed : FoldRoom b c × ((j : ℕ) → j < pairs tries → tryKept tries (chunkCount (b .code)) j ≡ true)
   unfolding readyOf roomsOf tablesOf
   passed =
-      let r₇ = room-met n (roomsOf (tablesOf (triedOf (chunkCheckOf (b .code)) tries) (chunkCount (b .code)) (b .kinds) (b .words) c (lensOf b)) (b .code) c (lensOf b))
+      let r₇ = room-met n (roomsOf (tablesOf (triedOf (chunkCheckOf (b .code)) tries) (chunkCount (b .code)) (b .kinds) (b .words) c (lensOf b)) (b .code) c
+      (lensOf b))
       7 landings (chunkCount (b .code) + 1) (sym f ∙ e) in
       let r₆ = room-met n _ 6 _ _ (sym (r₇ .0)) in
       let r₅ = room-met n _ 5 _ _ (sym (r₆ .0)) in

@@ -10,10 +10,9 @@ use lib.Seq.{length-take-le}
 use borrow.Author.Tests.{ltb-true, ltb-false, leb-true, le-leb, ne-eqb}
 use Rattle.laws.specs.All.{every}
 use Rattle.laws.proofs.Branch.{and-true}
-use Rattle.code.specs.Rules.{tryKept}
-use Rattle.code.specs.Check.{pairs}
-use Rattle.lent.specs.Chunk.{stride, chunkCount, markAt, operandAt, marksJump}
-use Rattle.lent.specs.declared.Counts.{Counts}
+use Rattle.refusals.specs.Stages.{tryKept, pairs}
+use Rattle.chunk.specs.Chunk.{stride, chunkCount, markAt, operandAt, marksJump}
+use Rattle.chunk.specs.declared.Counts.{Counts}
 use Rattle.laws.proofs.Counting.{many-none, many-all}
 use Rattle.landings.specs.Landings.{handlerAt, jumpLands, handlerLands, landingsAt, landingsOf}
 use Rattle.landings.proofs.Asked.{table-long, table-at}
@@ -167,7 +166,8 @@ module _ (strict : Bool) (b : Buffers) (tries landings : List ℕ) (c : Counts) 
   unfolding rejoined joinedBuffers foldLent
   table-after k h =
       rw (told .is)
-      (List·getD-append (landingsOf w (movedAll d tries)) (drop (chunkCount (b .code) + 1) landings) 0 k (omega (arith, n-code, table-long w (movedAll d tries)))
+      (List·getD-append (landingsOf w (movedAll d tries)) (drop (chunkCount (b .code) + 1) landings) 0 k
+      (omega (arith, n-code, table-long w (movedAll d tries)))
       ∙ table-at w (movedAll d tries) k (omega (arith, n-code)))
 
   -- past the new end it is 0
@@ -179,7 +179,8 @@ module _ (strict : Bool) (b : Buffers) (tries landings : List ℕ) (c : Counts) 
   pub tries-kept : (j : ℕ) → j < pairs tries → tryKept (call .tries) (f .instructions) j ≡ true
   unfolding tryKept rejoined foldLent
   tries-kept j h =
-      let p = and-true (ltb (2 * j + 1) (length tries)) (leb (getD tries (2 * j) 0) (min (getD tries (2 * j + 1) 0) (chunkCount (b .code)))) (told .tried j h) in
+      let p = and-true (ltb (2 * j + 1) (length tries)) (leb (getD tries (2 * j) 0) (min (getD tries (2 * j + 1) 0) (chunkCount (b .code)))) (told .tried j h)
+      in
       let l = ltb-true (2 * j + 1) (length tries) (p .0) in
       let m : getD tries (2 * j) 0 ≤ min (getD tries (2 * j + 1) 0) (length d) = rw n-long (leb-true _ _ (p .1)) in
       rw (

@@ -9,14 +9,14 @@ use lib.Seq.{length-take-le}
 use mir.Val.{boolByte}
 use Rattle.laws.specs.All.{every}
 use Rattle.laws.proofs.Many.{many-few, many-fewer}
-use Rattle.code.specs.declared.Refusal.{Refusal}
-use Rattle.code.specs.declared.Checked.{Checked}
-use Rattle.code.specs.declared.Checked.the-variants.{Count, No as Refused}
-use Rattle.code.proofs.Answers.{refused, told}
-use Rattle.lent.specs.Chunk.{chunkCount, isPhi}
-use Rattle.lent.specs.Check.{sourceRoom, tallyOf, readyOf}
-use Rattle.lent.specs.declared.Counts.{Counts}
-use Rattle.lent.specs.declared.Tally.{Tally}
+use Rattle.refusals.specs.declared.Refusal.{Refusal}
+use Rattle.refusals.specs.declared.Checked.{Checked}
+use Rattle.refusals.specs.declared.Checked.the-variants.{Count, No as Refused}
+use Rattle.refusals.proofs.Answers.{refused, told}
+use Rattle.chunk.specs.Chunk.{chunkCount, isPhi}
+use Rattle.chunk.specs.Check.{sourceRoom, tallyOf, readyOf}
+use Rattle.chunk.specs.declared.Counts.{Counts}
+use Rattle.chunk.specs.declared.Tally.{Tally}
 use Rattle.fold.specs.Plan.{Chunk, chunk}
 use Rattle.landings.specs.Landings.{landingsOf, Unmarked}
 use Rattle.fold.specs.Pass.{Bars, byScan, byTable, foldAll}
@@ -31,7 +31,23 @@ use Rattle.phi_pass.specs.Phi.{marked}
 use Rattle.fold.proofs.Passed.{Passed, all-passed}
 use Rattle.finish.specs.Finish.{Tables, tables, mapOf, sourcesOf, renewed, finished}
 use Rattle.finish.specs.Inner.{TableRoom}
-use Rattle.optimizer.specs.Fold.{Buffers, buffers, lensOf, needed, sourcesNeeded, foldOutcome, constantFold, foldPass, joinedBuffers, settled, foldLent, Called, called, rejoined, foldCall}
+use Rattle.optimizer.specs.Fold.{
+  Buffers,
+  buffers,
+  lensOf,
+  needed,
+  sourcesNeeded,
+  foldOutcome,
+  constantFold,
+  foldPass,
+  joinedBuffers,
+  settled,
+  foldLent,
+  Called,
+  called,
+  rejoined,
+  foldCall,
+}
 use Rattle.optimizer.specs.Inner.{FoldRoom, Exact, Mapped}
 use Rattle.finish.specs.declared.Left.{Left}
 use Rattle.optimizer.specs.declared.Folded.{Folded}
@@ -99,7 +115,8 @@ module _ (code kinds words map sources stmts calls dead remap : List ℕ) (c : C
 
   -- each buffer as far as it is needed
   pub exact-of : (r : ℕ) → r ≡ sourceRoom (c .sources) (tallyOf code .phis) → FoldRoom (buffers code kinds words map sources stmts calls dead remap) c
-      → Exact (buffers code kinds words (take (chunkCount code) map) (take r sources) (take (c .stmts) stmts) (take (c .calls) calls) (take (chunkCount code) dead)
+      → Exact (buffers code kinds words (take (chunkCount code) map) (take r sources) (take (c .stmts) stmts) (take (c .calls) calls)
+      (take (chunkCount code) dead)
       (take (chunkCount code + 1) remap)) c
   unfolding tallyOf
   exact-of r e h =

@@ -3,12 +3,12 @@ use Prim.Native.Nat.{ℕ, _+_}
 use mathlib.Core.Bool.{Bool}
 use mathlib.Core.List.{List, _++_}
 use lib.ListN.{length, take, drop, replicate}
-use Rattle.code.specs.Answers.{asked}
-use Rattle.code.specs.declared.Refusal.{Refusal}
-use Rattle.lent.specs.Chunk.{chunkCount}
-use Rattle.lent.specs.Check.{sourceRoom, tallyOf, readyOf}
-use Rattle.lent.specs.declared.Counts.{Counts}
-use Rattle.lent.specs.declared.Lens.{Lens}
+use Rattle.refusals.specs.Answers.{asked}
+use Rattle.refusals.specs.declared.Refusal.{Refusal}
+use Rattle.chunk.specs.Chunk.{chunkCount}
+use Rattle.chunk.specs.Check.{sourceRoom, tallyOf, readyOf}
+use Rattle.chunk.specs.declared.Counts.{Counts}
+use Rattle.chunk.specs.declared.Lens.{Lens}
 use Rattle.fold.specs.Plan.{Chunk, chunk}
 use Rattle.landings.specs.Landings.{landingsOf}
 use Rattle.fold.specs.Pass.{Bars, byScan, foldAll}
@@ -33,10 +33,12 @@ pub record Buffers : Type 0 where
   pub dead : List ℕ
   pub remap : List ℕ
 
+-- these nine buffers as one record
 abbrev pub buffers : (code kinds words map sources stmts calls dead remap : List ℕ) → Buffers
 buffers code kinds words map sources stmts calls dead remap =
     record { code = code; kinds = kinds; words = words; map = map; sources = sources; stmts = stmts; calls = calls; dead = dead; remap = remap }
 
+-- how long each buffer is, all but the code
 abbrev pub lensOf : Buffers → Lens
 lensOf b =
     record {
@@ -67,6 +69,7 @@ pub record FoldOutcome (A : Type 0) : Type 0 where
   pub after : Buffers
 
 module _ {A : Type 0} where
+  -- this answer, with what the buffers hold then
   abbrev pub foldOutcome : A → Buffers → FoldOutcome A
   foldOutcome a b = record { answer = a; after = b }
 
@@ -102,6 +105,7 @@ pub record Settled : Type 0 where
   pub tries : List ℕ
   pub landings : List ℕ
 
+-- this fold, with these tries and this table of landings after it
 abbrev pub settled : FoldOutcome Folded → List ℕ → List ℕ → Settled
 settled o tries landings = record { fold = o; tries = tries; landings = landings }
 
@@ -118,9 +122,11 @@ pub record Called : Type 0 where
   pub tries : List ℕ
   pub landings : List ℕ
 
+-- this result, with what the tries and the table of landings hold then
 abbrev pub called : FoldOutcome FoldAnswer → List ℕ → List ℕ → Called
 called o tries landings = record { result = o; tries = tries; landings = landings }
 
+-- the call's answer after a fold of what is needed: the words past that are put back as they were lent
 unfoldable pub rejoined : Buffers → List ℕ → Counts → Settled → Called
 rejoined b landings c s = called (joinedBuffers b c (s .fold)) (s .tries) (s .landings ++ drop (chunkCount (b .code) + 1) landings)
 

@@ -5,9 +5,9 @@ use mathlib.Core.Bool.{false}
 use mathlib.Core.List.{List}
 use lib.ListN.{length}
 use Rattle.laws.specs.All.{every, many}
-use Rattle.lent.specs.Chunk.{stride, chunkCount, opAt, folds, isPhi}
-use Rattle.lent.specs.Check.{constantRoom, tallyOf}
-use Rattle.lent.specs.declared.Counts.{Counts}
+use Rattle.chunk.specs.Chunk.{stride, chunkCount, opAt, folds, isPhi}
+use Rattle.chunk.specs.Check.{constantRoom, tallyOf}
+use Rattle.chunk.specs.declared.Counts.{Counts}
 use Rattle.landings.specs.Landings.{Unmarked}
 use Rattle.positions.specs.Remap.{alive, remapOf}
 use Rattle.optimizer.specs.Fold.{Buffers, sourcesNeeded}

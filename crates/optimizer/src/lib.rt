@@ -2,15 +2,15 @@
 ghost use mathlib.Core.Path.{_≡_};
 ghost use Prim.Native.Nat.{_+_, _≤_};
 ghost use lib.ListN.{length, replicate};
-ghost use Rattle.lent.specs.Chunk.{chunkCount};
+ghost use Rattle.chunk.specs.Chunk.{chunkCount};
 ghost use Rattle.fold.specs.Plan.{chunk};
 ghost use Rattle.fold.specs.Pass.{byTable};
 ghost use Rattle.fold.specs.Inner.{PassRoom};
 ghost use Rattle.positions.specs.Moved.{movedAll};
 ghost use Rattle.optimizer.specs.Fold.{buffers, foldOutcome, settled, foldLent, foldPass};
 ghost use Rattle.optimizer.specs.Inner.{Exact, Mapped};
+use chunk::Counts;
 use finish::Left;
-use lent::Counts;
 
 // What is left: instructions, constants, entries of phi_map and words of phi_sources.
 pub struct Folded {
@@ -80,7 +80,8 @@ pub fn constant_fold(
 ) -> Folded
     requires { ⌜ Exact (buffers (now code) (now kinds) (now words) (now «phi_map») (now «phi_sources») (now «stmt_pos») (now «call_byte_pos») (now dead)
         (now remap)) counts × (length (now landings) ≡ chunkCount (now code) + 1) ⌝ }
-    ensures { λ r. ⌜ settled (foldOutcome r (buffers (now (code .exit)) (now (kinds .exit)) (now (words .exit)) (now («phi_map» .exit)) (now («phi_sources» .exit))
+    ensures { λ r. ⌜ settled (foldOutcome r (buffers (now (code .exit)) (now (kinds .exit)) (now (words .exit)) (now («phi_map» .exit))
+        (now («phi_sources» .exit))
         (now («stmt_pos» .exit)) (now («call_byte_pos» .exit)) (now (dead .exit)) (now (remap .exit)))) (now (tries .exit)) (now (landings .exit))
         ≡ foldLent strict (now (tries .entry)) (buffers (now (code .entry)) (now (kinds .entry)) (now (words .entry)) (now («phi_map» .entry))
         (now («phi_sources» .entry)) (now («stmt_pos» .entry)) (now («call_byte_pos» .entry)) (now (dead .entry)) (now (remap .entry))) counts ⌝ }

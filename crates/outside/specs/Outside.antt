@@ -5,11 +5,11 @@ use mathlib.Core.List.{List}
 use lib.Dec.{eqb}
 use Rattle.laws.specs.All.{every, many}
 use Rattle.laws.specs.Some.{some}
-use Rattle.code.specs.Op.{MakeFunction, MakeCoroutine, SetupExcept, SetupFinally, PopExcept, WithExit, ReturnR, ReturnValue}
+use Rattle.ops.specs.Op.{MakeFunction, MakeCoroutine, SetupExcept, SetupFinally, PopExcept, WithExit, ReturnR, ReturnValue}
 use Rattle.code.specs.Ins.{insAt, count}
 use Rattle.code.specs.declared.Ins.{Ins}
-use Rattle.walks.specs.Returns.{returnsAt}
-use Rattle.walks.specs.There.{there}
+use Rattle.sections.specs.Returns.{returnsAt}
+use Rattle.sections.specs.There.{there}
 
 -- i makes a function
 unfoldable pub makes : Ins → Bool

@@ -3,8 +3,9 @@ ghost use mathlib.Core.Path.{_≡_};
 ghost use Rattle.code.specs.Inner.{Whole};
 ghost use Rattle.outside.specs.Outside.{makes, made, opens, closes, returnsFrom, returnsOutside};
 use code::Ins;
-use code::op::*;
+use ops::*;
 
+// Whether i makes a function.
 fn makes(i: Ins) -> bool
     ensures { λ b. ⌜ b ≡ makes i ⌝ }
 {
@@ -27,18 +28,21 @@ pub fn any_makes(code: &[u16]) -> bool
     false
 }
 
+// Whether i opens a `try` or a `with`.
 fn opens(i: Ins) -> bool
     ensures { λ b. ⌜ b ≡ opens i ⌝ }
 {
     (i.op == SetupExcept) | (i.op == SetupFinally)
 }
 
+// Whether i closes a `try` or a `with`.
 fn closes(i: Ins) -> bool
     ensures { λ b. ⌜ b ≡ closes i ⌝ }
 {
     (i.op == PopExcept) | (i.op == WithExit) & (i.x == 2)
 }
 
+// Whether i returns.
 fn leaves(i: Ins) -> bool
     ensures { λ b. ⌜ b ≡ returnsFrom i ⌝ }
 {
@@ -57,7 +61,7 @@ pub fn returns_outside(code: &[u16]) -> bool
     while k < n {
         let i = code::ins_at(code, k);
         let leaves = leaves(i);
-        let pushed = walks::returns_at(code, k);
+        let pushed = sections::returns_at(code, k);
         if (opened != closed) & (leaves | pushed) {
             return false;
         }

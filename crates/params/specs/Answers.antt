@@ -2,8 +2,8 @@
 use Prim.Native.Nat.{ℕ}
 use mathlib.Core.List.{List}
 use Rattle.code.specs.Check.{checkOf}
-use Rattle.code.specs.Answers.{asked, answerOf, refusedOf}
-use Rattle.code.specs.declared.Answer.{Answer}
+use Rattle.refusals.specs.Answers.{asked, answerOf, refusedOf}
+use Rattle.refusals.specs.declared.Answer.{Answer}
 use Rattle.params.specs.Masks.{paramsWritten}
 
 -- 1, 2

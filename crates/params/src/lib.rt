@@ -5,16 +5,16 @@ ghost use Rattle.code.specs.Inner.{Whole};
 ghost use Rattle.roles.specs.Roles.{roleTable};
 ghost use Rattle.params.specs.Answers.{writtenAnswer};
 ghost use Rattle.params.specs.Masks.{writtenIn, paramsWritten};
-use code::Answer;
-use code::Checked;
+use refusals::Answer;
+use refusals::Checked;
 
 // `params_written`: refusals 1, 2.
 pub fn params_written(code: &[u16], arity: usize) -> Answer
     ensures { λ r. ⌜ r ≡ writtenAnswer (now (code .entry)) arity ⌝ }
 {
     match code::check(code) {
-        Checked::No(r) => code::refused(r),
-        Checked::Count(_) => code::tell(params_in(code, arity), 0, 0, 0),
+        Checked::No(r) => refusals::refused(r),
+        Checked::Count(_) => refusals::tell(params_in(code, arity), 0, 0, 0),
     }
 }
 

@@ -1,16 +1,16 @@
 // Folding: an attempt's write, and the pass, which tries each operator once, first to last.
-use chunk::Kept;
-use code::op::*;
+use chunk::STRIDE;
 use fold::Loaded;
 use fold::Plan;
-use lent::STRIDE;
+use ops::*;
+use pool::Kept;
 use values::Val;
 ghost use mathlib.Core.Path.{_≡_};
 ghost use Prim.Native.Nat.{_≤_, _<_};
 ghost use lib.ListN.{length};
-ghost use Rattle.lent.specs.Chunk.{chunkCount};
-ghost use Rattle.chunk.specs.Pool.{findOrPushConst};
-ghost use Rattle.chunk.specs.Inner.{PushRoom};
+ghost use Rattle.chunk.specs.Chunk.{chunkCount};
+ghost use Rattle.pool.specs.Pool.{findOrPushConst};
+ghost use Rattle.pool.specs.Inner.{PushRoom};
 ghost use Rattle.fold.specs.Plan.{chunk, after};
 ghost use Rattle.fold.specs.Pass.{loading, fromPool, constLoad, markOf, put, applied, tryFold, byTable, foldAll};
 ghost use Rattle.fold.specs.Inner.{OperatorRoom, PassRoom};
@@ -27,7 +27,8 @@ pub fn fold_all(
 ) -> usize
     requires { ⌜ PassRoom (chunk (now code) (now dead) (now kinds) (now words) constants) ⌝ }
     requires { ⌜ chunkCount (now code) ≤ length (now landings) ⌝ }
-    ensures { λ r. ⌜ chunk (now (code .exit)) (now (dead .exit)) (now (kinds .exit)) (now (words .exit)) r ≡ foldAll (byTable strict (now (landings .entry))) (chunk (now (code .entry)) (now (dead .entry)) (now (kinds .entry)) (now (words .entry)) constants) ⌝ }
+    ensures { λ r. ⌜ chunk (now (code .exit)) (now (dead .exit)) (now (kinds .exit)) (now (words .exit)) r ≡ foldAll (byTable strict (now (landings .entry)))
+        (chunk (now (code .entry)) (now (dead .entry)) (now (kinds .entry)) (now (words .entry)) constants) ⌝ }
 {
     let n = code.len() / STRIDE;
     let mut held = constants;
@@ -52,7 +53,8 @@ fn try_fold(
     ip: usize,
 ) -> usize
     requires { ⌜ OperatorRoom (chunk (now code) (now dead) (now kinds) (now words) constants) ip ⌝ }
-    ensures { λ r. ⌜ chunk (now (code .exit)) (now (dead .exit)) (now (kinds .exit)) (now (words .exit)) r ≡ tryFold (after last) ip (chunk (now (code .entry)) (now (dead .entry)) (now (kinds .entry)) (now (words .entry)) constants) ⌝ }
+    ensures { λ r. ⌜ chunk (now (code .exit)) (now (dead .exit)) (now (kinds .exit)) (now (words .exit)) r ≡ tryFold (after last) ip
+        (chunk (now (code .entry)) (now (dead .entry)) (now (kinds .entry)) (now (words .entry)) constants) ⌝ }
 {
     if dead[ip] != 0 {
         return constants;
@@ -76,7 +78,8 @@ fn apply(
     v: Val,
 ) -> usize
     requires { ⌜ (p < chunkCount (now code)) × (q < length (now dead)) × (ip < length (now dead)) × PushRoom (now kinds) (now words) constants ⌝ }
-    ensures { λ r. ⌜ chunk (now (code .exit)) (now (dead .exit)) (now (kinds .exit)) (now (words .exit)) r ≡ applied (Plan.Put p q v) ip (chunk (now (code .entry)) (now (dead .entry)) (now (kinds .entry)) (now (words .entry)) constants) ⌝ }
+    ensures { λ r. ⌜ chunk (now (code .exit)) (now (dead .exit)) (now (kinds .exit)) (now (words .exit)) r ≡ applied (Plan.Put p q v) ip
+        (chunk (now (code .entry)) (now (dead .entry)) (now (kinds .entry)) (now (words .entry)) constants) ⌝ }
 {
     let Loaded::As(o, x, more) = const_load(kinds, words, constants, v) else {
         return constants;
@@ -130,7 +133,7 @@ fn pool_load(kinds: &mut [u8], words: &mut [u64], constants: usize, v: Val) -> L
     requires { ⌜ PushRoom (now kinds) (now words) constants ⌝ }
     ensures { λ r. ⌜ loading r (now (kinds .exit)) (now (words .exit)) ≡ fromPool (findOrPushConst (now (kinds .entry)) (now (words .entry)) constants v) ⌝ }
 {
-    let Kept::At(i, more) = chunk::find_or_push_const(kinds, words, constants, v) else {
+    let Kept::At(i, more) = pool::find_or_push_const(kinds, words, constants, v) else {
         return Loaded::No;
     };
     Loaded::As(LoadConst, i, more)

@@ -3,10 +3,11 @@ use Prim.Native.Nat.{ℕ}
 use mathlib.Core.Bool.{cond}
 use mathlib.Core.List.{List}
 use Rattle.code.specs.Ins.{insAt, isCall}
-use Rattle.code.specs.Check.{checkOf, insideOf}
-use Rattle.code.specs.Answers.{asked, answerOf, refusedOf}
-use Rattle.code.specs.declared.Answer.{Answer}
-use Rattle.code.specs.declared.Refusal.the-variants.{Position}
+use Rattle.code.specs.Check.{checkOf}
+use Rattle.refusals.specs.Stages.{insideOf}
+use Rattle.refusals.specs.Answers.{asked, answerOf, refusedOf}
+use Rattle.refusals.specs.declared.Answer.{Answer}
+use Rattle.refusals.specs.declared.Refusal.the-variants.{Position}
 use Rattle.passed.specs.Passed.{passedAt}
 
 -- 1, 2, 6; 6 also where the position is not one of the four calls

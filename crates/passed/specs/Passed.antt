@@ -6,7 +6,7 @@ use lib.Dec.{eqb, ltb}
 use lib.ListN.{getD}
 use mir.Val.{boolByte}
 use Rattle.laws.specs.Mask.{mask}
-use Rattle.code.specs.Op.{CallMethodR}
+use Rattle.ops.specs.Op.{CallMethodR}
 use Rattle.code.specs.Ins.{insAt, wide}
 use Rattle.code.specs.declared.Ins.{Ins}
 

@@ -6,24 +6,24 @@ ghost use mir.Val.{boolByte};
 ghost use Rattle.code.specs.Inner.{Whole};
 ghost use Rattle.passed.specs.Answers.{passedAnswer};
 ghost use Rattle.passed.specs.Passed.{arguments, keeps, passedIn, passedAt};
-use code::Answer;
-use code::Checked;
 use code::Ins;
-use code::Refusal;
-use code::op::*;
+use ops::*;
+use refusals::Answer;
+use refusals::Checked;
+use refusals::Refusal;
 
 // `passed`: refusals 1, 2, 6.
 pub fn passed(code: &[u16], at: usize, arity: usize) -> Answer
     ensures { λ r. ⌜ r ≡ passedAnswer (now (code .entry)) at arity ⌝ }
 {
-    match code::inside(code::check(code), at) {
-        Checked::No(r) => code::refused(r),
+    match refusals::inside(code::check(code), at) {
+        Checked::No(r) => refusals::refused(r),
         Checked::Count(_) => {
             let c = code::ins_at(code, at);
             if code::is_call(c.op) {
-                return code::tell(passed_at(code, at, arity), 0, 0, 0);
+                return refusals::tell(passed_at(code, at, arity), 0, 0, 0);
             }
-            code::refused(Refusal::Position(at))
+            refusals::refused(Refusal::Position(at))
         }
     }
 }
@@ -49,6 +49,7 @@ fn arguments(c: Ins) -> usize
     x
 }
 
+// Whether q is one of the first n arguments and passed on as it is: it stands in register q.
 fn keeps(n: usize, q: usize, r: u16) -> bool
     ensures { λ b. ⌜ b ≡ keeps n q r ⌝ }
 {
@@ -59,7 +60,7 @@ fn keeps(n: usize, q: usize, r: u16) -> bool
 fn passed_in(c: Ins, rest: Ins, arity: usize) -> u64
     ensures { λ m. ⌜ m ≡ passedIn c rest arity ⌝ }
 {
-    let n = code::least(arguments(c), arity);
+    let n = refusals::least(arguments(c), arity);
     let first = bit(keeps(n, 0, c.b), 1);
     let second = bit(keeps(n, 1, c.c), 2);
     let third = bit(keeps(n, 2, rest.a), 4);

@@ -18,8 +18,8 @@ use Rattle.laws.proofs.Branch.{and-true}
 use Rattle.laws.proofs.Many.{many-more, many-few, counted-on}
 use Rattle.laws.proofs.Each.{each-more, each-word}
 use Rattle.laws.proofs.InPlace.{Walked, walk-none, walk-read, walk-two, walk-at, walk-as, walk-whole, word-put}
-use Rattle.lent.specs.Chunk.{chunkCount, opAt, operandAt, isPhi}
-use Rattle.code.specs.Op.{Phi}
+use Rattle.chunk.specs.Chunk.{chunkCount, opAt, operandAt, isPhi}
+use Rattle.ops.specs.Op.{Phi}
 use Rattle.phi_pass.specs.Phi.{paired, leftSource, rightSource, noop, phiMarkAt, marked, pairLeft, pairsLeft, phiEntry, indexed}
 use Rattle.phi_pass.specs.Inner.{spread}
 

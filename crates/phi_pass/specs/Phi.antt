@@ -6,7 +6,7 @@ use lib.Dec.{eqb, ltb}
 use lib.ListN.{length, getD}
 use Rattle.laws.specs.All.{many}
 use Rattle.laws.specs.Each.{each}
-use Rattle.lent.specs.Chunk.{chunkCount, operandAt, isPhi}
+use Rattle.chunk.specs.Chunk.{chunkCount, operandAt, isPhi}
 use Rattle.positions.specs.Remap.{alive}
 
 -- the Phi at i has a pair: phi_map is not empty, and its index is not past phi_sources
@@ -17,6 +17,7 @@ paired w map sources i = isPhi w i && (ltb i (length map) && ltb (getD map i 0) 
 abbrev pub leftSource : List ℕ → List ℕ → ℕ → ℕ
 leftSource map sources i = getD sources (2 * getD map i 0) 0
 
+-- the second source of the Phi at i
 abbrev pub rightSource : List ℕ → List ℕ → ℕ → ℕ
 rightSource map sources i = getD sources (2 * getD map i 0 + 1) 0
 
@@ -30,6 +31,7 @@ unfoldable pub phiMarkAt : List ℕ → List ℕ → List ℕ → List ℕ → �
 unfolding noop
 phiMarkAt w map sources dead i = cond (alive dead i) (cond (noop w map sources i) 1 0) (getD dead i 0)
 
+-- all the dead marks after the pass: those that were there, and one for each Phi that dies
 unfoldable pub marked : List ℕ → List ℕ → List ℕ → List ℕ → List ℕ
 unfolding phiMarkAt
 marked w map sources dead = each (λ i. phiMarkAt w map sources dead i ∷ []) (length dead)
@@ -38,6 +40,7 @@ marked w map sources dead = each (λ i. phiMarkAt w map sources dead i ∷ []) (
 abbrev pub pairLeft : List ℕ → List ℕ → List ℕ → List ℕ → ℕ → List ℕ
 pairLeft w map sources dead i = cond (alive dead i && paired w map sources i) (leftSource map sources i ∷ rightSource map sources i ∷ []) []
 
+-- the pairs of all Phis that live, as one list
 unfoldable pub pairsLeft : List ℕ → List ℕ → List ℕ → List ℕ → List ℕ
 unfolding paired
 pairsLeft w map sources dead = each (pairLeft w map sources dead) (length dead)
@@ -46,5 +49,6 @@ pairsLeft w map sources dead = each (pairLeft w map sources dead) (length dead)
 abbrev pub phiEntry : Bool → ℕ → ℕ
 phiEntry phi next = cond phi next 0
 
+-- phi_map indexed anew, for all of the code
 unfoldable pub indexed : List ℕ → List ℕ
 indexed w = each (λ i. phiEntry (isPhi w i) (many (isPhi w) i) ∷ []) (chunkCount w)

@@ -6,12 +6,13 @@ ghost use lib.Dec.{eqb};
 ghost use Prim.Native.Nat.{_+_, _-_, _*_, _/_, _%_, _≤_, _<_};
 ghost use lib.ListN.{length, getD, take, replicate};
 ghost use Rattle.laws.specs.All.{every, many};
-ghost use Rattle.lent.specs.Chunk.{chunkCount, isPhi};
+ghost use Rattle.chunk.specs.Chunk.{chunkCount, isPhi};
 ghost use Rattle.positions.specs.Remap.{alive};
 ghost use Rattle.phi_pass.specs.Phi.{paired, leftSource, rightSource, noop, phiMarkAt, marked, pairsLeft, phiEntry, indexed};
 ghost use Rattle.phi_pass.specs.Inner.{spread};
-use code::op::Phi;
+use ops::Phi;
 
+// An entry of phi_map as the number of a pair.
 fn wide_of(x: u32) -> usize
     ensures { λ r. ⌜ r ≡ x ⌝ }
 {
@@ -23,7 +24,7 @@ fn has_pair(code: &[u16], map: &[u32], sources: &[u16], i: usize) -> bool
     requires { ⌜ i < chunkCount (now code) ⌝ }
     ensures { λ r. ⌜ r ≡ paired (now (code .entry)) (now (map .entry)) (now (sources .entry)) i ⌝ }
 {
-    if lent::op_at(code, i) != Phi {
+    if chunk::op_at(code, i) != Phi {
         return false;
     }
     if map.len() <= i {
@@ -48,7 +49,7 @@ fn is_noop(code: &[u16], map: &[u32], sources: &[u16], i: usize) -> bool
     ensures { λ r. ⌜ r ≡ noop (now (code .entry)) (now (map .entry)) (now (sources .entry)) i ⌝ }
 {
     if has_pair(code, map, sources, i) {
-        return both_are(map, sources, i, lent::operand_at(code, i));
+        return both_are(map, sources, i, chunk::operand_at(code, i));
     }
     false
 }
@@ -101,18 +102,21 @@ pub fn all_alive(dead: &[u8]) -> bool
     true
 }
 
+// A source in a word that has room for two.
 fn wide(x: u16) -> u32
     ensures { λ r. ⌜ (r ≡ x) × (r < 65536) ⌝ }
 {
     x as u32
 }
 
+// The first source of a packed pair.
 fn high(q: u32) -> u16
     ensures { λ r. ⌜ r ≡ q / 65536 ⌝ }
 {
     (q / 65536) as u16
 }
 
+// The second source of a packed pair.
 fn low(q: u32) -> u16
     ensures { λ r. ⌜ r ≡ q % 65536 ⌝ }
 {
@@ -122,7 +126,8 @@ fn low(q: u32) -> u16
 // The pair of the Phi at i, packed.
 fn pack(map: &[u32], sources: &[u16], i: usize) -> u32
     requires { ⌜ (i < length (now map)) × (getD (now map) i 0 < length (now sources) / 2) ⌝ }
-    ensures { λ r. ⌜ (r / 65536 ≡ leftSource (now (map .entry)) (now (sources .entry)) i) × (r % 65536 ≡ rightSource (now (map .entry)) (now (sources .entry)) i) ⌝ }
+    ensures { λ r. ⌜ (r / 65536 ≡ leftSource (now (map .entry)) (now (sources .entry)) i) × (r % 65536 ≡ rightSource (now (map .entry)) (now (sources .entry))
+        i) ⌝ }
 {
     let at = 2 * wide_of(map[i]);
     wide(sources[at]) * 65536 + wide(sources[at + 1])
@@ -192,9 +197,9 @@ pub fn index_phis(code: &[u16], map: &mut [u32]) -> usize
     let mut next: usize = 0;
     let mut i: usize = 0;
     while i < n {
-        let phi = lent::op_at(code, i) == Phi;
+        let phi = chunk::op_at(code, i) == Phi;
         map[i] = entry(phi, next);
-        next += lent::bit(phi);
+        next += chunk::bit(phi);
         i += 1;
     }
     next

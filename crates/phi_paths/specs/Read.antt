@@ -3,7 +3,7 @@ use Prim.Native.Nat.{ℕ, _+_}
 use mathlib.Core.Bool.{Bool, not, _&&_, _||_}
 use mathlib.Core.List.{List}
 use lib.Dec.{eqb}
-use Rattle.code.specs.Op.{Jump, ForIterR, LoadName, StoreName, ReturnR, ReturnValue, Raise}
+use Rattle.ops.specs.Op.{Jump, ForIterR, LoadName, StoreName, ReturnR, ReturnValue, Raise}
 use Rattle.code.specs.Ins.{insAt, count}
 use Rattle.code.specs.declared.Ins.{Ins}
 use Rattle.roles.specs.Kinds.{kindsOf, has, isJump, dest, none}
@@ -34,6 +34,7 @@ stops i r = phiWrites i r || eqb (i .op) ReturnR || eqb (i .op) ReturnValue || e
 unfoldable pub readsAt : List ℕ → ℕ → ℕ → Bool
 readsAt w r j = phiReads (insAt w j) r
 
+-- a path in search of r stops at the instruction at j
 unfoldable pub stopsAt : List ℕ → ℕ → ℕ → Bool
 stopsAt w r j = stops (insAt w j) r
 

@@ -9,7 +9,7 @@ ghost use Rattle.paths.specs.Inner.{pushed, Searched};
 ghost use Rattle.phi_paths.specs.Read.{phiReads, stops, goesOn, Read};
 ghost use Rattle.phi_paths.specs.Inner.{PhiRoom};
 use code::Ins;
-use code::op::*;
+use ops::*;
 
 // Whether i reads r.
 fn reads(roles: &[u8; 1280], i: Ins, r: u16) -> bool

@@ -9,6 +9,7 @@ use Rattle.positions.specs.Remap.{mapped}
 abbrev pub pairAt : List ℕ → List ℕ → ℕ → List ℕ
 pairAt dead t k = mapped dead (getD t (2 * k) 0) ∷ getD t (2 * k + 1) 0 ∷ []
 
+-- a table of position pairs once instructions died: the first word of each pair maps, the second stays
 unfoldable pub placed : List ℕ → List ℕ → List ℕ
 placed dead t = each (pairAt dead t) (length t / 2)
 

@@ -17,7 +17,7 @@ pub fn fill_remap(dead: &[u8], remap: &mut [u32])
     let mut i: usize = 0;
     while i < n {
         remap[i] = at as u32;
-        at += lent::bit(dead[i] == 0);
+        at += chunk::bit(dead[i] == 0);
         i += 1;
     }
     remap[n] = at as u32;

@@ -4,7 +4,7 @@ use native.Mathlib.Omega.{arith}
 use mathlib.Core.Path.{_≡_, refl, subst}
 use mathlib.Core.List.{[], _∷_}
 use mathlib.Core.Bool.{true}
-use Rattle.lent.specs.Chunk.{opAt, folds}
+use Rattle.chunk.specs.Chunk.{opAt, folds}
 use Rattle.optimizer.specs.Fold.{FoldOutcome, FoldAnswer}
 use Rattle.runs.specs.Machine.{Plain}
 use Rattle.runs.specs.Rule.{known}

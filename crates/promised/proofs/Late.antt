@@ -5,10 +5,10 @@ use Rattle.laws.specs.Each.{each}
 use Rattle.laws.specs.Some.{some}
 use Rattle.laws.specs.Walk.{first}
 use Rattle.values.specs.Folds.{inRange, ints, foldBinop}
-use Rattle.chunk.specs.Pool.{toVal, constToVal, findOrPush, findOrPushConst}
-use Rattle.lent.specs.Chunk.{folds, chunkRules, lands}
-use Rattle.lent.specs.Check.{chunkCheckOf, tablesOf, tallyOf, roomsOf, readyOf}
-use Rattle.code.specs.Check.{firstBadTry}
+use Rattle.pool.specs.Pool.{toVal, constToVal, findOrPush, findOrPushConst}
+use Rattle.chunk.specs.Chunk.{folds, chunkRules, lands}
+use Rattle.chunk.specs.Check.{chunkCheckOf, tablesOf, tallyOf, roomsOf, readyOf}
+use Rattle.refusals.specs.Stages.{firstBadTry}
 use Rattle.landings.specs.Landings.{barred}
 use Rattle.fold.specs.Plan as plan
 use Rattle.fold.specs.Plan.{kindOf, prevLive, skipsInto, blocked, tryFoldBinop, planFor, planAt}
@@ -26,5 +26,9 @@ use Rattle.clear.specs.Clear.{cleared, clearCall}
 use Rattle.promised.specs.Late.{Late}
 
 pub late : Late
-unfolding every many each some first inRange ints foldBinop toVal constToVal findOrPush findOrPushConst folds chunkRules chunkCheckOf tablesOf tallyOf roomsOf readyOf plan.operatorPage plan.operandOf kindOf prevLive lands skipsInto blocked tryFoldBinop planFor planAt constLoad markOf put landed applied tryFold folded foldAll remapOf mapped movedOperand left compacted placed paired noop phiMarkAt marked pairsLeft indexed sourcesAfter renewed finished foldPass constantFold joinedBuffers foldLent rejoined foldCall firstBadTry barred unused.packedList unused.renamedOperand constantNamed pooled renumbered recoded numbered clearing.clearReadyOf cleared clearCall
+unfolding every many each some first inRange ints foldBinop toVal constToVal findOrPush findOrPushConst folds chunkRules chunkCheckOf tablesOf tallyOf roomsOf
+    readyOf plan.operatorPage plan.operandOf kindOf prevLive lands skipsInto blocked tryFoldBinop planFor planAt constLoad markOf put landed applied tryFold
+    folded foldAll remapOf mapped movedOperand left compacted placed paired noop phiMarkAt marked pairsLeft indexed sourcesAfter renewed finished foldPass
+    constantFold joinedBuffers foldLent rejoined foldCall firstBadTry barred unused.packedList unused.renamedOperand constantNamed pooled renumbered recoded
+    numbered clearing.clearReadyOf cleared clearCall
 late = record { uncleared = refl; cleared = refl; refolded = refl; p13 = refl }

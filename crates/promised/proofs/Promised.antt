@@ -6,14 +6,14 @@ use Rattle.callee.proofs.Tracing.{by-step, left-out}
 use Rattle.values.proofs.Division.{divides, one-pair}
 use Rattle.values.proofs.Digits.{and-law, or-law, xor-law, one-digits}
 use Rattle.values.proofs.Order.{lt-ints, le-ints, eq-ints, ne-ints, eqZ-true, eqZ-same, exact-int, lt-mixed, gt-mixed, eq-mixed}
-use Rattle.chunk.proofs.Nan.{the-nan, nan-read, nan-kept}
-use Rattle.code.specs.Answers.{answerOf}
+use Rattle.pool.proofs.Nan.{the-nan, nan-read, nan-kept}
+use Rattle.refusals.specs.Answers.{answerOf}
 use Rattle.fields.specs.Answers.{kindsAnswer, roleAnswer, fieldAnswer, writesAnswer, touchAnswer}
 use Rattle.roles.proofs.ByTable.{table-is}
 use Rattle.touch.proofs.Trapped.{traps}
 use Rattle.laid.specs.Answers.{pureAnswer}
 use Rattle.shapes.specs.Answers.{flatAnswer, guardedAnswer}
-use Rattle.walks.specs.Answers.{returnsAnswer}
+use Rattle.sections.specs.Answers.{returnsAnswer}
 use Rattle.params.specs.Answers.{writtenAnswer}
 use Rattle.passed.specs.Answers.{passedAnswer}
 use Rattle.callee.specs.Answers.{globalAnswer}
@@ -147,10 +147,12 @@ promised =
       one-make = one-make;
       one-enter = one-enter;
       one-leave = one-leave;
-      saved-return = λ bits w regs tries a k v s t x e. exported.saved-return bits w regs tries (x .wide) (x .before .rows) (x .before .offsets) (x .before .list)
+      saved-return = λ bits w regs tries a k v s t x e. exported.saved-return bits w regs tries (x .wide) (x .before .rows) (x .before .offsets)
+          (x .before .list)
           (a .rows) (a .offsets) (a .list) (x .answer) (x .kept .told) (x .answered) k v (x .asked) (x .heard) (x .found) s (x .sound) (x .same)
           (e .after) (e .answer) (e .entry) (e .went) (e .events) (e .bracketed) t (e .calls);
-      saved-handler = λ bits w regs tries a k v s t x e. exported.saved-handler bits w regs tries (x .wide) (x .before .rows) (x .before .offsets) (x .before .list)
+      saved-handler = λ bits w regs tries a k v s t x e. exported.saved-handler bits w regs tries (x .wide) (x .before .rows) (x .before .offsets)
+          (x .before .list)
           (a .rows) (a .offsets) (a .list) (x .answer) (x .kept .told) (x .answered) k v (x .asked) (x .heard) (x .found) s (x .sound) (x .same)
           (e .after) (e .answer) (e .entry) (e .went) (e .events) (e .bracketed) t (e .calls);
       saved-left = λ bits w regs tries a k v s t x e. exported.left bits w regs tries (x .wide) (x .before .rows) (x .before .offsets) (x .before .list)

@@ -3,7 +3,7 @@ use mathlib.Core.Path.{_≡_}
 use mathlib.Core.Bool.{Bool}
 use mathlib.Core.List.{List}
 use Prim.Native.Nat.{ℕ}
-use Rattle.code.specs.declared.Answer.{Answer}
+use Rattle.refusals.specs.declared.Answer.{Answer}
 use Rattle.levels.specs.Answers.{levelAnswer}
 use Rattle.saver.specs.Saver.{Saver, regsOf}
 use Rattle.frames.specs.Frames.{Sound}

@@ -10,6 +10,7 @@ use Rattle.marked.specs.Marked.{code13, foldedCall}
 abbrev pub plainly : FoldOutcome FoldAnswer
 plainly = foldedCall false code13 (1 ∷ 1 ∷ 9 ∷ []) (2 ∷ 3 ∷ 9 ∷ []) 2
 
+-- plain mode breaks what wish 14 asks for: P13's code is such a chunk, and a run before the fold and one after it do not end alike
 pub record Breaks : Type 0 where
   -- P13's code is a chunk as wish 14 has it
   pub rule : WishRule code13 2

@@ -4,7 +4,7 @@ use mathlib.Core.Bool.{false}
 use mathlib.Core.List.{List, [], _∷_, _++_}
 use Prim.Native.Nat.{ℕ}
 use lib.ListN.{replicate}
-use Rattle.code.specs.Op as op
+use Rattle.ops.specs.Op as op
 use Rattle.clear.specs.Clear.{Is, poolBuffers, clearOutcome, clearCall}
 use Rattle.marked.specs.Marked.{load, operator, jump, foldedCall, leavesSo}
 
@@ -16,6 +16,7 @@ late a b = load a ++ load b ++ operator op.Add ++ load 3
 abbrev pub lateLeft : ℕ → List ℕ
 lateLeft sum = load sum ++ load 3 ++ replicate 8 0
 
+-- an operand past the count, computed: clearing before a fold changes what it loads; and what clearing leaves of P13
 pub record Late : Type 0 where
   -- 7, 2 and 3, of which nobody names the first: uncleared, the sum is pushed to 3, where the last LoadConst loads it
   pub uncleared : foldedCall false (late 1 2) (1 ∷ 1 ∷ 1 ∷ 0 ∷ []) (7 ∷ 2 ∷ 3 ∷ 0 ∷ []) 3

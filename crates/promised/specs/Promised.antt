@@ -12,25 +12,25 @@ use lib.Ieee.{nan, fin, binary64, toBits, ofInt, up, down, lt, le, eq, ne}
 use lib.Ieee.Exact.{HasValue}
 use mir.Val.{boolByte}
 use Rattle.laws.specs.Mask.{mask}
-use Rattle.code.specs.Op.{Raise}
-use Rattle.code.specs.declared.Answer.{Answer}
+use Rattle.ops.specs.Op.{Raise}
+use Rattle.refusals.specs.declared.Answer.{Answer}
 use Rattle.code.specs.declared.Ins.{Ins as Instruction}
-use Rattle.code.specs.declared.Refusal.the-variants.{Table}
-use Rattle.code.specs.declared.Checked.the-variants as stage
+use Rattle.refusals.specs.declared.Refusal.the-variants.{Table}
+use Rattle.refusals.specs.declared.Checked.the-variants as stage
 use Rattle.fields.specs.Answers.{kindsAnswer, roleAnswer, fieldAnswer, writesAnswer, touchAnswer}
 use Rattle.roles.specs.Kinds.{none, kindsOf}
 use Rattle.roles.specs.Roles.{roleTable}
 use Rattle.touch.specs.Traps.{Traps}
 use Rattle.laid.specs.Answers.{pureAnswer}
 use Rattle.shapes.specs.Answers.{flatAnswer, guardedAnswer}
-use Rattle.walks.specs.Answers.{returnsAnswer}
+use Rattle.sections.specs.Answers.{returnsAnswer}
 use Rattle.params.specs.Answers.{writtenAnswer}
 use Rattle.passed.specs.Answers.{passedAnswer}
 use Rattle.callee.specs.Answers.{globalAnswer}
 use Rattle.pushes.specs.Answers.{pushAnswer}
 use Rattle.stack.specs.Answers.{stackAnswer}
 use Rattle.callee.specs.Trace.{saysAt, heard, tracedBy, traced}
-use Rattle.phis.specs.Phi.{Dead}
+use Rattle.unread.specs.Phi.{Dead}
 use Rattle.generators.specs.Generator.{GenPure}
 use Rattle.needed.specs.Path.{Needs}
 use Rattle.seek.specs.Asked.{seekNext, jumpsIn}
@@ -41,11 +41,11 @@ use Rattle.values.specs.Python.{Divides, floorDiv, floorMod, Digitwise, both, a
 use Rattle.values.specs.Folds.{SmallInt}
 use Rattle.values.specs.declared.Val.the-variants.{Float as Real}
 use Rattle.values.specs.declared.Maybe.the-variants.{Is}
-use Rattle.chunk.specs.Pool.{toVal, findOrPush, findOrPushConst}
-use Rattle.lent.specs.Chunk as chunk
-use Rattle.lent.specs.Chunk.{operandAt, originAt, names, folds}
-use Rattle.lent.specs.Check.{chunkCheckOf, readyOf}
-use Rattle.lent.specs.declared.Counts.{Counts}
+use Rattle.pool.specs.Pool.{toVal, findOrPush, findOrPushConst}
+use Rattle.chunk.specs.Chunk as chunk
+use Rattle.chunk.specs.Chunk.{operandAt, originAt, names, folds}
+use Rattle.chunk.specs.Check.{chunkCheckOf, readyOf}
+use Rattle.chunk.specs.declared.Counts.{Counts}
 use Rattle.fold.specs.Plan.{Chunk, kindOf}
 use Rattle.landings.specs.Landings.{landingsOf, Unmarked}
 use Rattle.fold.specs.Pass.{Bars, byScan, byTable, folded, foldAll}
@@ -71,7 +71,7 @@ use Rattle.promised.specs.Late.{Late}
 use Rattle.promised.specs.Breaks.{Breaks}
 use Rattle.promised.specs.Above.{AtLevel, Entered}
 use Rattle.code.specs.Ins.{insAt, count}
-use Rattle.code.specs.Answers.{answerOf, refusalOf}
+use Rattle.refusals.specs.Answers.{answerOf, refusalOf}
 use Rattle.flow.specs.Kept.{handlersOf}
 use Rattle.flow.specs.Demand.{Alike}
 use Rattle.steps.specs.Code.{flow, afterAt}
@@ -108,6 +108,7 @@ pub record Naming (w : List ℕ) (i k : ℕ) : Type 0 where
   pub mark : names w k ≡ true
   pub is : operandAt w k ≡ i
 
+-- all that is promised of the exported calls, of each by itself and of several together
 pub record Promised : Type 0 where
   -- document 01's marked examples, P1 to P13, hold as computed from the definitions
   pub marked : Marked
@@ -200,7 +201,8 @@ pub record Promised : Type 0 where
   pub needed-truth : (w : List ℕ) (regs k q : ℕ) (b : Marks) (r : Answer) (a : Marks) → NeededCall w regs k q b r a → r .refusal ≡ 0
       → Truth (Needs (flow regs w) q k) r
   -- it is the bit in the finished rows of a kept call, of either width, that began at 0
-  pub needed-bit : (bits : ℕ) (w : List ℕ) (regs : ℕ) (tries : List ℕ) (wide : Bool) (b : Lists) (r : Answer) (a : Lists) → KeptCall bits w regs tries wide b r a
+  pub needed-bit : (bits : ℕ) (w : List ℕ) (regs : ℕ) (tries : List ℕ) (wide : Bool) (b : Lists) (r : Answer) (a : Lists) → KeptCall bits w regs tries wide b r
+      a
       → r .refusal ≡ 0 → startAt bits wide regs w ≡ 0
       → (k q : ℕ) (m : Marks) (s : Answer) (m′ : Marks) → NeededCall w regs k q m s m′ → s .refusal ≡ 0 → bit (rowLeft bits regs w a k) q ≡ s .first
   -- as the forced wide route does
@@ -350,7 +352,8 @@ pub record Promised : Type 0 where
   -- left by an exception, so it does in every handler of a try around the level
   pub saved-handler : (bits : ℕ) (w : List ℕ) (regs : ℕ) (tries : List ℕ) (a : Lists) (k : ℕ) (v : Answer) (s t : Saver) → AtLevel bits w regs tries a k v s
       → Entered (listLeft a k) (v .third) s t
-      → (t′ : Saver) (r : Answer) → LeaveTold t thrown t′ r → (h : ℕ) → List·Memᴰ h (handlersOf (count w) k tries) → Alike (flow regs w) h (fileOf t′) (fileOf s)
+      → (t′ : Saver) (r : Answer) → LeaveTold t thrown t′ r → (h : ℕ) → List·Memᴰ h (handlersOf (count w) k tries) → Alike (flow regs w) h (fileOf t′)
+      (fileOf s)
   -- that leaving is never refused, and the words in use are as before the entry
   pub saved-left : (bits : ℕ) (w : List ℕ) (regs : ℕ) (tries : List ℕ) (a : Lists) (k : ℕ) (v : Answer) (s t : Saver) → AtLevel bits w regs tries a k v s
       → Entered (listLeft a k) (v .third) s t
@@ -417,13 +420,16 @@ pub record Promised : Type 0 where
   -- kept_raising settles its three buffers, as kept does
   pub raising : (w : List ℕ) (regs : ℕ) (tries : List ℕ) (all : Bool) → RaisingSettles w regs tries all
   -- exposed settles the answer and every word of its buffer
-  pub one-exposed : (plain list out : List ℕ) (r r′ : Answer) (a a′ : List ℕ) → ExposedTold plain list out a r → ExposedTold plain list out a′ r′ → (r ≡ r′) × (a ≡ a′)
+  pub one-exposed : (plain list out : List ℕ) (r r′ : Answer) (a a′ : List ℕ) → ExposedTold plain list out a r → ExposedTold plain list out a′ r′ → (r ≡ r′)
+      × (a ≡ a′)
   -- for a keeper of archives: at every level all registers but the listed ones and the result are overwritten at will, calls return or raise, what may
   -- raise goes on in a handler around it, as often as it likes, and all that is read is what the undisturbed run reads; with least rows, none to spare
-  pub raising-holds : (w : List ℕ) (regs : ℕ) (tries : List ℕ) (all : Bool) (b : Lists) (r : Answer) (a : Lists) → RaisingCall w regs tries all b r a → r .refusal ≡ 0
+  pub raising-holds : (w : List ℕ) (regs : ℕ) (tries : List ℕ) (all : Bool) (b : Lists) (r : Answer) (a : Lists) → RaisingCall w regs tries all b r a
+      → r .refusal ≡ 0
       → RaisingHolds w regs tries all r a
   -- the same through the frame saver's calls: each call is entered with its level's list and left by a return or an exception
-  pub raising-saved : (w : List ℕ) (regs : ℕ) (tries : List ℕ) (all : Bool) (b : Lists) (r : Answer) (a : Lists) → RaisingCall w regs tries all b r a → r .refusal ≡ 0
+  pub raising-saved : (w : List ℕ) (regs : ℕ) (tries : List ℕ) (all : Bool) (b : Lists) (r : Answer) (a : Lists) → RaisingCall w regs tries all b r a
+      → r .refusal ≡ 0
       → (k : ℕ) (s : Saver) → Sound s → regsOf s ≡ regs → (es : List Event) (told : List (ℕ × List ℕ)) → Ran w regs tries all (listLeft a) k s es told
       → told ≡ nested (frame (mays all w) regs w tries) undisturbed es k (fileOf s)
   -- at each level the list of kept_raising holds the list of kept, of any width and route
@@ -438,7 +444,8 @@ pub record Promised : Type 0 where
       → (k : ℕ) → k < count w → isLevel (insAt w k) ≡ true → (o o′ : List ℕ) (s : Answer) → ExposedTold (listLeft plain k) (listLeft list k) o o′ s
       → s .refusal ≡ 0 → (q : ℕ) → List·Memᴰ q (take (s .first) o′) → ToldApart (frame (mays all w) regs w tries) (listLeft plain) k q
   -- where no try is lent and no dunder mark stands on ReturnR, Jump, UnpackR, WithEnter or WithExit, kept's own lists are enough
-  pub no-try-shelters : (bits : ℕ) (w : List ℕ) (regs : ℕ) (wide : Bool) (b : Lists) (r : Answer) (a : Lists) → KeptCall bits w regs [] wide b r a → r .refusal ≡ 0
+  pub no-try-shelters : (bits : ℕ) (w : List ℕ) (regs : ℕ) (wide : Bool) (b : Lists) (r : Answer) (a : Lists) → KeptCall bits w regs [] wide b r a
+      → r .refusal ≡ 0
       → Tidy w → Sheltered (frame (levels w) regs w []) (listLeft a)
   -- but not in general: the body whose handler reads r5, which the call before the try may overwrite; kept_raising keeps it at both calls
   pub plain-not-enough : NotEnough

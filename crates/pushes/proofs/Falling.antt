@@ -6,7 +6,7 @@ use Prim.Native.Nat.{ℕ, zero, suc, _-_, _<_, _≤_}
 use native.Mathlib.Omega.{arith}
 use lib.Dec.{eqb, ltb}
 use borrow.Author.Tests.{ltb-true}
-use Rattle.code.specs.Op.{StoreTopR}
+use Rattle.ops.specs.Op.{StoreTopR}
 use Rattle.code.specs.Ins.{insAt}
 use Rattle.pushes.specs.declared.Place.the-variants.{At, Nowhere}
 use Rattle.pushes.specs.Pushes.{storesFrom, callBefore, givesBack, pushUnder, pushedBack}

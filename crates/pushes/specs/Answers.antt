@@ -1,9 +1,10 @@
 -- What `pushed_back` answers: refusals 1, 2, 6, else the position or nothing. Assumes nothing.
 use Prim.Native.Nat.{ℕ}
 use mathlib.Core.List.{List}
-use Rattle.code.specs.Check.{checkOf, insideOf}
-use Rattle.code.specs.Answers.{asked, answerOf, refusedOf}
-use Rattle.code.specs.declared.Answer.{Answer}
+use Rattle.code.specs.Check.{checkOf}
+use Rattle.refusals.specs.Stages.{insideOf}
+use Rattle.refusals.specs.Answers.{asked, answerOf, refusedOf}
+use Rattle.refusals.specs.declared.Answer.{Answer}
 use Rattle.pushes.specs.Pushes.{pushedBack}
 use Rattle.pushes.specs.declared.Place.{Place}
 use Rattle.pushes.specs.declared.Place.the-variants.{At, Nowhere}

@@ -6,7 +6,7 @@ use lib.Dec.{eqb, ltb}
 use mir.Val.{boolByte}
 use Rattle.laws.specs.All.{every}
 use Rattle.laws.specs.Page.{among}
-use Rattle.code.specs.Op.{StoreTopR, ArgsR, CallR, CallGlobalR, CallMethodR, PushRegs}
+use Rattle.ops.specs.Op.{StoreTopR, ArgsR, CallR, CallGlobalR, CallMethodR, PushRegs}
 use Rattle.code.specs.Ins.{insAt}
 use Rattle.code.specs.declared.Ins.{Ins}
 use Rattle.roles.specs.Kinds.{fieldOf}

@@ -7,10 +7,10 @@ ghost use Rattle.code.specs.Inner.{Whole, Valid};
 ghost use Rattle.stack.specs.Inner.{Narrow};
 ghost use Rattle.pushes.specs.Pushes.{storesFrom, callBefore, takenAt, takesBack, pending, givesBack, pushedBack};
 ghost use Rattle.pushes.specs.Answers.{pushAnswer};
-use code::Answer;
-use code::Checked;
 use code::Ins;
-use code::op::*;
+use ops::*;
+use refusals::Answer;
+use refusals::Checked;
 
 // A position, if there is one.
 pub enum Place {
@@ -117,11 +117,11 @@ pub fn pushed_back_of(code: &[u16], d: usize, r: u16) -> Place
 pub fn pushed_back(code: &[u16], at: usize, r: u16) -> Answer
     ensures { λ v. ⌜ v ≡ pushAnswer (now (code .entry)) at r ⌝ }
 {
-    match code::inside(code::check(code), at) {
-        Checked::No(q) => code::refused(q),
+    match refusals::inside(code::check(code), at) {
+        Checked::No(q) => refusals::refused(q),
         Checked::Count(_) => match pushed_back_of(code, at, r) {
-            Place::At(p) => code::tell(1, p as u64, 0, 0),
-            Place::Nowhere => code::tell(0, 0, 0, 0),
+            Place::At(p) => refusals::tell(1, p as u64, 0, 0),
+            Place::Nowhere => refusals::tell(0, 0, 0, 0),
         },
     }
 }

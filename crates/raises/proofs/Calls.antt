@@ -13,10 +13,10 @@ use lib.ListN.{length, take, drop}
 use lib.Seq.{take-all}
 use Rattle.code.specs.Ins.{count}
 use Rattle.code.specs.Inner.{Valid}
-use Rattle.code.specs.declared.Checked.{Checked}
-use Rattle.code.specs.declared.Checked.the-variants as stage
-use Rattle.code.specs.declared.Refusal.{Refusal}
-use Rattle.code.specs.declared.Refusal.the-variants.{Short}
+use Rattle.refusals.specs.declared.Checked.{Checked}
+use Rattle.refusals.specs.declared.Checked.the-variants as stage
+use Rattle.refusals.specs.declared.Refusal.{Refusal}
+use Rattle.refusals.specs.declared.Refusal.the-variants.{Short}
 use Rattle.flow.specs.Flow.{Flow}
 use Rattle.flow.specs.Sweep.{row, Found}
 use Rattle.flow.specs.Words.{rowsOf, Small}
@@ -111,7 +111,8 @@ module _ (regs : ℕ) (w tries rows offsets : List ℕ) (n : ℕ) (h : stagesOf 
 
     module _ (list : List ℕ) (total : ℕ) (q : total ≡ length (listsTo regs w tries (rowsOf 64 m (suc (count w)) (part ++ drop ((count w + 1) * m) rows))
         (count w))) where
-      pub out-short : length list < total → RaisingOutcome w regs tries all rows offsets list (part ++ drop ((count w + 1) * m) rows) offsets list (No (Short 3 total))
+      pub out-short : length list < total → RaisingOutcome w regs tries all rows offsets list (part ++ drop ((count w + 1) * m) rows) offsets list
+          (No (Short 3 total))
       out-short =
           kept.short-by 64 16 width regs w tries rows offsets n h m e (raising (mays all w) regs w tries) (beginsAt regs w)
           (bound all regs w tries) part full lost f l list total q

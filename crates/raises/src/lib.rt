@@ -14,9 +14,9 @@ ghost use Rattle.kept.specs.Inner.{rowsBy, LevelsRoom, Filled};
 ghost use Rattle.kept.specs.Answers.{stagesOf};
 ghost use Rattle.nested.specs.Raising.{raising, mays, beginsAt};
 ghost use Rattle.raises.specs.Inner.{RaisingOutcome};
-use code::Checked;
-use code::Refusal;
 use kept::KeptAnswer;
+use refusals::Checked;
+use refusals::Refusal;
 use rows::Counts;
 
 // The kept registers of every level, for frames whose levels may raise later on, and if asked any instruction.
@@ -62,7 +62,8 @@ fn count_level(
     k: usize,
 ) -> usize
     requires { ⌜ LevelsRoom 64 16 regs (now code) words (now rows) × (k < count (now code)) ⌝ }
-    ensures { λ r. ⌜ (r ≡ length (keptOf regs (row (rowsBy 64 words (now (code .entry)) (now (rows .entry)))) (levelOf regs (now (code .entry)) (now (tries .entry)) k))) × (r ≤ 1024) ⌝ }
+    ensures { λ r. ⌜ (r ≡ length (keptOf regs (row (rowsBy 64 words (now (code .entry)) (now (rows .entry))))
+        (levelOf regs (now (code .entry)) (now (tries .entry)) k))) × (r ≤ 1024) ⌝ }
 {
     let main = kept::main_row(code, regs, rows, words, k);
     let all = lists::join_tries(main, rows, code.len() / 6, words, k, tries);
@@ -80,8 +81,10 @@ fn keep_level(
     out: &mut [u16],
     m: usize,
 ) -> usize
-    requires { ⌜ LevelsRoom 64 16 regs (now code) words (now rows) × (k < count (now code)) × (m + length (keptOf regs (row (rowsBy 64 words (now code) (now rows))) (levelOf regs (now code) (now tries) k)) ≤ length (now out)) ⌝ }
-    ensures { λ r. ⌜ Listing (keptOf regs (row (rowsBy 64 words (now (code .entry)) (now (rows .entry)))) (levelOf regs (now (code .entry)) (now (tries .entry)) k)) (now (out .entry)) m (now (out .exit)) r ⌝ }
+    requires { ⌜ LevelsRoom 64 16 regs (now code) words (now rows) × (k < count (now code))
+        × (m + length (keptOf regs (row (rowsBy 64 words (now code) (now rows))) (levelOf regs (now code) (now tries) k)) ≤ length (now out)) ⌝ }
+    ensures { λ r. ⌜ Listing (keptOf regs (row (rowsBy 64 words (now (code .entry)) (now (rows .entry)))) (levelOf regs (now (code .entry)) (now (tries .entry))
+        k)) (now (out .entry)) m (now (out .exit)) r ⌝ }
 {
     let main = kept::main_row(code, regs, rows, words, k);
     let at = lists::list_set(main, words, out, m);
@@ -91,7 +94,8 @@ fn keep_level(
 // How many registers are kept at k.
 fn count_at(code: &[u16], regs: usize, tries: &[u32], rows: &[u64], words: usize, k: usize) -> usize
     requires { ⌜ LevelsRoom 64 16 regs (now code) words (now rows) × (k < count (now code)) ⌝ }
-    ensures { λ r. ⌜ (r ≡ length (keptAt regs (now (code .entry)) (now (tries .entry)) (rowsBy 64 words (now (code .entry)) (now (rows .entry))) k)) × (r ≤ 1024) ⌝ }
+    ensures { λ r. ⌜ (r ≡ length (keptAt regs (now (code .entry)) (now (tries .entry)) (rowsBy 64 words (now (code .entry)) (now (rows .entry))) k))
+        × (r ≤ 1024) ⌝ }
 {
     if steps::level_at(code::ins_at(code, k)) {
         return count_level(code, regs, tries, rows, words, k);
@@ -110,8 +114,10 @@ fn keep_at(
     out: &mut [u16],
     m: usize,
 ) -> usize
-    requires { ⌜ LevelsRoom 64 16 regs (now code) words (now rows) × (k < count (now code)) × (m + length (keptAt regs (now code) (now tries) (rowsBy 64 words (now code) (now rows)) k) ≤ length (now out)) ⌝ }
-    ensures { λ r. ⌜ Listing (keptAt regs (now (code .entry)) (now (tries .entry)) (rowsBy 64 words (now (code .entry)) (now (rows .entry))) k) (now (out .entry)) m (now (out .exit)) r ⌝ }
+    requires { ⌜ LevelsRoom 64 16 regs (now code) words (now rows) × (k < count (now code))
+        × (m + length (keptAt regs (now code) (now tries) (rowsBy 64 words (now code) (now rows)) k) ≤ length (now out)) ⌝ }
+    ensures { λ r. ⌜ Listing (keptAt regs (now (code .entry)) (now (tries .entry)) (rowsBy 64 words (now (code .entry)) (now (rows .entry))) k)
+        (now (out .entry)) m (now (out .exit)) r ⌝ }
 {
     if steps::level_at(code::ins_at(code, k)) {
         return keep_level(code, regs, tries, rows, words, k, out, m);
@@ -122,7 +128,8 @@ fn keep_at(
 // The sum of the list lengths.
 fn count_all(code: &[u16], regs: usize, tries: &[u32], rows: &[u64], words: usize) -> usize
     requires { ⌜ LevelsRoom 64 16 regs (now code) words (now rows) ⌝ }
-    ensures { λ r. ⌜ (r ≡ length (listsTo regs (now (code .entry)) (now (tries .entry)) (rowsBy 64 words (now (code .entry)) (now (rows .entry))) (count (now (code .entry))))) × (r ≤ 67107840) ⌝ }
+    ensures { λ r. ⌜ (r ≡ length (listsTo regs (now (code .entry)) (now (tries .entry)) (rowsBy 64 words (now (code .entry)) (now (rows .entry)))
+        (count (now (code .entry))))) × (r ≤ 67107840) ⌝ }
 {
     let n = code.len() / 6;
     let mut m = 0;
@@ -144,8 +151,11 @@ fn each_call(
     offsets: &mut [u32],
     list: &mut [u16],
 )
-    requires { ⌜ LevelsRoom 64 16 regs (now code) words (now rows) × (count (now code) < length (now offsets)) × (length (listsTo regs (now code) (now tries) (rowsBy 64 words (now code) (now rows)) (count (now code))) ≤ length (now list)) × (length (listsTo regs (now code) (now tries) (rowsBy 64 words (now code) (now rows)) (count (now code))) ≤ 67107840) ⌝ }
-    ensures { λ _. ⌜ Filled regs (now (code .entry)) (now (tries .entry)) (rowsBy 64 words (now (code .entry)) (now (rows .entry))) (now (offsets .entry)) (now (list .entry)) (now (offsets .exit)) (now (list .exit)) ⌝ }
+    requires { ⌜ LevelsRoom 64 16 regs (now code) words (now rows) × (count (now code) < length (now offsets))
+        × (length (listsTo regs (now code) (now tries) (rowsBy 64 words (now code) (now rows)) (count (now code))) ≤ length (now list))
+        × (length (listsTo regs (now code) (now tries) (rowsBy 64 words (now code) (now rows)) (count (now code))) ≤ 67107840) ⌝ }
+    ensures { λ _. ⌜ Filled regs (now (code .entry)) (now (tries .entry)) (rowsBy 64 words (now (code .entry)) (now (rows .entry))) (now (offsets .entry))
+        (now (list .entry)) (now (offsets .exit)) (now (list .exit)) ⌝ }
 {
     let n = code.len() / 6;
     let mut m = 0;

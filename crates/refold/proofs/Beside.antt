@@ -11,10 +11,10 @@ use borrow.Author.Tests.{ltb-true, ltb-false}
 use Rattle.laws.specs.All.{every, many}
 use Rattle.laws.specs.Each.{each}
 use Rattle.laws.proofs.Each.{each-ext}
-use Rattle.code.specs.Op.{Phi}
+use Rattle.ops.specs.Op.{Phi}
 use Rattle.landings.specs.Landings.{landingsOf}
 use Rattle.landings.proofs.Kept.{landings-same}
-use Rattle.lent.specs.Chunk.{stride, chunkCount, opAt, markAt, operandAt, marksJump, names, isPhi}
+use Rattle.chunk.specs.Chunk.{stride, chunkCount, opAt, markAt, operandAt, marksJump, names, isPhi}
 use Rattle.fold.specs.Plan.{Chunk}
 use Rattle.positions.specs.Remap.{alive, live}
 use Rattle.compact.specs.Tables.{movedOperand, wordsOf, leftAt, left, compacted}

@@ -5,8 +5,8 @@ use mathlib.Core.Bool.{Bool}
 use mathlib.Core.List.{List}
 use lib.ListN.{length}
 use borrow.Author.Tests.{le-ltb}
-use Rattle.code.specs.declared.Checked.the-variants.{Count}
-use Rattle.lent.specs.declared.Counts.{Counts}
+use Rattle.refusals.specs.declared.Checked.the-variants.{Count}
+use Rattle.chunk.specs.declared.Counts.{Counts}
 use Rattle.optimizer.specs.Fold.{lensOf}
 use Rattle.optimizer.specs.declared.Folded.{Folded}
 use Rattle.clear.specs.Clear as clearing

@@ -10,8 +10,8 @@ use lib.ListN.{length, getD, take, drop}
 use lib.Seq.{length-take-le, getD-take, take-at}
 use mir.Val.{boolByte}
 use Rattle.laws.specs.All.{every, many}
-use Rattle.lent.specs.Chunk.{stride, chunkCount, marksJump}
-use Rattle.lent.specs.declared.Counts.{Counts}
+use Rattle.chunk.specs.Chunk.{stride, chunkCount, marksJump}
+use Rattle.chunk.specs.declared.Counts.{Counts}
 use Rattle.laws.proofs.Counting.{many-ext}
 use Rattle.landings.specs.Landings.{jumpLands, handlerLands, landingsAt}
 use Rattle.positions.specs.Remap.{alive}
@@ -27,7 +27,7 @@ use Rattle.refold.specs.Inner.{Folds}
 use Rattle.refold.specs.Left.{TriesLeft, LandingsLeft}
 use Rattle.refold.proofs.Lends.{o, before, after, all-left, all-settled, marks, end-marks, tries-left, n-is, few, after-code}
 use Rattle.refold.proofs.Lends.{check-count, call-answered, by-call}
-use Rattle.code.specs.declared.Checked.the-variants.{Count}
+use Rattle.refusals.specs.declared.Checked.the-variants.{Count}
 
 -- a test that fails from r on passes as often below r
 many-cut : (f : ℕ → Bool) (r n : ℕ) → r ≤ n → ((k : ℕ) → r ≤ k → k < n → f k ≡ false) → many f n ≡ many f r

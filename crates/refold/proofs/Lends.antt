@@ -14,19 +14,18 @@ use Rattle.laws.specs.Table as Table
 use Rattle.laws.specs.Walk.{first}
 use Rattle.laws.proofs.Branch.{and-true, or-true}
 use Rattle.laws.proofs.Many.{many-fewer}
-use Rattle.code.specs.Check.{pairs, firstBadTry, triedOf}
-use Rattle.code.specs.Rules.{tryKept}
-use Rattle.code.specs.declared.Refusal.{Refusal}
-use Rattle.code.specs.declared.Refusal.the-variants.{Length, Record, Try, Table}
-use Rattle.code.specs.declared.Checked.{Checked}
-use Rattle.code.specs.declared.Checked.the-variants.{Count, No as Refused}
-use Rattle.code.proofs.Stages.{room-before}
-use Rattle.lent.specs.Chunk.{stride, chunkCount, opAt, folds, isPhi}
-use Rattle.lent.specs.Tables.{constantKept, within, constantsKept, mapKept, pairsKept, tableOf}
-use Rattle.lent.specs.Check.{unevenChunk, firstBadOf, chunkCheckOf, tablesOf, tallyOf, constantRoom, sourceRoom, roomsOf, readyOf}
-use Rattle.lent.proofs.Kept.{kinds-there, words-there}
-use Rattle.lent.specs.declared.Counts.{Counts}
-use Rattle.lent.specs.declared.Lens.{Lens}
+use Rattle.refusals.specs.Stages.{pairs, firstBadTry, triedOf, tryKept}
+use Rattle.refusals.specs.declared.Refusal.{Refusal}
+use Rattle.refusals.specs.declared.Refusal.the-variants.{Length, Record, Try, Table}
+use Rattle.refusals.specs.declared.Checked.{Checked}
+use Rattle.refusals.specs.declared.Checked.the-variants.{Count, No as Refused}
+use Rattle.refusals.proofs.Stages.{room-before}
+use Rattle.chunk.specs.Chunk.{stride, chunkCount, opAt, folds, isPhi}
+use Rattle.chunk.specs.Tables.{constantKept, within, constantsKept, mapKept, pairsKept, tableOf}
+use Rattle.chunk.specs.Check.{unevenChunk, firstBadOf, chunkCheckOf, tablesOf, tallyOf, constantRoom, sourceRoom, roomsOf, readyOf}
+use Rattle.chunk.proofs.Kept.{kinds-there, words-there}
+use Rattle.chunk.specs.declared.Counts.{Counts}
+use Rattle.chunk.specs.declared.Lens.{Lens}
 use Rattle.laws.proofs.Counting.{every-at}
 use Rattle.fold.specs.Plan.{Chunk, chunk}
 use Rattle.landings.specs.Landings.{landingsOf}
@@ -165,12 +164,14 @@ tried-on n v t e h =
     let f = first-none-below (λ j. not (tryKept t n j)) (pairs t) 0 (λ j l. ap not (h j (omega arith))) in
     rw (e, le-ltb (first (λ j. not (tryKept t n j)) 0 (pairs t)) (pairs t) (omega arith))
 
-ready-on : (n : ℕ) (w tries kinds words : List ℕ) (c : Counts) (l : Lens) (landings : ℕ) → Kept n (chunkCount w) (triedOf (chunkCheckOf w) tries) kinds words c l
+ready-on : (n : ℕ) (w tries kinds words : List ℕ) (c : Counts) (l : Lens) (landings : ℕ) → Kept n (chunkCount w) (triedOf (chunkCheckOf w) tries) kinds words c
+    l
     → Roomy w c l → chunkCount w + 1 ≤ landings → readyOf w tries kinds words c l landings ≡ Count n
 unfolding readyOf
 ready-on n w tries kinds words c l landings x r h =
     let v = tablesOf (triedOf (chunkCheckOf w) tries) (chunkCount w) kinds words c l in
-    room-on n (roomsOf v w c l) 7 landings (chunkCount w + 1) (rooms-on n v w c l (tables-on n (chunkCount w) (triedOf (chunkCheckOf w) tries) kinds words c l x) r) h
+    room-on n (roomsOf v w c l) 7 landings (chunkCount w + 1) (rooms-on n v w c l (tables-on n (chunkCount w) (triedOf (chunkCheckOf w) tries) kinds words c l
+    x) r) h
 
 map-on : (n entries len : ℕ) → (entries ≡ 0) ⊎ (entries ≡ n) → entries ≤ len → mapKept n entries len ≡ true
 map-on n entries len e h = ⊎-elim (λ q. rw (eq-eqb entries 0 q, le-leb entries len h))
@@ -425,7 +426,15 @@ module _ (strict : Bool) (l : Lending) (c : Counts) where
         record {
           kinds = room-of (length (end .kinds)) (rw (pushed .kinds-long) (held .kinds)) (pool-within .0);
           words = room-of (length (end .words)) (rw (pushed .words-long) (held .words)) (pool-within .1);
-          map = rw short-count (omega (arith, few, n-is, length-append (after .map) (drop (chunkCount (b .code)) (b .map)), all-settled .map, fit .map, end-marks));
+          map = rw short-count (omega (
+            arith,
+            few,
+            n-is,
+            length-append (after .map) (drop (chunkCount (b .code)) (b .map)),
+            all-settled .map,
+            fit .map,
+            end-marks,
+          ));
           sources =
               phi-room (length (after .sources ++ drop (sourcesNeeded b c) (b .sources)))
               (omega (

@@ -6,8 +6,8 @@ use mathlib.Core.List.{List, [], _∷_}
 use Rattle.laws.proofs.Branch.{or-assoc}
 use Rattle.laws.specs.Page.{among}
 use Rattle.laws.proofs.Keys.{every}
-use Rattle.code.specs.Op.{Add, Sub, Mul, Div, Mod, FloorDiv, Eq, NotEq, Lt, Gt, LtEq, GtEq, BitAnd, BitOr, BitXor, Shl, Shr, Not, Minus}
-use Rattle.lent.specs.Chunk.{folds}
+use Rattle.ops.specs.Op.{Add, Sub, Mul, Div, Mod, FloorDiv, Eq, NotEq, Lt, Gt, LtEq, GtEq, BitAnd, BitOr, BitXor, Shl, Shr, Not, Minus}
+use Rattle.chunk.specs.Chunk.{folds}
 use Rattle.fold.specs.Plan.{operatorPage, kindOf}
 use Rattle.fold.specs.declared.Kind.{Kind}
 use Rattle.fold.specs.declared.Kind.the-variants as kind

@@ -9,9 +9,9 @@ use lib.ListN.{length, getD, take}
 use lib.Seq.{getD-take}
 use borrow.Author.Tests.{eqb-true, eq-eqb, ltb-true, ltb-false}
 use Rattle.laws.specs.All.{every}
-use Rattle.code.specs.declared.Checked.the-variants.{Count}
-use Rattle.lent.specs.Chunk.{stride, chunkCount, originAt}
-use Rattle.lent.specs.declared.Counts.{Counts}
+use Rattle.refusals.specs.declared.Checked.the-variants.{Count}
+use Rattle.chunk.specs.Chunk.{stride, chunkCount, originAt}
+use Rattle.chunk.specs.declared.Counts.{Counts}
 use Rattle.laws.proofs.Counting.{many-le, many-all, every-le}
 use Rattle.fold.specs.Plan.{Chunk, planAt}
 use Rattle.fold.specs.Pass.{constLoad, landed, applied, tryFold, Bars, byScan, folded, foldAll}

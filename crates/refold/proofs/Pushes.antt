@@ -13,10 +13,10 @@ use lib.Seq.{getD-set-other}
 use lib.Ieee.{binary64, toBits}
 use mir.Syntax.{w64}
 use mir.Val.{ofZ}
-use Rattle.code.specs.Op.{LoadConst, LoadTrue, LoadFalse}
-use Rattle.lent.specs.Tables.{constantKept, within, constantsKept}
-use Rattle.lent.specs.Check.{constantRoom}
-use Rattle.lent.specs.Chunk.{chunkCount, opAt, folds}
+use Rattle.ops.specs.Op.{LoadConst, LoadTrue, LoadFalse}
+use Rattle.chunk.specs.Tables.{constantKept, within, constantsKept}
+use Rattle.chunk.specs.Check.{constantRoom}
+use Rattle.chunk.specs.Chunk.{chunkCount, opAt, folds}
 use Rattle.laws.proofs.Counting.{every-at}
 use Rattle.clear.proofs.Twice.{every-of}
 use Rattle.laws.specs.All.{every, many}
@@ -26,8 +26,8 @@ use Rattle.fold.proofs.Put.{put-long}
 use Rattle.fold.proofs.Grown.{Held, held-none, held-more}
 use Rattle.values.specs.declared.Val.{Val}
 use Rattle.values.specs.declared.Val.the-variants.{Int, Float as Real, Bool as Truth}
-use Rattle.chunk.specs.Pool.{Stored, stored, position, findOrPush, findOrPushConst}
-use Rattle.chunk.specs.declared.Kept.the-variants.{At, Full}
+use Rattle.pool.specs.Pool.{Stored, stored, position, findOrPush, findOrPushConst}
+use Rattle.pool.specs.declared.Kept.the-variants.{At, Full}
 use Rattle.fold.specs.Plan.{Chunk, chunk, planAt}
 use Rattle.fold.specs.Pass.{loadOf, constLoad, put, landed, applied, tryFold, Bars, folded, foldAll}
 use Rattle.fold.specs.Inner.{PassRoom}

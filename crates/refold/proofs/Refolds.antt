@@ -7,15 +7,15 @@ use mathlib.Core.Bool.{Bool}
 use mathlib.Core.List.{List, [], _∷_, _++_}
 use lib.ListN.{length, getD, drop}
 use borrow.Author.Tests.{lt-ltb, le-ltb}
-use Rattle.code.specs.declared.Checked.the-variants.{Count}
-use Rattle.lent.specs.Chunk.{chunkCount, operandAt}
-use Rattle.lent.specs.Tables.{constantKept, within}
-use Rattle.lent.specs.Check.{sourceRoom}
-use Rattle.lent.proofs.Kept.{kinds-there, words-there}
+use Rattle.refusals.specs.declared.Checked.the-variants.{Count}
+use Rattle.chunk.specs.Chunk.{chunkCount, operandAt}
+use Rattle.chunk.specs.Tables.{constantKept, within}
+use Rattle.chunk.specs.Check.{sourceRoom}
+use Rattle.chunk.proofs.Kept.{kinds-there, words-there}
 use Rattle.laws.specs.All.{every}
 use Rattle.laws.proofs.Branch.{and-true}
-use Rattle.lent.specs.declared.Counts.{Counts}
-use Rattle.lent.specs.declared.Tally.{Tally}
+use Rattle.chunk.specs.declared.Counts.{Counts}
+use Rattle.chunk.specs.declared.Tally.{Tally}
 use Rattle.fold.specs.Plan.{Chunk}
 use Rattle.landings.specs.Landings.{landingsOf}
 use Rattle.fold.specs.Pass.{byScan, foldAll}
@@ -76,7 +76,8 @@ module _ (strict : Bool) (l : Lending) (c : Counts) (n : ℕ) (q : readyFor l c 
   -- the chunk after clearing
   abbrev b′ : Buffers
   b′ =
-      buffers (recoded (number w) m w) (pooled (constantNamed w) m (b .kinds)) (pooled (constantNamed w) m (b .words)) (b .map) (b .sources) (b .stmts) (b .calls) (b .dead)
+      buffers (recoded (number w) m w) (pooled (constantNamed w) m (b .kinds)) (pooled (constantNamed w) m (b .words)) (b .map) (b .sources) (b .stmts)
+      (b .calls) (b .dead)
       (b .remap)
 
   abbrev l′ : Lending

@@ -16,8 +16,8 @@ use Rattle.laws.specs.Each.{each}
 use Rattle.laws.proofs.Branch.{and-true}
 use Rattle.laws.proofs.Each.{each-at, each-length, each-word}
 use Rattle.laws.proofs.Many.{many-few, many-fewer, many-more}
-use Rattle.code.specs.Op.{Phi}
-use Rattle.lent.specs.Chunk.{stride, chunkCount, opAt, folds, isPhi}
+use Rattle.ops.specs.Op.{Phi}
+use Rattle.chunk.specs.Chunk.{stride, chunkCount, opAt, folds, isPhi}
 use Rattle.positions.specs.Remap.{alive, live, remapOf}
 use Rattle.compact.specs.Tables.{wordsOf, leftAt, left, compacted}
 use Rattle.compact.proofs.Left.{left-long}

@@ -14,15 +14,15 @@ use borrow.Author.Tests.{eqb-true, eqb-false}
 use Rattle.laws.specs.All.{many}
 use Rattle.laws.proofs.Branch.{and-true}
 use Rattle.laws.proofs.Many.{many-fewer}
-use Rattle.code.specs.Op.{LoadConst, LoadTrue, LoadFalse}
-use Rattle.lent.specs.Chunk.{chunkCount, opAt, folds}
+use Rattle.ops.specs.Op.{LoadConst, LoadTrue, LoadFalse}
+use Rattle.chunk.specs.Chunk.{chunkCount, opAt, folds}
 use Rattle.positions.specs.Remap.{alive}
 use Rattle.values.specs.declared.Val.{Val}
 use Rattle.values.specs.declared.Val.the-variants.{Int, Float as Real, Bool as Truth}
-use Rattle.chunk.specs.Pool.{Stored, findOrPushConst}
-use Rattle.chunk.specs.declared.Kept.{Kept}
-use Rattle.chunk.specs.declared.Kept.the-variants.{At, Full}
-use Rattle.chunk.proofs.Store.{kept-few}
+use Rattle.pool.specs.Pool.{Stored, findOrPushConst}
+use Rattle.pool.specs.declared.Kept.{Kept}
+use Rattle.pool.specs.declared.Kept.the-variants.{At, Full}
+use Rattle.pool.proofs.Store.{kept-few}
 use Rattle.fold.specs.Plan.{Chunk, planAt}
 use Rattle.fold.specs.Pass.{loadOf, constLoad, put, landed, applied, tryFold, Bars, folded, foldAll}
 use Rattle.fold.specs.declared.Loaded.{Loaded}

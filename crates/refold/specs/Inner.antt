@@ -1,13 +1,13 @@
 -- What only the inside of `refold` needs: contracts of inner functions and proofs cite it, no promise does. Assumes nothing.
 use mathlib.Core.Path.{_≡_}
 use mathlib.Core.Bool.{Bool, true}
-use Rattle.lent.specs.declared.Counts.{Counts}
+use Rattle.chunk.specs.declared.Counts.{Counts}
 use Rattle.optimizer.specs.Fold.{Called, foldCall, Is}
 use Rattle.optimizer.specs.declared.Folded.{Folded}
 use Rattle.refold.specs.Lending.{Lending, foldLeaving}
 use Prim.Native.Nat.{ℕ, _≤_, _<_}
 use lib.ListN.{length, getD}
-use Rattle.lent.specs.Tables.{constantKept}
+use Rattle.chunk.specs.Tables.{constantKept}
 use Rattle.fold.specs.Plan.{Chunk}
 use mathlib.Core.List.{List}
 use Rattle.clear.specs.Clear.{clearCall}
@@ -15,6 +15,7 @@ use Rattle.refold.specs.Lendable.{clearable, clearedBuffers, countsClear
 use Rattle.refold.specs.Refolded.{RefoldedAll}
 use Rattle.clear.specs.Clear as clearing
 
+-- the folding call on all that is lent
 abbrev pub foldOf : Bool → Lending → Counts → Called
 foldOf strict l c = foldCall strict (l .buffers) (l .tries) (l .landings) c
 
@@ -22,6 +23,7 @@ foldOf strict l c = foldCall strict (l .buffers) (l .tries) (l .landings) c
 abbrev pub Folds : Bool → Lending → Counts → Folded → Lending → Type 0
 Folds strict l c f a = foldOf strict l c ≡ foldLeaving (Is f) a
 
+-- constants were only pushed from s to t: old ones stay, so do entries past the new count and all lengths, and new ones keep the rule
 pub record Pushed (s t : Chunk) : Type 0 where
   pub more : s .constants ≤ t .constants
   pub kinds-below : (i : ℕ) → i < s .constants → getD (t .kinds) i 0 ≡ getD (s .kinds) i 0

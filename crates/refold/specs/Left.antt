@@ -6,11 +6,11 @@ use mathlib.Core.List.{_++_}
 use lib.ListN.{length, getD, take, drop, replicate}
 use Rattle.laws.specs.All.{every}
 use Rattle.laws.specs.Table.{Held}
-use Rattle.code.specs.Rules.{tryKept}
-use Rattle.code.specs.Check.{pairs}
-use Rattle.lent.specs.Chunk.{stride, chunkCount}
-use Rattle.lent.specs.Check.{constantRoom, tallyOf}
-use Rattle.lent.specs.declared.Counts.{Counts}
+use Rattle.refusals.specs.Stages.{tryKept}
+use Rattle.refusals.specs.Stages.{pairs}
+use Rattle.chunk.specs.Chunk.{stride, chunkCount}
+use Rattle.chunk.specs.Check.{constantRoom, tallyOf}
+use Rattle.chunk.specs.declared.Counts.{Counts}
 use Rattle.landings.specs.Landings.{landingsAt, landingsOf}
 use Rattle.positions.specs.Remap.{alive}
 use Rattle.positions.specs.Moved.{movedAll}

@@ -4,11 +4,11 @@ use mathlib.Core.Bool.{true}
 use mathlib.Core.List.{List}
 use Prim.Native.Nat.{ℕ, _*_}
 use lib.ListN.{take}
-use Rattle.code.specs.declared.Checked.the-variants.{Count}
-use Rattle.lent.specs.Chunk.{stride}
-use Rattle.lent.specs.Tables.{constantsKept}
-use Rattle.lent.specs.Check.{chunkCheckOf}
-use Rattle.lent.specs.declared.Counts.{Counts}
+use Rattle.refusals.specs.declared.Checked.the-variants.{Count}
+use Rattle.chunk.specs.Chunk.{stride}
+use Rattle.chunk.specs.Tables.{constantsKept}
+use Rattle.chunk.specs.Check.{chunkCheckOf}
+use Rattle.chunk.specs.declared.Counts.{Counts}
 use Rattle.optimizer.specs.Fold.{Buffers, buffers}
 use Rattle.optimizer.specs.declared.Folded.{Folded}
 use Rattle.clear.specs.Clear as clearing
@@ -49,5 +49,6 @@ clearedBuffers l x =
 abbrev pub withConstants : ℕ → Counts → Counts
 withConstants left c = record { constants = left; map = c .map; sources = c .sources; stmts = c .stmts; calls = c .calls }
 
+-- the counts as a fold answered them, but of the constants that clearing left
 abbrev pub countsCleared : Folded → Counts → ℕ → Counts
 countsCleared f c left = withConstants left (countsLeft f c)

@@ -2,16 +2,18 @@
 use mathlib.Core.List.{List}
 use Prim.Native.Nat.{ℕ}
 use lib.ListN.{length}
-use Rattle.code.specs.declared.Checked.{Checked}
-use Rattle.lent.specs.Check.{readyOf}
-use Rattle.lent.specs.declared.Counts.{Counts}
+use Rattle.refusals.specs.declared.Checked.{Checked}
+use Rattle.chunk.specs.Check.{readyOf}
+use Rattle.chunk.specs.declared.Counts.{Counts}
 use Rattle.optimizer.specs.Fold.{Buffers, lensOf, foldOutcome, Called, called, FoldAnswer}
 
+-- what a folding call is lent
 pub record Lending : Type 0 where
   pub buffers : Buffers
   pub tries : List ℕ
   pub landings : List ℕ
 
+-- these buffers, these tries and this table as one record
 abbrev pub lending : Buffers → List ℕ → List ℕ → Lending
 lending b tries landings = record { buffers = b; tries = tries; landings = landings }
 

@@ -4,7 +4,7 @@ use mathlib.Core.Path.{_≡_}
 use mathlib.Core.Bool.{true}
 use mathlib.Core.List.{List}
 use lib.ListN.{take}
-use Rattle.lent.specs.Chunk.{chunkCount, originAt}
+use Rattle.chunk.specs.Chunk.{chunkCount, originAt}
 use Rattle.positions.specs.Remap.{alive, live}
 use Rattle.optimizer.specs.Fold.{Buffers}
 use Rattle.optimizer.specs.declared.Folded.{Folded}

@@ -3,7 +3,7 @@ use mathlib.Core.Path.{_≡_}
 use mathlib.Core.Bool.{true, false}
 use Prim.Native.Nat.{ℕ, _≤_}
 use lib.ListN.{length}
-use Rattle.lent.specs.Chunk.{opAt, markAt, operandAt, names}
+use Rattle.chunk.specs.Chunk.{opAt, markAt, operandAt, names}
 use Rattle.optimizer.specs.Fold.{Buffers}
 use Rattle.optimizer.specs.declared.Folded.{Folded}
 use Rattle.named.specs.Unused.{loaded}

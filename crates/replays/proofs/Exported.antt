@@ -9,9 +9,9 @@ use lib.ListN.{length}
 use Rattle.laws.specs.Page.{among}
 use Rattle.laws.specs.Table.{filledTo}
 use Rattle.code.specs.Ins.{count}
-use Rattle.code.specs.Answers.{answerOf}
-use Rattle.code.specs.declared.Answer.{Answer}
-use Rattle.code.specs.declared.Checked.the-variants as stage
+use Rattle.refusals.specs.Answers.{answerOf}
+use Rattle.refusals.specs.declared.Answer.{Answer}
+use Rattle.refusals.specs.declared.Checked.the-variants as stage
 use Rattle.steps.specs.Code.{afterAt, flow}
 use Rattle.blocks.specs.Blocks.{slotAt, stepsOf}
 use Rattle.trace.specs.Trace.{verdictOf, Recorded}

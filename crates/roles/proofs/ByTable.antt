@@ -11,7 +11,7 @@ use lib.Seq.{take-all}
 use borrow.Author.Tests.{ne-eqb, ltb-true, ltb-false}
 use Rattle.laws.specs.Page.{Row, among, look}
 use Rattle.laws.proofs.Branch.{and-true}
-use Rattle.code.specs.Op.{Raise}
+use Rattle.ops.specs.Op.{Raise}
 use Rattle.code.specs.declared.Ins.{Ins}
 use Rattle.roles.specs.Kinds.{Rule, Bits, ByX, FirstAbc, FirstBc, Bare, says, page, ruleOf, kindsOf, abc, bc, none}
 use Rattle.roles.specs.Roles.{roleTable}

@@ -3,7 +3,7 @@ use mathlib.Core.Path.{_≡_}
 use mathlib.Core.Bool.{cond}
 use Prim.Native.Nat.{ℕ}
 use lib.Dec.{eqb}
-use Rattle.code.specs.Op.{Raise}
+use Rattle.ops.specs.Op.{Raise}
 use Rattle.roles.specs.Kinds.{says, ruleOf, none}
 
 -- the byte k of an opcode and a column is what the rule says where a is 0, and but for Raise where it is 1

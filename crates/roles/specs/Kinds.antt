@@ -4,7 +4,81 @@ use mathlib.Core.Bool.{Bool, cond, not, _&&_}
 use mathlib.Core.List.{List, [], _∷_}
 use lib.Dec.{eqb}
 use lib.ListN.{take}
-use Rattle.code.specs.Op.{Jump, JumpIfFalseR, JumpUnlessLt, JumpUnlessLtEq, JumpUnlessGt, JumpUnlessGtEq, JumpUnlessEq, JumpUnlessNotEq, ReturnR, PopTop, PushRegs, StoreTopR, LoadGlobalR, LoadGlobalAtR, UnbindR, UnpackR, SuperR, WrapCellR, CallValueR, Move, MinusR, NotR, AddR, InPlaceAddR, SubR, InPlaceSubR, MulR, DivR, ModR, FloorDivR, BitAndR, BitOrR, BitXorR, ShlR, ShrR, LtR, LtEqR, GtR, GtEqR, EqR, NotEqR, IsR, IsNotR, PowR, InR, NotInR, GetItemR, LenR, GetAttrR, LoadCellR, StoreCellR, StoreItemR, SetAttrR, StoreGlobalR, StoreGlobalAtR, CallGlobalR, CallR, CallMethodR, CallSpreadR, ArgsR, Raise, AppendR, OwnResetR, ListAppendR, SetAddR, MapAddR, ListPushR, ForIterR, ForIter, JumpIfFalse, JumpIfFalseOrPop, JumpIfTrueOrPop, Del}
+use Rattle.ops.specs.Op.{
+  Jump,
+  JumpIfFalseR,
+  JumpUnlessLt,
+  JumpUnlessLtEq,
+  JumpUnlessGt,
+  JumpUnlessGtEq,
+  JumpUnlessEq,
+  JumpUnlessNotEq,
+  ReturnR,
+  PopTop,
+  PushRegs,
+  StoreTopR,
+  LoadGlobalR,
+  LoadGlobalAtR,
+  UnbindR,
+  UnpackR,
+  SuperR,
+  WrapCellR,
+  CallValueR,
+  Move,
+  MinusR,
+  NotR,
+  AddR,
+  InPlaceAddR,
+  SubR,
+  InPlaceSubR,
+  MulR,
+  DivR,
+  ModR,
+  FloorDivR,
+  BitAndR,
+  BitOrR,
+  BitXorR,
+  ShlR,
+  ShrR,
+  LtR,
+  LtEqR,
+  GtR,
+  GtEqR,
+  EqR,
+  NotEqR,
+  IsR,
+  IsNotR,
+  PowR,
+  InR,
+  NotInR,
+  GetItemR,
+  LenR,
+  GetAttrR,
+  LoadCellR,
+  StoreCellR,
+  StoreItemR,
+  SetAttrR,
+  StoreGlobalR,
+  StoreGlobalAtR,
+  CallGlobalR,
+  CallR,
+  CallMethodR,
+  CallSpreadR,
+  ArgsR,
+  Raise,
+  AppendR,
+  OwnResetR,
+  ListAppendR,
+  SetAddR,
+  MapAddR,
+  ListPushR,
+  ForIterR,
+  ForIter,
+  JumpIfFalse,
+  JumpIfFalseOrPop,
+  JumpIfTrueOrPop,
+  Del,
+}
 use Rattle.laws.specs.Page.{Row, _↝_, look}
 use Rattle.code.specs.declared.Ins.{Ins}
 
@@ -12,27 +86,35 @@ use Rattle.code.specs.declared.Ins.{Ins}
 abbrev pub dest : ℕ
 dest = 1
 
+-- the bit that says 'a is read'
 abbrev pub a : ℕ
 a = 2
 
+-- the bit that says 'b is read'
 abbrev pub b : ℕ
 b = 4
 
+-- the bit that says 'c is read'
 abbrev pub c : ℕ
 c = 8
 
+-- the bit that says 'a is where a jump goes'
 abbrev pub jumps : ℕ
 jumps = 16
 
+-- the bit that says 'no role'
 abbrev pub none : ℕ
 none = 32
 
+-- a, b and c in order, as bits
 abbrev pub abc : List ℕ
 abc = a ∷ b ∷ c ∷ []
 
+-- b and c in order, as bits
 abbrev pub bc : List ℕ
 bc = b ∷ c ∷ []
 
+-- some bits as one number
 abbrev pub total : List ℕ → ℕ
 total [] = 0
 total (x ∷ xs) = x + total xs
@@ -41,7 +123,8 @@ total (x ∷ xs) = x + total xs
 abbrev pub firstOf : List ℕ → ℕ → ℕ
 firstOf fields n = total (take n fields)
 
--- what an opcode's rule says: these bits; the first where x is 0, else the second; the first x + k of a, b, c, or of b, c; no bits where a and x are 0, else no role
+-- what an opcode's rule says: these bits; the first where x is 0, else the second; the first x + k of a, b, c, or of b, c; no bits where a and x are 0, else no
+-- role
 pub data Rule : Type 0 where
   Bits : ℕ → Rule
   ByX : ℕ → ℕ → Rule
@@ -70,7 +153,8 @@ page =
     ∷ ((LoadGlobalR ∷ LoadGlobalAtR ∷ UnbindR ∷ UnpackR ∷ []) ↝ Bits dest)
     ∷ ((WrapCellR ∷ []) ↝ Bits (dest + a))
     ∷ ((Move ∷ MinusR ∷ NotR ∷ LenR ∷ GetAttrR ∷ LoadCellR ∷ []) ↝ Bits (dest + b))
-    ∷ ((AddR ∷ InPlaceAddR ∷ SubR ∷ InPlaceSubR ∷ MulR ∷ DivR ∷ ModR ∷ FloorDivR ∷ BitAndR ∷ BitOrR ∷ BitXorR ∷ ShlR ∷ ShrR ∷ LtR ∷ LtEqR ∷ GtR ∷ GtEqR ∷ EqR ∷ NotEqR ∷ IsR ∷ IsNotR ∷ PowR ∷ InR ∷ NotInR ∷ GetItemR ∷ SuperR ∷ []) ↝ Bits (dest + b + c))
+    ∷ ((AddR ∷ InPlaceAddR ∷ SubR ∷ InPlaceSubR ∷ MulR ∷ DivR ∷ ModR ∷ FloorDivR ∷ BitAndR ∷ BitOrR ∷ BitXorR ∷ ShlR ∷ ShrR ∷ LtR ∷ LtEqR ∷ GtR ∷ GtEqR ∷ EqR
+    ∷ NotEqR ∷ IsR ∷ IsNotR ∷ PowR ∷ InR ∷ NotInR ∷ GetItemR ∷ SuperR ∷ []) ↝ Bits (dest + b + c))
     ∷ ((StoreCellR ∷ SetAttrR ∷ CallSpreadR ∷ ListPushR ∷ []) ↝ Bits (a + b))
     ∷ ((StoreItemR ∷ ArgsR ∷ []) ↝ Bits (a + b + c))
     ∷ ((CallGlobalR ∷ []) ↝ FirstBc 0)

@@ -5,12 +5,13 @@ use mathlib.Core.List.{List, [], _∷_, _++_}
 use lib.Dec.{eqb}
 use lib.ListN.{take}
 use Rattle.laws.specs.Page.{Row, _↝_, among, look}
-use Rattle.code.specs.Op.{StoreTopR, UnpackR, WithEnter, WithExit, WithJudge, ForIterR}
+use Rattle.ops.specs.Op.{StoreTopR, UnpackR, WithEnter, WithExit, WithJudge, ForIterR}
 use Rattle.code.specs.declared.Ins.{Ins}
 use Rattle.roles.specs.Kinds.{dest, a, b, c, has, hasRole, kindsOf}
 use Rattle.roles.specs.declared.Case.{Case}
 use Rattle.roles.specs.declared.Case.the-variants.{Store, Unpack, Enter, Exit, Judge, Step, Plain}
 
+-- the opcodes that have a case of their own
 unfoldable pub cases : List (Row Case)
 cases =
     ((StoreTopR ∷ []) ↝ Store)
@@ -35,6 +36,7 @@ abbrev pub readBy : Ins → List ℕ
 readBy i =
     only (hasRole i && has a (kindsOf i)) (i .a) ++ only (hasRole i && has b (kindsOf i)) (i .b) ++ only (hasRole i && has c (kindsOf i)) (i .c)
 
+-- a if `role` says that it is written, else nothing
 abbrev pub destBy : Ins → List ℕ
 destBy i = only (hasRole i && has dest (kindsOf i)) (i .a)
 
@@ -47,6 +49,7 @@ abbrev pub from : ℕ → ℕ → List ℕ
 from r zero = []
 from r (suc m) = r ∷ from (suc r) m
 
+-- m registers from r on if x is not 0, else nothing
 abbrev pub inARow : ℕ → ℕ → ℕ → List ℕ
 inARow x r m = cond (eqb x 0) [] (from r m)
 
@@ -80,9 +83,11 @@ written Judge i = []
 written Step i = only (eqb (i .x) 0) (i .b)
 written Plain i = destBy i
 
+-- the registers that an instruction by itself uses
 unfoldable pub usedBy : Ins → List ℕ
 usedBy i = used (caseOf (i .op)) i
 
+-- the registers that an instruction by itself gives up
 unfoldable pub givenBy : Ins → List ℕ
 givenBy i = given (caseOf (i .op)) i
 

@@ -9,19 +9,24 @@ mod page;
 
 use crate::page::ROLES;
 use code::Ins;
-use code::op::*;
+use ops::*;
 
 // `role` as bits: a is written, which of a, b, c are read, a is a jump's target; or no role.
 pub const DEST: u8 = 1;
 
+// The bit that says 'a is read'.
 pub const A: u8 = 2;
 
+// The bit that says 'b is read'.
 pub const B: u8 = 4;
 
+// The bit that says 'c is read'.
 pub const C: u8 = 8;
 
+// The bit that says 'a is where a jump goes'.
 pub const JUMPS: u8 = 16;
 
+// The bit that says 'no role'.
 pub const NONE: u8 = 32;
 
 // The table, for a loop to make once and lend: this toolchain builds a constant anew wherever it is used.

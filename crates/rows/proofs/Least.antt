@@ -1,4 +1,5 @@
--- What the rows of either route are, in words of any width: the least solution from the final start, nothing below it, no register at or above the count, one answer. Assumes nothing.
+-- What the rows of either route are, in words of any width: the least solution from the final start, nothing below it, no register at or above the count, one
+-- answer. Assumes nothing.
 use mathlib.Core.Path.{_≡_}
 use mathlib.Core.Bool.{Bool, true, false, cond, _||_}
 use mathlib.Core.List.{List}
@@ -43,13 +44,18 @@ module _ (bits : ℕ) (wide : Bool) (regs : ℕ) (w buf : List ℕ) (full lost :
 
   -- a register not below the register count never appears
   pub rows-regs : (k : ℕ) → row (rowsIn bits regs w buf) k < 2 ^ regs
-  rows-regs = found-regs (flow regs w) (routeStart bits wide regs w) inside (rowsIn bits regs w buf) full lost found (λ k. set-lt regs regs (usedAt w k) (le-refl regs))
+  rows-regs = found-regs (flow regs w) (routeStart bits wide regs w) inside (rowsIn bits regs w buf) full lost found
+      (λ k. set-lt regs regs (usedAt w k) (le-refl regs))
 
   -- full sweeps are at most the jumps to their own position or back and two more, and at most one sweep is abandoned
   pub rows-few : (full ≤ backs (flow regs w) start + 2) × (lost ≤ 1)
-  rows-few =
-      (found-few (flow regs w) (routeStart bits wide regs w) inside (rowsIn bits regs w buf) full lost found, found-lost (flow regs w) (routeStart bits wide regs w) inside (rowsIn bits regs w buf) full lost found)
+  rows-few = (
+    found-few (flow regs w) (routeStart bits wide regs w) inside (rowsIn bits regs w buf) full lost found,
+    found-lost (flow regs w)
+        (routeStart bits wide regs w) inside (rowsIn bits regs w buf) full lost found,
+  )
 
   -- any other answer has these rows and counts
-  pub rows-one : (buf′ : List ℕ) (full′ lost′ : ℕ) → Rows bits wide regs w buf′ full′ lost′ → (rowsIn bits regs w buf ≡ rowsIn bits regs w buf′) × (full ≡ full′) × (lost ≡ lost′)
+  pub rows-one : (buf′ : List ℕ) (full′ lost′ : ℕ) → Rows bits wide regs w buf′ full′ lost′ → (rowsIn bits regs w buf ≡ rowsIn bits regs w buf′)
+      × (full ≡ full′) × (lost ≡ lost′)
   rows-one buf′ full′ lost′ other = found-one (flow regs w) (routeStart bits wide regs w) found other

@@ -56,7 +56,8 @@ module _ (bits : ℕ) (wide : Bool) (regs : ℕ) (z : wide || ltb bits regs ≡ 
     pub word-long : (k len : ℕ) → len ≡ k * wordsFor bits regs → len ≡ k
     word-long k len h = h ∙ ap (λ (x : ℕ). k * x) word-one ∙ mul-one k
 
-    pub by-word : (w rows rows₀ : List ℕ) (full lost : ℕ) → length rows ≡ length rows₀ → length rows₀ ≡ suc (count w) * wordsFor bits regs → Found (flow regs w) (firstLevel w) rows full lost → Rows bits wide regs w rows full lost
+    pub by-word : (w rows rows₀ : List ℕ) (full lost : ℕ) → length rows ≡ length rows₀ → length rows₀ ≡ suc (count w) * wordsFor bits regs → Found (flow regs w)
+        (firstLevel w) rows full lost → Rows bits wide regs w rows full lost
     unfolding routeStart
     by-word w rows rows₀ full lost h h₀ f =
         subst (λ (l : List ℕ). Found (flow regs w) (cond (wide || ltb bits regs) 0 (firstLevel w)) l full lost) same
@@ -66,10 +67,13 @@ module _ (bits : ℕ) (wide : Bool) (regs : ℕ) (z : wide || ltb bits regs ≡ 
         long = word-long (suc (count w)) (length rows) (h ∙ h₀)
 
         same : rows ≡ rowsOf bits (wordsFor bits regs) (suc (count w)) rows
-        same = sym (ap (λ (x : ℕ). rowsOf bits x (suc (count w)) rows) word-one ∙ rows-one bits (suc (count w)) rows (omega (arith, long)) ∙ take-all (suc (count w)) rows (omega (arith, long)))
+        same = sym (ap (λ (x : ℕ). rowsOf bits x (suc (count w)) rows) word-one ∙ rows-one bits (suc (count w)) rows (omega (arith, long))
+            ∙ take-all (suc (count w)) rows (omega (arith, long)))
 
-pub by-wide : (bits : ℕ) (wide : Bool) (regs m : ℕ) (w rows : List ℕ) (full lost : ℕ) → wide || ltb bits regs ≡ true → m ≡ wordsFor bits regs → Found (flow regs w) 0 (rowsOf bits m (suc (count w)) rows) full lost → Rows bits wide regs w rows full lost
+pub by-wide : (bits : ℕ) (wide : Bool) (regs m : ℕ) (w rows : List ℕ) (full lost : ℕ) → wide || ltb bits regs ≡ true → m ≡ wordsFor bits regs
+    → Found (flow regs w) 0 (rowsOf bits m (suc (count w)) rows) full lost → Rows bits wide regs w rows full lost
 unfolding routeStart
 by-wide bits wide regs m w rows full lost z e f =
-    subst (λ (x : ℕ). Found (flow regs w) x (rowsOf bits (wordsFor bits regs) (suc (count w)) rows) full lost) (sym (ap (λ (t : Bool). cond t 0 (firstLevel w)) z))
+    subst (λ (x : ℕ). Found (flow regs w) x (rowsOf bits (wordsFor bits regs) (suc (count w)) rows) full lost)
+    (sym (ap (λ (t : Bool). cond t 0 (firstLevel w)) z))
     (subst (λ (x : ℕ). Found (flow regs w) 0 (rowsOf bits x (suc (count w)) rows) full lost) e f)

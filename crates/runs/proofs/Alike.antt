@@ -6,8 +6,8 @@ use mathlib.Core.List.{List}
 use lib.Dec.{eqb}
 use lib.ListN.{getD}
 use borrow.Author.Tests.{eqb-true}
-use Rattle.code.specs.Op as op
-use Rattle.chunk.specs.Pool.{toVal}
+use Rattle.ops.specs.Op as op
+use Rattle.pool.specs.Pool.{toVal}
 use Rattle.fold.specs.declared.Kind.{Kind}
 use Rattle.fold.specs.declared.Kind.the-variants.{Binop, Not, Minus, Other}
 use Rattle.runs.specs.Machine.{Ins, Jump, JumpIfFalse, pushOf, plain, read}

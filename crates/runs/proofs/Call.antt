@@ -11,9 +11,9 @@ use borrow.Author.Tests.{eqb-true}
 use Rattle.laws.specs.All.{every}
 use Rattle.laws.specs.Each.{each}
 use Rattle.laws.proofs.Each.{each-word, each-at}
-use Rattle.code.specs.Op.{Phi}
-use Rattle.lent.specs.Chunk.{stride, chunkCount, opAt, isPhi, folds}
-use Rattle.lent.specs.declared.Counts.{Counts}
+use Rattle.ops.specs.Op.{Phi}
+use Rattle.chunk.specs.Chunk.{stride, chunkCount, opAt, isPhi, folds}
+use Rattle.chunk.specs.declared.Counts.{Counts}
 use Rattle.laws.proofs.Counting.{every-at, zeros-at}
 use Rattle.fold.specs.Plan.{Chunk, chunk}
 use Rattle.fold.specs.Pass.{Bars, byScan, foldAll}
@@ -146,7 +146,8 @@ module _ (b : Buffers) (tries landings : List ℕ) (c : Counts) (rule : WishRule
       RunsAs (b .code) (b .kinds) (b .words) (chunkCount (b .code)) (o .after .code) (o .after .kinds) (o .after .words) (g .constants) (g .instructions))
       (a .counts)
       (subst
-      (λ (k : ℕ). RunsAs (b .code) (b .kinds) (b .words) k (o .after .code) (o .after .kinds) (o .after .words) (o .answer .constants) (o .answer .instructions))
+      (λ (k : ℕ). RunsAs (b .code) (b .kinds) (b .words) k (o .after .code) (o .after .kinds) (o .after .words) (o .answer .constants)
+      (o .answer .instructions))
       l y))
 
   -- Every run from an empty stack that ends before folding ends after it with the same stack or the same stop, and back.

@@ -7,13 +7,13 @@ use mathlib.Core.List.{List}
 use lib.Dec.{eqb}
 use lib.ListN.{length}
 use borrow.Author.Tests.{eq-eqb}
-use Rattle.code.specs.Op.{Jump, JumpIfFalse, LoadConst}
-use Rattle.code.specs.declared.Checked.{Checked}
-use Rattle.code.specs.declared.Checked.the-variants.{Count, No as Refused}
-use Rattle.code.proofs.Stages.{room-before}
-use Rattle.lent.specs.Chunk.{chunkCount, opAt, markAt, operandAt, names}
-use Rattle.lent.specs.Tables.{constantsKept, tableOf}
-use Rattle.lent.specs.Check.{chunkCheckOf}
+use Rattle.ops.specs.Op.{Jump, JumpIfFalse, LoadConst}
+use Rattle.refusals.specs.declared.Checked.{Checked}
+use Rattle.refusals.specs.declared.Checked.the-variants.{Count, No as Refused}
+use Rattle.refusals.proofs.Stages.{room-before}
+use Rattle.chunk.specs.Chunk.{chunkCount, opAt, markAt, operandAt, names}
+use Rattle.chunk.specs.Tables.{constantsKept, tableOf}
+use Rattle.chunk.specs.Check.{chunkCheckOf}
 use Rattle.fold.specs.Plan.{kindOf}
 use Rattle.named.specs.Unused.{constantNamed, before, pooled, recoded}
 use Rattle.clear.specs.Clear as clearing

@@ -5,7 +5,7 @@ use mathlib.Core.Path.{_≡_, refl, sym, _∙_}
 use mathlib.Core.List.{List}
 use lib.ListN.{length, take, length-take}
 use lib.Seq.{getD-take}
-use Rattle.lent.specs.Chunk.{stride, chunkCount, opAt, markAt, operandAt}
+use Rattle.chunk.specs.Chunk.{stride, chunkCount, opAt, markAt, operandAt}
 use Rattle.runs.specs.Machine.{ins, Plain}
 use Rattle.runs.specs.Rule.{Ruled, WishRule}
 use Rattle.runs.specs.Kept.{Same}

@@ -4,11 +4,11 @@ use native.Mathlib.Omega.{arith}
 use mathlib.Core.Path.{_≡_, refl}
 use mathlib.Core.List.{[], _∷_}
 use lib.IntN.{pos}
-use Rattle.code.specs.Op as op
+use Rattle.ops.specs.Op as op
 use Rattle.values.specs.Folds.{foldBinop, ints, inRange}
 use Rattle.values.specs.declared.Val.the-variants.{Int}
 use Rattle.values.specs.declared.Op.the-variants.{Add}
-use Rattle.chunk.specs.Pool.{toVal}
+use Rattle.pool.specs.Pool.{toVal}
 use Rattle.fold.specs.declared.Kind.the-variants.{Binop}
 use Rattle.fold.specs.Plan.{operatorPage, kindOf}
 use Rattle.runs.specs.Machine.{Known, None, Stack, isTrue, Ins, End, Left, Short, At, Stop, binopV, answer, apply, test, act, Run, ends, stops, goes}

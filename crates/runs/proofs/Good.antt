@@ -21,7 +21,7 @@ use Rattle.values.specs.declared.Divmod.{Divmod}
 use Rattle.values.specs.declared.Divmod.the-variants.{Into, ByZero}
 use Rattle.values.specs.declared.Op.{Op}
 use Rattle.values.specs.declared.Op.the-variants.{Add, Sub, Mul, Div, Mod, FloorDiv, Eq, NotEq, Lt, Gt, LtEq, GtEq, BitAnd, BitOr, BitXor, Shl, Shr}
-use Rattle.chunk.specs.Pool.{toVal}
+use Rattle.pool.specs.Pool.{toVal}
 
 abbrev pub Good : Val → Type 0
 Good (Int z) = mag z < 2 ^ 47

@@ -8,12 +8,12 @@ use mathlib.Core.List.{List}
 use lib.Dec.{eqb}
 use lib.ListN.{length, getD}
 use borrow.Author.Tests.{eqb-true, eqb-false}
-use Rattle.code.specs.Op as op
-use Rattle.lent.specs.Chunk.{opAt, operandAt, marksJump}
+use Rattle.ops.specs.Op as op
+use Rattle.chunk.specs.Chunk.{opAt, operandAt, marksJump}
 use Rattle.values.specs.declared.Val.the-variants.{Bool as Truth}
 use Rattle.values.specs.declared.Maybe.{Maybe}
 use Rattle.values.specs.declared.Maybe.the-variants.{Is, Nothing}
-use Rattle.chunk.specs.Pool.{toVal}
+use Rattle.pool.specs.Pool.{toVal}
 use Rattle.fold.specs.declared.Kind.{Kind}
 use Rattle.fold.specs.declared.Kind.the-variants.{Binop, Not, Minus, Other}
 use Rattle.fold.specs.Plan.{kindOf}

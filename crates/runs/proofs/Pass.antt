@@ -8,13 +8,13 @@ use mathlib.Core.List.{List, [], _∷_, _++_}
 use lib.Dec.{ltb, leb, eqb}
 use lib.ListN.{getD}
 use borrow.Author.Tests.{ltb-true, ltb-false, eqb-true, le-leb, lt-leb}
-use Rattle.lent.specs.Chunk.{stride, chunkCount, opAt, operandAt}
+use Rattle.chunk.specs.Chunk.{stride, chunkCount, opAt, operandAt}
 use Rattle.landings.specs.Landings.{landsAny}
 use Rattle.values.specs.declared.Val.{Val}
 use Rattle.values.specs.declared.Op.{Op}
 use Rattle.values.specs.declared.Maybe.the-variants.{Is}
 use Rattle.values.specs.Folds.{foldBinop}
-use Rattle.chunk.specs.Inner.{PushRoom}
+use Rattle.pool.specs.Inner.{PushRoom}
 use Rattle.fold.specs.declared.Kind.{Kind}
 use Rattle.fold.specs.declared.Kind.the-variants.{Binop, Not, Minus, Other}
 use Rattle.fold.specs.declared.Plan.{Plan}

@@ -16,20 +16,20 @@ use mir.Syntax.{w64}
 use mir.Val.{ofZ}
 use Rattle.laws.proofs.Walk.{first-passes}
 use Rattle.laws.proofs.Branch.{and-true}
-use Rattle.code.specs.Op.{Jump, JumpIfFalse, LoadConst, LoadTrue, LoadFalse}
+use Rattle.ops.specs.Op.{Jump, JumpIfFalse, LoadConst, LoadTrue, LoadFalse}
 use Rattle.values.proofs.Word.{back-ok}
 use Rattle.values.specs.Folds.{inRange}
 use Rattle.values.specs.declared.Val.{Val}
 use Rattle.values.specs.declared.Val.the-variants.{Int, Float as Real, Bool as Truth}
 use Rattle.values.specs.declared.Maybe.the-variants.{Is}
-use Rattle.chunk.specs.Pool.{toVal, equals, position, Stored, stored, findOrPush, findOrPushConst}
-use Rattle.chunk.specs.Inner.{PushRoom}
-use Rattle.chunk.specs.declared.Kept.{Kept}
-use Rattle.chunk.specs.declared.Kept.the-variants.{At, Full}
+use Rattle.pool.specs.Pool.{toVal, equals, position, Stored, stored, findOrPush, findOrPushConst}
+use Rattle.pool.specs.Inner.{PushRoom}
+use Rattle.pool.specs.declared.Kept.{Kept}
+use Rattle.pool.specs.declared.Kept.the-variants.{At, Full}
 use Rattle.fold.specs.Plan.{operatorPage, kindOf}
 use Rattle.fold.specs.Pass.{loadOf, constLoad}
 use Rattle.fold.specs.declared.Loaded.the-variants.{As}
-use Rattle.lent.specs.Chunk.{folds}
+use Rattle.chunk.specs.Chunk.{folds}
 use Rattle.runs.specs.Machine.{Known, Push, pushOf, plain, read}
 use Rattle.runs.specs.Rule.{known}
 use Rattle.runs.proofs.Good.{Good}
@@ -139,7 +139,8 @@ kept-loads s k w count kinds words v e h o x m q = go (s .kept) refl q
         (record { reads = rw (p .kind, p .word, e) refl; there = λ _. p .below; calm = refl; listed = refl; least = p .least })
     go Full g q = absurd (let z : _≡_ {A = ℕ} 0 1 = cc in omega arith)
 
-pub load-back : (v : Val) → Good v → (count : ℕ) (kinds words : List ℕ) → PushRoom kinds words count → (o x m : ℕ) → constLoad v kinds words count .load ≡ As o x m
+pub load-back : (v : Val) → Good v → (count : ℕ) (kinds words : List ℕ) → PushRoom kinds words count → (o x m : ℕ) → constLoad v kinds words count .load ≡ As o
+    x m
     → Loads v count (constLoad v kinds words count .kinds) (constLoad v kinds words count .words) o x m
 unfolding constLoad findOrPushConst toVal inRange read plain kindOf operatorPage known folds
 load-back (Int z) g count kinds words r o x m e =

@@ -8,7 +8,7 @@ use mathlib.Core.List.{List, []}
 use lib.ListN.{length, getD}
 use Rattle.laws.proofs.Branch.{or-false}
 use Rattle.laws.specs.All.{many}
-use Rattle.lent.specs.Chunk.{chunkCount, opAt}
+use Rattle.chunk.specs.Chunk.{chunkCount, opAt}
 use Rattle.landings.specs.Landings.{landsAny, handlesAny, barred}
 use Rattle.fold.specs.Plan.{Chunk}
 use Rattle.fold.specs.Pass.{Bars, byScan, folded, foldAll}
@@ -84,7 +84,8 @@ module _ (bars : Bars) (strict : Strict bars) (s : Chunk) (fresh : Fresh s) wher
   long = all .kept .dead-long
 
   -- compacted
-  runs : (e : End) → RunEnds (s .code) (s .kinds) (s .words) n e ↔ RunEnds (compacted (t .dead) (t .code)) (t .kinds) (t .words) (live (t .dead) (length (t .dead))) e
+  runs : (e : End) → RunEnds (s .code) (s .kinds) (s .words) n e ↔ RunEnds (compacted (t .dead) (t .code)) (t .kinds) (t .words)
+      (live (t .dead) (length (t .dead))) e
   runs e =
       let b = blank (s .code) (s .dead) (s .kinds) (s .words) n (λ k h. fresh .blank k) e in
       let m = all .kept .runs e in

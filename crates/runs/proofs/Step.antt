@@ -10,8 +10,8 @@ use lib.ListN.{length, getD, set, length-set}
 use lib.Seq.{getD-set-same, getD-set-other}
 use borrow.Author.Tests.{ltb-false, leb-false, eqb-true, eqb-false, eq-eqb, ne-eqb}
 use Rattle.laws.proofs.Some.{passes-at}
-use Rattle.code.specs.Op as op
-use Rattle.lent.specs.Chunk.{stride, chunkCount, opAt, operandAt, marksJump, lands}
+use Rattle.ops.specs.Op as op
+use Rattle.chunk.specs.Chunk.{stride, chunkCount, opAt, operandAt, marksJump, lands}
 use Rattle.landings.specs.Landings.{landsAny}
 use Rattle.values.specs.declared.Val.{Val}
 use Rattle.values.specs.declared.Val.the-variants.{Int, Float as Real, Bool as Truth}
@@ -19,7 +19,7 @@ use Rattle.values.specs.declared.Op.{Op}
 use Rattle.values.specs.declared.Maybe.{Maybe}
 use Rattle.values.specs.declared.Maybe.the-variants.{Is, Nothing}
 use Rattle.values.specs.Folds.{foldBinop, foldNot}
-use Rattle.chunk.specs.Pool.{toVal, constToVal}
+use Rattle.pool.specs.Pool.{toVal, constToVal}
 use Rattle.fold.specs.declared.Kind.{Kind}
 use Rattle.fold.specs.declared.Kind.the-variants.{Binop, Not, Minus, Other}
 use Rattle.fold.specs.Plan.{Chunk, chunk, operatorPage, kindOf, operandOf, foldUnary}

@@ -10,7 +10,7 @@ use lib.Dec.{eqb}
 use lib.ListN.{getD}
 use borrow.Author.Tests.{eqb-true, eqb-false}
 use Rattle.laws.proofs.Branch.{or-false}
-use Rattle.lent.specs.Chunk.{opAt}
+use Rattle.chunk.specs.Chunk.{opAt}
 use Rattle.values.specs.declared.Val.{Val}
 use Rattle.values.specs.declared.Op.{Op}
 use Rattle.values.specs.declared.Maybe.{Maybe}

@@ -4,7 +4,7 @@ use mathlib.Core.Path.{_≡_}
 use mathlib.Core.Bool.{false}
 use mathlib.Core.List.{List}
 use lib.ListN.{length, getD}
-use Rattle.lent.specs.Chunk.{stride}
+use Rattle.chunk.specs.Chunk.{stride}
 use Rattle.landings.specs.Landings.{landsAny}
 use Rattle.fold.specs.Plan.{Chunk}
 use Rattle.fold.specs.Pass.{Bars}

@@ -6,8 +6,8 @@ use mathlib.Core.List.{List, [], _∷_}
 use lib.Dec.{eqb}
 use lib.IntN.{pos}
 use lib.ListN.{getD}
-use Rattle.code.specs.Op as op
-use Rattle.lent.specs.Chunk.{opAt, operandAt, marksJump}
+use Rattle.ops.specs.Op as op
+use Rattle.chunk.specs.Chunk.{opAt, operandAt, marksJump}
 use Rattle.values.specs.Python.{eqZ}
 use Rattle.values.specs.Folds.{foldBinop, foldNeg, isZero}
 use Rattle.values.specs.declared.Val.{Val}
@@ -15,7 +15,7 @@ use Rattle.values.specs.declared.Val.the-variants.{Int, Float as Real, Bool as 
 use Rattle.values.specs.declared.Maybe.{Maybe}
 use Rattle.values.specs.declared.Maybe.the-variants.{Is, Nothing}
 use Rattle.values.specs.declared.Op.{Op}
-use Rattle.chunk.specs.Pool.{toVal}
+use Rattle.pool.specs.Pool.{toVal}
 use Rattle.fold.specs.declared.Kind.{Kind}
 use Rattle.fold.specs.declared.Kind.the-variants.{Binop, Not, Minus, Other}
 use Rattle.fold.specs.Plan.{kindOf}
@@ -25,6 +25,7 @@ pub data Value : Type 0 where
   Known : Val → Value
   None : Value
 
+-- the values that a run has at hand, the last pushed first
 abbrev pub Stack : Type 0
 Stack = List Value
 
@@ -62,10 +63,12 @@ binopV o (Known a) (Known b) = foldBinop o a b
 binopV o (Known a) None = Nothing
 binopV o None b = Nothing
 
+-- Minus works by the fold rules too, and none is no operand of it
 unfoldable pub negV : Value → Maybe
 negV (Known a) = foldNeg a
 negV None = Nothing
 
+-- after an operator at k: a result is pushed and the run goes on; without one it stops, with the operator and its operands
 unfoldable pub answer : Kind → Stack → Maybe → Stack → ℕ → Onto
 answer kind operands (Is v) s k = At (suc k) (Known v ∷ s)
 answer kind operands Nothing s k = Stop (NoResult kind operands)
@@ -88,6 +91,7 @@ unfolding isTrue
 test t [] k = Stop ShortTest
 test t (v ∷ s) k = At (cond (isTrue v) (suc k) t) s
 
+-- what an instruction at k does with the stack s: the run goes on somewhere, or it stops
 unfoldable pub act : Ins → Stack → ℕ → Onto
 unfolding apply test
 act (Push v) s k = At (suc k) (v ∷ s)
@@ -110,6 +114,7 @@ unfoldable pub pushOf : Maybe → ℕ → ℕ → Ins
 pushOf (Is v) kind w = Push (Known v)
 pushOf Nothing kind w = Unread kind w
 
+-- an instruction that is no operator: a jump, a load, or an opcode that the machine has not
 unfoldable pub plain : ℕ → ℕ → List ℕ → List ℕ → Ins
 unfolding pushOf
 plain o x kinds words =
@@ -120,6 +125,7 @@ plain o x kinds words =
     (cond (eqb o op.LoadFalse) (Push (Known (Truth false)))
     (cond (eqb o op.LoadNone) (Push None) (Apply Other))))))
 
+-- an instruction by what its opcode folds as, its opcode and its operand
 unfoldable pub read : Kind → ℕ → ℕ → List ℕ → List ℕ → Ins
 unfolding plain
 read (Binop b) o x kinds words = Apply (Binop b)
@@ -127,6 +133,7 @@ read Not o x kinds words = Apply Not
 read Minus o x kinds words = Apply Minus
 read Other o x kinds words = plain o x kinds words
 
+-- instruction k of a chunk with these constants
 unfoldable pub ins : List ℕ → List ℕ → List ℕ → ℕ → Ins
 unfolding read
 ins code kinds words k = read (kindOf (opAt code k)) (opAt code k) (operandAt code k) kinds words

@@ -4,8 +4,8 @@ use mathlib.Core.Path.{_≡_}
 use mathlib.Core.Bool.{Bool, true, _||_}
 use mathlib.Core.List.{List}
 use lib.Dec.{eqb}
-use Rattle.code.specs.Op.{LoadConst, LoadTrue, LoadFalse, LoadNone, Jump, JumpIfFalse}
-use Rattle.lent.specs.Chunk.{chunkCount, opAt, folds}
+use Rattle.ops.specs.Op.{LoadConst, LoadTrue, LoadFalse, LoadNone, Jump, JumpIfFalse}
+use Rattle.chunk.specs.Chunk.{chunkCount, opAt, folds}
 use Rattle.runs.specs.Machine.{Plain}
 
 -- LoadConst, LoadTrue, LoadFalse, LoadNone, the folding operators, Jump and JumpIfFalse

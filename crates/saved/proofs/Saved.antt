@@ -28,24 +28,36 @@ use Rattle.frames.proofs.Resumes.{alike-return, alike-thrown}
 
 -- the kept-register call answered, and k is a level of the code
 module _ (bits : ℕ) (w : List ℕ) (regs : ℕ) (tries : List ℕ) (wide : Bool) (rows offsets list : List ℕ) (new o l : List ℕ) (total full abandoned : ℕ)
-    (out : Outcome bits w regs tries wide rows offsets list new o l (Is total full abandoned)) (k : ℕ) (inCode : k < count w) (level : isLevel (insAt w k) ≡ true)
+    (out : Outcome bits w regs tries wide rows offsets list new o l (Is total full abandoned)) (k : ℕ) (inCode : k < count w)
+    (level : isLevel (insAt w k) ≡ true)
     (s : Saver) (ok : Sound s) (same : regsOf s ≡ regs) where
   -- its list is never refused with 14
   pub list-fine : length (partAt o l k) ≤ firstStrange (regsOf s) (partAt o l k)
   list-fine = fine-list (regsOf s) (partAt o l k)
-      (λ r m. subst (λ (n : ℕ). r < n) (sym same) (demand-3 bits w regs tries wide rows offsets list new o l total full abandoned out k inCode level .below r m))
+      (λ r m. subst (λ (n : ℕ). r < n) (sym same) (demand-3 bits w regs tries wide rows offsets list new o l total full abandoned out k inCode level .below r
+      m))
       (kept-each-once bits w regs tries wide rows offsets list new o l total full abandoned out k inCode level)
 
   -- so an entry is refused with 8 where free words are fewer than twice the list plus two ..
   pub no-room : freeOf (inUse s) < 2 * length (partAt o l k) + 2 → enterOf s (partAt o l k) (resultAt w k) ≡ ends s (Full (freeOf (inUse s)))
   unfolding enterOf
-  no-room h = rw (le-ltb 64 (regsOf s) (ok .few), le-ltb (firstStrange (regsOf s) (partAt o l k)) (length (partAt o l k)) list-fine, lt-ltb (freeOf (inUse s)) (needOf (partAt o l k)) h)
+  no-room h = rw (
+    le-ltb 64 (regsOf s) (ok .few),
+    le-ltb (firstStrange (regsOf s) (partAt o l k)) (length (partAt o l k)) list-fine,
+    lt-ltb (freeOf (inUse s))
+        (needOf (partAt o l k)) h,
+  )
 
   -- .. and goes through everywhere else
   pub room : 2 * length (partAt o l k) + 2 ≤ freeOf (inUse s)
       → enterOf s (partAt o l k) (resultAt w k) ≡ ends (entered s (partAt o l k) (resultAt w k)) (Used (inUse s + (2 * length (partAt o l k) + 2)))
   unfolding enterOf
-  room h = rw (le-ltb 64 (regsOf s) (ok .few), le-ltb (firstStrange (regsOf s) (partAt o l k)) (length (partAt o l k)) list-fine, le-ltb (freeOf (inUse s)) (needOf (partAt o l k)) h)
+  room h = rw (
+    le-ltb 64 (regsOf s) (ok .few),
+    le-ltb (firstStrange (regsOf s) (partAt o l k)) (length (partAt o l k)) list-fine,
+    le-ltb (freeOf (inUse s))
+        (needOf (partAt o l k)) h,
+  )
 
   -- the level is entered, anything well bracketed happens, with registers overwritten at will, and the call is left
   module _ (u : ℕ) (entry : enterOf s (partAt o l k) (resultAt w k) .answer ≡ Used u) (es : List CallEvent) (bracketed : Matched es)

@@ -3,7 +3,7 @@ use Prim.Native.Nat.{ℕ}
 use mathlib.Core.Path.{_≡_}
 use mathlib.Core.List.{List, [], _∷_}
 use lib.ListN.{length}
-use Rattle.code.specs.declared.Answer.{Answer}
+use Rattle.refusals.specs.declared.Answer.{Answer}
 use Rattle.saver.specs.Saver.{Saver, saver}
 use Rattle.leaves.specs.Leaving.{Back}
 use Rattle.frames.specs.Frames.{CallEvent, enters, writes, leaves, Matched}

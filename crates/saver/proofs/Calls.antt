@@ -22,7 +22,8 @@ module _ (head : List ℕ) (regs : ℕ) where
 pub ruleset makes = (make-large, make-done)
 
 -- room, and registers that are in the file
-pub enter-fit : (regs used free i : ℕ) (l : List ℕ) → regs ≤ 64 → i ≡ firstStrange regs l → length l ≤ i → free ≡ freeOf used → length l < free / 2 → StoreRoom used l
+pub enter-fit : (regs used free i : ℕ) (l : List ℕ) → regs ≤ 64 → i ≡ firstStrange regs l → length l ≤ i → free ≡ freeOf used → length l < free / 2
+    → StoreRoom used l
 enter-fit regs used free i l few e fine g x = record { room = omega arith; below = λ k y. below k y }
   where
     below : (k : ℕ) → k < length l → getD l k 0 < 64

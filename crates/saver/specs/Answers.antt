@@ -1,6 +1,6 @@
 -- What the exported saver calls answer, by the refusals of document 02. Assumes nothing.
-use Rattle.code.specs.Answers.{answerOf, refusalOf}
-use Rattle.code.specs.declared.Answer.{Answer}
+use Rattle.refusals.specs.Answers.{answerOf, refusalOf}
+use Rattle.refusals.specs.declared.Answer.{Answer}
 use Rattle.saver.specs.declared.SaverAnswer.{SaverAnswer}
 use Rattle.saver.specs.declared.SaverAnswer.the-variants.{Used, Registers, Listed, Full, Nothing}
 

@@ -17,12 +17,15 @@ pub record Saver : Type 0 where
   pub area : List ℕ
   pub file : List ℕ
 
+-- a saver with this head, this save area and this register file
 abbrev pub saver : List ℕ → List ℕ → List ℕ → Saver
 saver h a f = record { head = h; area = a; file = f }
 
+-- the number of registers that its head has
 abbrev pub regsOf : Saver → ℕ
 regsOf s = getD (s .head) 0 0
 
+-- how many words of its area are in use
 abbrev pub inUse : Saver → ℕ
 inUse s = getD (s .head) 1 0
 
@@ -31,6 +34,7 @@ pub record Ends : Type 0 where
   pub left : Saver
   pub answer : SaverAnswer
 
+-- this saver left, and this answer
 abbrev pub ends : Saver → SaverAnswer → Ends
 ends s a = record { left = s; answer = a }
 
@@ -38,6 +42,7 @@ ends s a = record { left = s; answer = a }
 abbrev pub madeHead : List ℕ → ℕ → List ℕ
 madeHead head regs = cond (ltb 64 regs) head (set (set head 0 regs) 1 0)
 
+-- what making a saver for so many registers leaves in its head, and what it answers
 pub record Made (regs : ℕ) (head new : List ℕ) (r : SaverAnswer) : Type 0 where
   pub words : new ≡ madeHead head regs
   pub answer : r ≡ cond (ltb 64 regs) (Registers regs) (Used 0)

@@ -1,9 +1,9 @@
 // A frame saver: what a level keeps is put aside as a call is entered (document 02, wish 4).
 ghost use mathlib.Core.Path.{_≡_};
-ghost use Rattle.code.specs.Answers.{refusalOf};
+ghost use Rattle.refusals.specs.Answers.{refusalOf};
 ghost use Rattle.saver.specs.Answers.{saverTold};
 ghost use Rattle.saver.specs.Saver.{saver, ends, Made, enterOf};
-use code::Answer;
+use refusals::Answer;
 
 // What a call answers: the words of the area in use after it, or why it is refused.
 pub enum SaverAnswer {
@@ -32,7 +32,7 @@ pub fn told(a: SaverAnswer) -> Answer
     ensures { λ r. ⌜ r ≡ saverTold a ⌝ }
 {
     match a {
-        SaverAnswer::Used(n) => code::tell(n as u64, 0, 0, 0),
+        SaverAnswer::Used(n) => refusals::tell(n as u64, 0, 0, 0),
         SaverAnswer::Registers(n) => refuse(3, n),
         SaverAnswer::Listed(i) => refuse(14, i),
         SaverAnswer::Full(n) => refuse(8, n),

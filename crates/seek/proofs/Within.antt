@@ -11,7 +11,7 @@ use lib.ListN.{length}
 use mir.Val.{boolByte}
 use Rattle.code.specs.Ins.{insAt, count}
 use Rattle.code.specs.declared.Ins.{Ins}
-use Rattle.code.specs.Op.{Jump, ReturnR}
+use Rattle.ops.specs.Op.{Jump, ReturnR}
 use Rattle.roles.specs.Kinds.{page, ruleOf, kindsOf, isJump}
 use Rattle.steps.specs.Code.{afterAt}
 use Rattle.paths.specs.Search.{ways, Turns}

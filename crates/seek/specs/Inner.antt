@@ -16,6 +16,7 @@ use Rattle.seek.specs.Asked.{seekNext}
 unfoldable pub usesAt : List ℕ → ℕ → ℕ → Bool
 usesAt w r j = among r (usedAt w j)
 
+-- position j gives r up
 unfoldable pub givesAt : List ℕ → ℕ → ℕ → Bool
 givesAt w r j = among r (givenAt w j)
 
@@ -23,6 +24,7 @@ givesAt w r j = among r (givenAt w j)
 abbrev pub onTo : Step → ℕ → ℕ → Bool
 onTo s j n = s .on && ltb (j + 1) n
 
+-- the step jumps to an instruction, not to n
 abbrev pub overTo : Step → ℕ → Bool
 overTo s n = s .to && ltb (s .target) n
 

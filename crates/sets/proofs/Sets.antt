@@ -104,6 +104,7 @@ module _ (regs b run : ℕ) where
 
 -- ---- a row in one word
 
-pub row-is : (bits regs k : ℕ) (s : Step) (rows : List ℕ) (a g u : ℕ) → a ≡ joined (row rows) (afterOf s k) → g ≡ setOf regs (givenOf s) → u ≡ setOf regs (usedOf s)
+pub row-is : (bits regs k : ℕ) (s : Step) (rows : List ℕ) (a g u : ℕ) → a ≡ joined (row rows) (afterOf s k) → g ≡ setOf regs (givenOf s) → u ≡ setOf regs
+    (usedOf s)
     → a < 2 ^ bits → g < 2 ^ bits → bitOr u (bitAnd a ((2 ^ bits - 1) - g)) ≡ rowAt (stepFlow regs s) (row rows) k
 row-is bits regs k s rows a g u = step-word (stepFlow regs s) (row rows) k bits a g u refl

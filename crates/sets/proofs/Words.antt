@@ -54,8 +54,10 @@ module _ (into rows : List ℕ) (at words : ℕ) where
           (ap (λ (x : ℕ). bitOr x (getD rows (at + j) 0)) (front-rest A B j out (p .front)));
     }
 
-    pub joining-done : (bits : ℕ) → 0 < bits → words ≤ j → Small bits into → Small bits rows → Holds bits out (bitOr (value bits into) (value bits (take words (drop at rows))))
-    joining-done bits wide l si sr = joined-row bits wide words at rows sr into out (value bits into) (held bits into si) (subst (λ (x : ℕ). Front A B x out) (whole (p .le)) (p .front))
+    pub joining-done : (bits : ℕ) → 0 < bits → words ≤ j → Small bits into → Small bits rows → Holds bits out
+        (bitOr (value bits into) (value bits (take words (drop at rows))))
+    joining-done bits wide l si sr = joined-row bits wide words at rows sr into out (value bits into) (held bits into si)
+        (subst (λ (x : ℕ). Front A B x out) (whole (p .le)) (p .front))
       where
         whole : j ≤ words → j ≡ words
         whole h = omega arith
@@ -100,13 +102,15 @@ module _ (bits words n k : ℕ) (rows : List ℕ) (s : Step) where
       → Holds bits q (joined (row (rowsOf bits words (suc n) rows)) (afterOf s k))
   after-holds hand wide p q l h hp hq = as-set hq
       (ap (λ (x : ℕ). bitOr x (cond (s .to) (value bits (window words (s .target) rows)) 0))
-      (hp .is ∙ ap (λ (x : ℕ). bitOr x (cond (s .on) (value bits (window words (k + 1) rows)) 0)) (holds-none bits wide hand .is) ∙ or-zero-l (cond (s .on) (value bits (window words (k + 1) rows)) 0) ∙ one (s .on) (k + 1) (omega arith))
+      (hp .is ∙ ap (λ (x : ℕ). bitOr x (cond (s .on) (value bits (window words (k + 1) rows)) 0)) (holds-none bits wide hand .is)
+      ∙ or-zero-l (cond (s .on) (value bits (window words (k + 1) rows)) 0) ∙ one (s .on) (k + 1) (omega arith))
       ∙ ap (bitOr (joined R (only (s .on) (k + 1)))) (one (s .to) (s .target) h)
       ∙ sym (joined-append R (only (s .on) (k + 1)) (only (s .to) (s .target))))
 
   pub row-holds : (regs : ℕ) (a b c d : List ℕ) (l m : List ℕ)
       → Holds bits a (joined (row (rowsOf bits words (suc n) rows)) (afterOf s k))
-      → Holds bits b (minus (value bits a) (setOf regs l)) → Holds bits c (minus (value bits b) (setOf regs m)) → Holds bits d (bitOr (value bits c) (setOf regs (usedOf s)))
+      → Holds bits b (minus (value bits a) (setOf regs l)) → Holds bits c (minus (value bits b) (setOf regs m)) → Holds bits d
+      (bitOr (value bits c) (setOf regs (usedOf s)))
       → givenOf s ≡ l ++ m → Holds bits d (rowAt (stepFlow regs s) (row (rowsOf bits words (suc n) rows)) k)
   row-holds regs a b c d l m ha hb hc hd e = step-words (stepFlow regs s) R k bits a c d refl ha gone hd
     where
@@ -120,12 +124,14 @@ module _ (bits words n k : ℕ) (rows : List ℕ) (s : Step) where
       → Put (stepFlow regs s) (rowsOf bits words (suc n) rows) k (rowsOf bits words (suc n) out) changed
   put-is wide regs out new changed l le sr h st =
       put-row bits words wide (suc n) rows out new k (rowAt (stepFlow regs s) R k) changed (omega arith) sr h
-      (rowAt-lt (stepFlow regs s) (words * bits) R k (set-lt (words * bits) regs (usedOf s) le) (rows-lt bits words wide (suc n) rows sr)) st (stepFlow regs s) refl
+      (rowAt-lt (stepFlow regs s) (words * bits) R k (set-lt (words * bits) regs (usedOf s) le) (rows-lt bits words wide (suc n) rows sr)) st (stepFlow regs s)
+      refl
 
 -- ---- registers of a set
 
 less-none : (bits : ℕ) (s : List ℕ) → Small bits s → Holds bits s (minus (value bits s) 0)
-less-none bits s h = as-set (held bits s h) (sym (bit-ext (minus (value bits s) 0) (value bits s) (λ i. omega (arith, minus-bit (value bits s) 0 i, bit-zero i))))
+less-none bits s h = as-set (held bits s h) (sym (bit-ext (minus (value bits s) 0) (value bits s)
+    (λ i. omega (arith, minus-bit (value bits s) 0 i, bit-zero i))))
 
 more-none : (bits : ℕ) (s : List ℕ) → Small bits s → Holds bits s (bitOr (value bits s) 0)
 more-none bits s h = as-set (held bits s h) (sym (or-zero-r (value bits s)))
@@ -133,7 +139,8 @@ more-none bits s h = as-set (held bits s h) (sym (or-zero-r (value bits s)))
 module _ (bits : ℕ) (s : List ℕ) (regs r : ℕ) (t : Bool) (small : Small bits s) where
   pub with-reg-in : (hand : ℕ) → 0 < bits → t ≡ true → r < regs → length s ≡ hand → regs ≤ hand * bits
       → Holds bits (set s (r / bits) (bitOr (getD s (r / bits) 0) ((1 * 2 ^ (r % bits)) % 2 ^ bits))) (bitOr (value bits s) (setOf regs (only t r)))
-  with-reg-in hand wide e l long room = as-set (with-in bits wide s (value bits s) regs r (held bits s small) (rw long room) l) (ap (bitOr (value bits s)) (sym (reg-in regs r t e l)))
+  with-reg-in hand wide e l long room = as-set (with-in bits wide s (value bits s) regs r (held bits s small) (rw long room) l)
+      (ap (bitOr (value bits s)) (sym (reg-in regs r t e l)))
 
   pub with-reg-past : t ≡ true → regs ≤ r → Holds bits s (bitOr (value bits s) (setOf regs (only t r)))
   with-reg-past e l = rw (reg-past regs r t e l) (more-none bits s small)
@@ -142,9 +149,11 @@ module _ (bits : ℕ) (s : List ℕ) (regs r : ℕ) (t : Bool) (small : Small bi
   with-reg-none e = rw (reg-none regs r t e) (more-none bits s small)
 
   pub without-reg-in : (hand : ℕ) → 0 < bits → t ≡ true → r < regs → length s ≡ hand → regs ≤ hand * bits
-      → Holds bits (set s (r / bits) (bitXor (getD s (r / bits) 0) (bitAnd (getD s (r / bits) 0) ((1 * 2 ^ (r % bits)) % 2 ^ bits)))) (minus (value bits s) (setOf regs (only t r)))
+      → Holds bits (set s (r / bits) (bitXor (getD s (r / bits) 0) (bitAnd (getD s (r / bits) 0) ((1 * 2 ^ (r % bits)) % 2 ^ bits))))
+      (minus (value bits s) (setOf regs (only t r)))
   unfolding minus
-  without-reg-in hand wide e l long room = as-set (without-in bits wide s (value bits s) regs r (held bits s small) (rw long room) l) (ap (minus (value bits s)) (sym (reg-in regs r t e l)))
+  without-reg-in hand wide e l long room = as-set (without-in bits wide s (value bits s) regs r (held bits s small) (rw long room) l)
+      (ap (minus (value bits s)) (sym (reg-in regs r t e l)))
 
   pub without-reg-past : t ≡ true → regs ≤ r → Holds bits s (minus (value bits s) (setOf regs (only t r)))
   without-reg-past e l = rw (reg-past regs r t e l) (less-none bits s small)
@@ -171,4 +180,5 @@ module _ (bits regs b run : ℕ) (s : List ℕ) where
   pub one-off : (rest out : List ℕ) → (run ≡ 0 → ⊥) → Holds bits rest (minus (value bits s) (setOf regs (only true b)))
       → Holds bits out (minus (value bits rest) (setOf regs (from (b + 1) (run - 1)))) → Holds bits out (minus (value bits s) (setOf regs (from b run)))
   one-off rest out n hr ho =
-      as-set (fewer bits (alone regs) (value bits s) rest out (b ∷ []) (from (b + 1) (run - 1)) hr ho) (ap (λ (l : List ℕ). minus (value bits s) (setOf regs l)) (from-next b run n))
+      as-set (fewer bits (alone regs) (value bits s) rest out (b ∷ []) (from (b + 1) (run - 1)) hr ho) (ap (λ (l : List ℕ). minus (value bits s) (setOf regs l))
+      (from-next b run n))

@@ -3,8 +3,8 @@ use Prim.Native.Nat.{ℕ}
 use mathlib.Core.List.{List}
 use Rattle.code.specs.Check.{checkOf}
 use mir.Val.{boolByte}
-use Rattle.code.specs.Answers.{asked, answerOf, refusedOf}
-use Rattle.code.specs.declared.Answer.{Answer}
+use Rattle.refusals.specs.Answers.{asked, answerOf, refusedOf}
+use Rattle.refusals.specs.declared.Answer.{Answer}
 use Rattle.shapes.specs.Shape.{flat, guarded}
 
 -- 1, 2

@@ -5,10 +5,10 @@ use mathlib.Core.List.{List}
 use lib.Dec.{eqb}
 use Rattle.laws.specs.All.{every}
 use Rattle.laws.specs.Some.{some}
-use Rattle.code.specs.Op.{PushRegs, Jump, SetupExcept, Raise, WithEnter, SetupFinally}
+use Rattle.ops.specs.Op.{PushRegs, Jump, SetupExcept, Raise, WithEnter, SetupFinally}
 use Rattle.code.specs.Ins.{insAt, count, register}
 use Rattle.code.specs.declared.Ins.{Ins}
-use Rattle.walks.specs.There.{there}
+use Rattle.sections.specs.There.{there}
 
 -- nothing of its own stays on the stack but the value that a PushRegs hands the Raise right after it
 unfoldable pub flatHere : Ins → Ins → Bool

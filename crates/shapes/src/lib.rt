@@ -5,18 +5,18 @@ ghost use lib.ListN.{length};
 ghost use Rattle.code.specs.Inner.{Whole};
 ghost use Rattle.shapes.specs.Shape.{flatHere, flatAt, flat as flatAll, guards, guarded as guardedAny};
 ghost use Rattle.shapes.specs.Answers.{flatAnswer, guardedAnswer};
-use code::Answer;
-use code::Checked;
 use code::Ins;
-use code::op::*;
+use ops::*;
+use refusals::Answer;
+use refusals::Checked;
 
 // `flat`: refusals 1, 2.
 pub fn flat(code: &[u16]) -> Answer
     ensures { λ r. ⌜ r ≡ flatAnswer (now (code .entry)) ⌝ }
 {
     match code::check(code) {
-        Checked::No(r) => code::refused(r),
-        Checked::Count(_) => code::tell(all_flat(code) as u64, 0, 0, 0),
+        Checked::No(r) => refusals::refused(r),
+        Checked::Count(_) => refusals::tell(all_flat(code) as u64, 0, 0, 0),
     }
 }
 
@@ -25,11 +25,12 @@ pub fn guarded(code: &[u16]) -> Answer
     ensures { λ r. ⌜ r ≡ guardedAnswer (now (code .entry)) ⌝ }
 {
     match code::check(code) {
-        Checked::No(r) => code::refused(r),
-        Checked::Count(_) => code::tell(any_guards(code) as u64, 0, 0, 0),
+        Checked::No(r) => refusals::refused(r),
+        Checked::Count(_) => refusals::tell(any_guards(code) as u64, 0, 0, 0),
     }
 }
 
+// Whether nothing of i stays on the stack, but for the value that a PushRegs hands the Raise right after it.
 fn flat_here(i: Ins, next: Ins) -> bool
     ensures { λ r. ⌜ r ≡ flatHere i next ⌝ }
 {
@@ -39,6 +40,7 @@ fn flat_here(i: Ins, next: Ins) -> bool
     push & (next.op == Raise) | !push & ((o == Jump) | (o == Raise) | register)
 }
 
+// Whether the instruction at k leaves nothing on the stack, but for the value that a Raise right after it takes.
 fn flat_at(code: &[u16], k: usize) -> bool
     requires { ⌜ Whole (now code) × (k < length (now code)) ⌝ }
     ensures { λ r. ⌜ r ≡ flatAt (now (code .entry)) k ⌝ }
@@ -46,6 +48,7 @@ fn flat_at(code: &[u16], k: usize) -> bool
     flat_here(code::ins_at(code, k), code::ins_at(code, k + 1))
 }
 
+// `flat` in accepted code.
 fn all_flat(code: &[u16]) -> bool
     requires { ⌜ Whole (now code) ⌝ }
     ensures { λ r. ⌜ r ≡ flatAll (now (code .entry)) ⌝ }
@@ -62,12 +65,14 @@ fn all_flat(code: &[u16]) -> bool
     true
 }
 
+// Whether i begins a `try` or a `with`.
 fn guards(i: Ins) -> bool
     ensures { λ r. ⌜ r ≡ guards i ⌝ }
 {
     (i.op == SetupExcept) | (i.op == SetupFinally) | (i.op == WithEnter)
 }
 
+// `guarded` in accepted code.
 fn any_guards(code: &[u16]) -> bool
     requires { ⌜ Whole (now code) ⌝ }
     ensures { λ r. ⌜ r ≡ guardedAny (now (code .entry)) ⌝ }

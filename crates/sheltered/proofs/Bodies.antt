@@ -6,7 +6,7 @@ use Prim.Native.Nat.{ℕ, _<_}
 use native.Mathlib.Omega.{arith}
 use Rattle.laws.specs.Walk.{first}
 use Rattle.code.specs.Ins.{insAt, count}
-use Rattle.code.specs.declared.Answer.{Answer}
+use Rattle.refusals.specs.declared.Answer.{Answer}
 use Rattle.flow.specs.Set.{minus}
 use Rattle.flow.specs.Sweep.{row, Found}
 use Rattle.flow.specs.Listed.{listed}

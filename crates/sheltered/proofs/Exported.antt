@@ -9,9 +9,9 @@ use lib.Dec.{ltb}
 use lib.ListN.{length, take, drop}
 use lib.Seq.{take-append-seam}
 use Rattle.code.specs.Ins.{insAt, count}
-use Rattle.code.specs.declared.Answer.{Answer}
-use Rattle.code.specs.declared.Checked.the-variants as stage
-use Rattle.code.specs.declared.Refusal.the-variants.{Short}
+use Rattle.refusals.specs.declared.Answer.{Answer}
+use Rattle.refusals.specs.declared.Checked.the-variants as stage
+use Rattle.refusals.specs.declared.Refusal.the-variants.{Short}
 use Rattle.flow.specs.Sweep.{Found}
 use Rattle.flow.proofs.Answer.{found-least}
 use Rattle.flow.proofs.Rows.{In}

@@ -11,7 +11,7 @@ use lib.Dec.{ltb}
 use lib.ListN.{length, getD}
 use lib.Seq.{ext-getD, length-take-le}
 use Rattle.code.specs.Ins.{count}
-use Rattle.code.specs.declared.Answer.{Answer}
+use Rattle.refusals.specs.declared.Answer.{Answer}
 use Rattle.flow.specs.Set.{bit, alone}
 use Rattle.flow.specs.Run.{valuesOf, wrote, chosen}
 use Rattle.flow.specs.Kept.{handlersOf}

@@ -4,8 +4,8 @@ use mathlib.Core.Bool.{Bool, true, false}
 use mathlib.Core.List.{List, [], _∷_, List·Memᴰ}
 use Prim.Native.Nat.{ℕ, _+_, _≤_, _<_}
 use Rattle.code.specs.Ins.{insAt, count}
-use Rattle.code.specs.Answers.{answerOf}
-use Rattle.code.specs.declared.Answer.{Answer}
+use Rattle.refusals.specs.Answers.{answerOf}
+use Rattle.refusals.specs.declared.Answer.{Answer}
 use Rattle.flow.specs.Flow.{Least}
 use Rattle.flow.specs.Sweep.{row, startOf}
 use Rattle.flow.specs.Demand.{Keeps, Lost, Once}
@@ -28,6 +28,7 @@ RaisingCall w regs tries all b r a = ListsCall (raising (mays all w) regs w trie
 abbrev pub RaisingSettles : List ℕ → ℕ → List ℕ → Bool → Type 0
 RaisingSettles w regs tries all = ListsSettles (raising (mays all w) regs w tries) (beginsAt regs w) 64 w regs tries
 
+-- what an answer of kept_raising says: its lists are enough in every run of nested frames, with no register to spare and none twice
 pub record RaisingHolds (w : List ℕ) (regs : ℕ) (tries : List ℕ) (all : Bool) (r : Answer) (a : Lists) : Type 0 where
   -- in a run in which at every level all registers but those listed and the result are overwritten at will, calls return or raise, and what may
   -- raise goes on in a handler around it, as often as it likes, all that is read is what the undisturbed run reads

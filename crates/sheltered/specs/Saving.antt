@@ -5,7 +5,7 @@ use mathlib.Core.List.{List, [], _∷_, _++_}
 use Prim.Native.Nat.{ℕ, _≤_, _<_}
 use lib.ListN.{getD, replicate}
 use Rattle.code.specs.Ins.{insAt, count}
-use Rattle.code.specs.declared.Answer.{Answer}
+use Rattle.refusals.specs.declared.Answer.{Answer}
 use Rattle.flow.specs.Run.{valuesOf, fileAfter, chosen}
 use Rattle.flow.specs.Kept.{handlersOf}
 use Rattle.steps.specs.Code.{setOf, usedAt}

@@ -6,15 +6,16 @@ use native.Mathlib.Decide.{decLt}
 use native.Mathlib.Omega.{arith}
 use lib.ListN.{length, List·getD-eq-default}
 use Rattle.code.specs.Ins.{insAt, count}
-use Rattle.code.specs.Check.{checkOf, insideOf}
+use Rattle.code.specs.Check.{checkOf}
+use Rattle.refusals.specs.Stages.{insideOf}
 use Rattle.code.specs.Inner.{Valid}
 use Rattle.code.specs.declared.Ins.{Ins}
-use Rattle.code.specs.declared.Checked.{Checked}
-use Rattle.code.specs.declared.Checked.the-variants.{Count}
+use Rattle.refusals.specs.declared.Checked.{Checked}
+use Rattle.refusals.specs.declared.Checked.the-variants.{Count}
 use Rattle.stack.specs.Inner.{Narrow}
 use Rattle.code.proofs.Rules.{x-small}
 use Rattle.code.proofs.Checks.{count-of}
-use Rattle.code.proofs.Stages.{at-before, at-inside}
+use Rattle.refusals.proofs.Stages.{at-before, at-inside}
 
 narrow-in : (w : List ℕ) (k : ℕ) → Valid w → Dec (k < count w) → insAt w k .x ≤ 255
 narrow-in w k v (yes h) = x-small (insAt w k) k (insAt w (k + 1) .op) (v .kept k h)

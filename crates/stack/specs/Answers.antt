@@ -1,9 +1,10 @@
 -- What `stack_callee` answers: refusals 1, 2, 6, else the push and its register, or nothing. Assumes nothing.
 use Prim.Native.Nat.{ℕ}
 use mathlib.Core.List.{List}
-use Rattle.code.specs.Check.{checkOf, insideOf}
-use Rattle.code.specs.Answers.{asked, answerOf, refusedOf}
-use Rattle.code.specs.declared.Answer.{Answer}
+use Rattle.code.specs.Check.{checkOf}
+use Rattle.refusals.specs.Stages.{insideOf}
+use Rattle.refusals.specs.Answers.{asked, answerOf, refusedOf}
+use Rattle.refusals.specs.declared.Answer.{Answer}
 use Rattle.stack.specs.Stack.{stackCallee}
 use Rattle.stack.specs.declared.Source.{Source}
 use Rattle.stack.specs.declared.Source.the-variants.{From, Lost}

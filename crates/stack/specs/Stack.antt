@@ -4,7 +4,43 @@ use mathlib.Core.Bool.{cond}
 use mathlib.Core.List.{List, [], _∷_}
 use lib.Dec.{eqb, ltb, leb}
 use Rattle.laws.specs.Page.{Row, _↝_, look}
-use Rattle.code.specs.Op.{PushRegs, StoreTopR, PopTop, Dup, BuildSlice, BuildList, BuildTuple, BuildSet, GetItem, Add, Sub, Mul, Div, FloorDiv, Mod, Pow, BitAnd, BitOr, BitXor, Shl, Shr, Eq, NotEq, Lt, LtEq, Gt, GtEq, In, NotIn, Is, IsNot, Minus, Not, LoadAttr, Call}
+use Rattle.ops.specs.Op.{
+  PushRegs,
+  StoreTopR,
+  PopTop,
+  Dup,
+  BuildSlice,
+  BuildList,
+  BuildTuple,
+  BuildSet,
+  GetItem,
+  Add,
+  Sub,
+  Mul,
+  Div,
+  FloorDiv,
+  Mod,
+  Pow,
+  BitAnd,
+  BitOr,
+  BitXor,
+  Shl,
+  Shr,
+  Eq,
+  NotEq,
+  Lt,
+  LtEq,
+  Gt,
+  GtEq,
+  In,
+  NotIn,
+  Is,
+  IsNot,
+  Minus,
+  Not,
+  LoadAttr,
+  Call,
+}
 use Rattle.code.specs.Ins.{insAt}
 use Rattle.code.specs.declared.Ins.{Ins}
 use Rattle.roles.specs.Kinds.{hasRole, fieldOf}
@@ -25,7 +61,8 @@ works =
     ∷ ((PopTop ∷ []) ↝ Plain 1 0)
     ∷ ((Dup ∷ []) ↝ Plain 1 2)
     ∷ ((BuildSlice ∷ BuildList ∷ BuildTuple ∷ BuildSet ∷ []) ↝ Build)
-    ∷ ((GetItem ∷ Add ∷ Sub ∷ Mul ∷ Div ∷ FloorDiv ∷ Mod ∷ Pow ∷ BitAnd ∷ BitOr ∷ BitXor ∷ Shl ∷ Shr ∷ Eq ∷ NotEq ∷ Lt ∷ LtEq ∷ Gt ∷ GtEq ∷ In ∷ NotIn ∷ Is ∷ IsNot ∷ []) ↝ Plain 2 1)
+    ∷ ((GetItem ∷ Add ∷ Sub ∷ Mul ∷ Div ∷ FloorDiv ∷ Mod ∷ Pow ∷ BitAnd ∷ BitOr ∷ BitXor ∷ Shl ∷ Shr ∷ Eq ∷ NotEq ∷ Lt ∷ LtEq ∷ Gt ∷ GtEq ∷ In ∷ NotIn ∷ Is
+    ∷ IsNot ∷ []) ↝ Plain 2 1)
     ∷ ((Minus ∷ Not ∷ LoadAttr ∷ []) ↝ Plain 1 1)
     ∷ ((Call ∷ []) ↝ Calls)
     ∷ []
@@ -57,6 +94,7 @@ abbrev pub turnBy : Effect → Ins → ℕ → ℕ → Turn
 turnBy Stops i k need = Ends Lost
 turnBy (Moves pops pushes) i k need = cond (leb need pushes) (Ends (sourceOf i k (pushes - need))) (Needs (need - pushes + pops))
 
+-- the value that lies `need` deep after the instruction i at k: pushed there, lost, or so deep before it
 unfoldable pub turnOf : Ins → ℕ → ℕ → Turn
 turnOf i k need = turnBy (effectOf i) i k need
 

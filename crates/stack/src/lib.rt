@@ -7,10 +7,10 @@ ghost use Rattle.roles.specs.Roles.{roleTable};
 ghost use Rattle.stack.specs.Stack.{workOf, effectOf, sourceOf, turnOf, stackCallee};
 ghost use Rattle.stack.specs.Inner.{Narrow, Grows};
 ghost use Rattle.stack.specs.Answers.{stackAnswer};
-use code::Answer;
-use code::Checked;
 use code::Ins;
-use code::op::*;
+use ops::*;
+use refusals::Answer;
+use refusals::Checked;
 
 // A push and one of its registers, if there is one.
 pub enum Source {
@@ -46,6 +46,7 @@ pub enum Turn {
     Needs(usize),
 }
 
+// The work of an opcode on the stack; one that is not named works by its role.
 fn work_of(o: u16) -> Work
     ensures { λ r. ⌜ r ≡ workOf o ⌝ }
 {
@@ -162,11 +163,11 @@ pub fn stack_callee_of(code: &[u16], j: usize, n: u16) -> Source
 pub fn stack_callee(code: &[u16], at: usize, count: u16) -> Answer
     ensures { λ v. ⌜ v ≡ stackAnswer (now (code .entry)) at count ⌝ }
 {
-    match code::inside(code::check(code), at) {
-        Checked::No(q) => code::refused(q),
+    match refusals::inside(code::check(code), at) {
+        Checked::No(q) => refusals::refused(q),
         Checked::Count(_) => match stack_callee_of(code, at, count) {
-            Source::From(p, r) => code::tell(1, p as u64, r as u64, 0),
-            Source::Lost => code::tell(0, 0, 0, 0),
+            Source::From(p, r) => refusals::tell(1, p as u64, r as u64, 0),
+            Source::Lost => refusals::tell(0, 0, 0, 0),
         },
     }
 }

@@ -7,7 +7,7 @@ use native.Mathlib.Decide.{decLt}
 use native.Mathlib.Omega.{arith}
 use borrow.Author.Tests.{eqb-true, eq-eqb, ne-eqb, lt-ltb, le-ltb, le-leb, lt-leb}
 use lib.Dec.{eqb, leb, ltb}
-use Rattle.code.specs.Op.{Jump, ReturnR, PushRegs, StoreTopR, PopTop}
+use Rattle.ops.specs.Op.{Jump, ReturnR, PushRegs, StoreTopR, PopTop}
 use Rattle.code.specs.Ins.{insAt, count, isCall}
 use Rattle.code.specs.declared.Ins.{Ins}
 use Rattle.roles.specs.Kinds.{kindsOf, isJump, page, ruleOf}
@@ -50,7 +50,8 @@ unfolding afterAt isJump
 step-is w n k m t i e en ei em he et = record {
   used = rw ei (he .used);
   given = rw ei (he .given);
-  after = rw (em, et, en, ei) (after-by (insAt w k) (k + 1) (min (insAt w k .a) (count w)) (eqb (insAt w k .op) ReturnR) (eqb (insAt w k .op) Jump) (isJump (insAt w k)) refl refl refl);
+  after = rw (em, et, en, ei) (after-by (insAt w k) (k + 1) (min (insAt w k .a) (count w)) (eqb (insAt w k .op) ReturnR) (eqb (insAt w k .op) Jump)
+      (isJump (insAt w k)) refl refl refl);
   inside = omega (arith, et, en);
 }
 

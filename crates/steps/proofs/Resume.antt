@@ -9,7 +9,7 @@ use native.Mathlib.Omega.{arith}
 use borrow.Author.Tests.{ne-eqb, lt-ltb, le-ltb}
 use lib.Dec.{eqb, ltb}
 use lib.ListN.{List·getD-eq-default}
-use Rattle.code.specs.Op.{JumpIfFalseR, Call}
+use Rattle.ops.specs.Op.{JumpIfFalseR, Call}
 use Rattle.code.specs.Ins.{insAt, count, isCall, wide}
 use Rattle.code.specs.Inner.{Valid}
 use Rattle.code.specs.declared.Ins.{Ins}
@@ -24,10 +24,12 @@ module _ (w : List ℕ) (k : ℕ) where
   resume-by o e = ap (λ (x : ℕ). cond (eqb x JumpIfFalseR) k (cond (isCall x) (storeOf w k) (k + 1))) e
 
   result-by : (o : ℕ) → insAt w k .op ≡ o
-      → resultAt w k ≡ cond (eqb o JumpIfFalseR || eqb o Call) noRegister (cond (isCall o) (cond (ltb (storeOf w k) (count w)) (insAt w (storeOf w k) .a) noRegister) (insAt w k .a))
+      → resultAt w k ≡ cond (eqb o JumpIfFalseR || eqb o Call) noRegister
+      (cond (isCall o) (cond (ltb (storeOf w k) (count w)) (insAt w (storeOf w k) .a) noRegister) (insAt w k .a))
   unfolding resultAt
   result-by o e =
-      ap (λ (x : ℕ). cond (eqb x JumpIfFalseR || eqb x Call) noRegister (cond (isCall x) (cond (ltb (storeOf w k) (count w)) (insAt w (storeOf w k) .a) noRegister) (insAt w k .a))) e
+      ap (λ (x : ℕ). cond (eqb x JumpIfFalseR || eqb x Call) noRegister
+      (cond (isCall x) (cond (ltb (storeOf w k) (count w)) (insAt w (storeOf w k) .a) noRegister) (insAt w k .a))) e
 
   module _ (i : Ins) (e : i ≡ insAt w k) where
     op-is : insAt w k .op ≡ i .op
@@ -54,7 +56,11 @@ module _ (w : List ℕ) (k : ℕ) where
         goes-past l = record { resumes = at ∙ sym (resume-else true h); results = sym (result-else true h ∙ rw (← at, le-ltb s (count w) l)) }
 
         pub goes-store : s < count w → (j : Ins) → j ≡ insAt w s → Goes w k s (j .a)
-        goes-store l j q = record { resumes = at ∙ sym (resume-else true h); results = ap (λ (x : Ins). x .a) q ∙ sym (result-else true h ∙ rw (← at, lt-ltb s (count w) l)) }
+        goes-store l j q = record {
+          resumes = at ∙ sym (resume-else true h);
+          results = ap (λ (x : Ins). x .a) q
+              ∙ sym (result-else true h ∙ rw (← at, lt-ltb s (count w) l));
+        }
 
 pub ruleset goes = (goes-test, goes-call, goes-on, goes-past, goes-store)
 

@@ -11,7 +11,83 @@ use lib.Dec.{eqb}
 use Rattle.laws.specs.Page.{Row, _↝_, look}
 use Rattle.laws.proofs.Branch.{and-true}
 use Rattle.laws.proofs.Keys.{sorted, row, apart, named, unnamed, Rest}
-use Rattle.code.specs.Op.{Jump, ForIter, JumpIfFalse, JumpIfFalseOrPop, JumpIfTrueOrPop, JumpIfFalseR, JumpUnlessLt, JumpUnlessLtEq, JumpUnlessGt, JumpUnlessGtEq, JumpUnlessEq, JumpUnlessNotEq, ReturnR, StoreGlobalR, StoreGlobalAtR, LoadGlobalR, LoadGlobalAtR, UnbindR, WrapCellR, Move, MinusR, NotR, LenR, GetAttrR, LoadCellR, AddR, InPlaceAddR, SubR, InPlaceSubR, MulR, DivR, ModR, FloorDivR, BitAndR, BitOrR, BitXorR, ShlR, ShrR, LtR, LtEqR, GtR, GtEqR, EqR, NotEqR, IsR, IsNotR, PowR, InR, NotInR, GetItemR, SuperR, StoreCellR, SetAttrR, CallSpreadR, ListPushR, StoreItemR, ArgsR, AppendR, OwnResetR, ListAppendR, SetAddR, MapAddR, PopTop, PushRegs, StoreTopR, UnpackR, CallGlobalR, CallR, CallMethodR, Raise, ForIterR, Del, WithEnter, WithExit, WithJudge}
+use Rattle.ops.specs.Op.{
+  Jump,
+  ForIter,
+  JumpIfFalse,
+  JumpIfFalseOrPop,
+  JumpIfTrueOrPop,
+  JumpIfFalseR,
+  JumpUnlessLt,
+  JumpUnlessLtEq,
+  JumpUnlessGt,
+  JumpUnlessGtEq,
+  JumpUnlessEq,
+  JumpUnlessNotEq,
+  ReturnR,
+  StoreGlobalR,
+  StoreGlobalAtR,
+  LoadGlobalR,
+  LoadGlobalAtR,
+  UnbindR,
+  WrapCellR,
+  Move,
+  MinusR,
+  NotR,
+  LenR,
+  GetAttrR,
+  LoadCellR,
+  AddR,
+  InPlaceAddR,
+  SubR,
+  InPlaceSubR,
+  MulR,
+  DivR,
+  ModR,
+  FloorDivR,
+  BitAndR,
+  BitOrR,
+  BitXorR,
+  ShlR,
+  ShrR,
+  LtR,
+  LtEqR,
+  GtR,
+  GtEqR,
+  EqR,
+  NotEqR,
+  IsR,
+  IsNotR,
+  PowR,
+  InR,
+  NotInR,
+  GetItemR,
+  SuperR,
+  StoreCellR,
+  SetAttrR,
+  CallSpreadR,
+  ListPushR,
+  StoreItemR,
+  ArgsR,
+  AppendR,
+  OwnResetR,
+  ListAppendR,
+  SetAddR,
+  MapAddR,
+  PopTop,
+  PushRegs,
+  StoreTopR,
+  UnpackR,
+  CallGlobalR,
+  CallR,
+  CallMethodR,
+  Raise,
+  ForIterR,
+  Del,
+  WithEnter,
+  WithExit,
+  WithJudge,
+}
 use Rattle.code.specs.Ins.{insAt, count}
 use Rattle.code.specs.declared.Ins.{Ins}
 use Rattle.roles.specs.Kinds.{jumps, has, Rule, Bits, ByX, FirstAbc, FirstBc, Bare, says, kindsOf, page, ruleOf}
@@ -38,7 +114,8 @@ calms =
     ∷ ((LoadGlobalR ∷ LoadGlobalAtR ∷ UnbindR ∷ []) ↝ 1)
     ∷ ((WrapCellR ∷ []) ↝ 3)
     ∷ ((Move ∷ MinusR ∷ NotR ∷ LenR ∷ GetAttrR ∷ LoadCellR ∷ []) ↝ 5)
-    ∷ ((AddR ∷ InPlaceAddR ∷ SubR ∷ InPlaceSubR ∷ MulR ∷ DivR ∷ ModR ∷ FloorDivR ∷ BitAndR ∷ BitOrR ∷ BitXorR ∷ ShlR ∷ ShrR ∷ LtR ∷ LtEqR ∷ GtR ∷ GtEqR ∷ EqR ∷ NotEqR ∷ IsR ∷ IsNotR ∷ PowR ∷ InR ∷ NotInR ∷ GetItemR ∷ SuperR ∷ []) ↝ 13)
+    ∷ ((AddR ∷ InPlaceAddR ∷ SubR ∷ InPlaceSubR ∷ MulR ∷ DivR ∷ ModR ∷ FloorDivR ∷ BitAndR ∷ BitOrR ∷ BitXorR ∷ ShlR ∷ ShrR ∷ LtR ∷ LtEqR ∷ GtR ∷ GtEqR ∷ EqR
+    ∷ NotEqR ∷ IsR ∷ IsNotR ∷ PowR ∷ InR ∷ NotInR ∷ GetItemR ∷ SuperR ∷ []) ↝ 13)
     ∷ ((StoreCellR ∷ SetAttrR ∷ CallSpreadR ∷ ListPushR ∷ []) ↝ 6)
     ∷ ((StoreItemR ∷ ArgsR ∷ []) ↝ 14)
     ∷ ((AppendR ∷ []) ↝ 7)
@@ -163,10 +240,12 @@ module _ (w : List ℕ) (k m : ℕ) (i : Ins) (place : i ≡ insAt w k) (e : m �
           let few : kind < 64 = ltb-true _ _ (p .1) in
           let quiet : false ≡ idle w k = is-neither w k (i .op) (ap (λ (j : Ins). j .op) place) (eqb-false _ _ (not-true _ (r .1))) (not-true _ (q .1)) in
           let kinds : kind ≡ kindsOf i = told-kinds few in
-          let touched : TouchesAt w k (plainOf kind) = at-work w k false quiet i (plainOf kind) refl place (is-plain i (caseOf (i .op)) refl kind (plainOf kind) (plain-case _ (r .0)) kinds refl) in
+          let touched : TouchesAt w k (plainOf kind) = at-work w k false quiet i (plainOf kind) refl place (is-plain i (caseOf (i .op)) refl kind (plainOf kind)
+          (plain-case _ (r .0)) kinds refl) in
           let is : m ≡ told kind (rowUnread (i .op)) = rw z at e in
           let says : Says kind m (rowUnread (i .op)) = rw is (bits-say kind (rowUnread (i .op)) few) in
-          same-step w k i _ _ _ _ _ _ _ _ _ _ _ (says .used) (says .given) (says .run) (sym (neither (eqb (i .op) ReturnR) (eqb (i .op) Jump)) ∙ says .on) (says .to)
+          same-step w k i _ _ _ _ _ _ _ _ _ _ _ (says .used) (says .given) (says .run) (sym (neither (eqb (i .op) ReturnR) (eqb (i .op) Jump)) ∙ says .on)
+          (says .to)
           (step-is w n k kind (min (i .a) n) i (plainOf kind) en place kinds touched refl)
 
   pub calm-step : m < 16 → StepAt w k (calmStep i m)

@@ -10,7 +10,7 @@ use lib.Dec.{eqb, ltb}
 use Rattle.laws.specs.Page.{Row, among, look}
 use Rattle.laws.proofs.Branch.{and-true}
 use Rattle.laws.proofs.Keys.{sorted, row, apart, named, unnamed, Rest}
-use Rattle.code.specs.Op.{Raise}
+use Rattle.ops.specs.Op.{Raise}
 use Rattle.code.specs.declared.Ins.{Ins}
 use Rattle.roles.specs.Kinds.{none, Rule, Bits, says, page, ruleOf, kindsOf}
 use Rattle.roles.specs.Roles.{roleTable}
@@ -65,8 +65,10 @@ unfolding fits
 byte-of r zero t h = and-true (says-byte r 0) _ t .0
 byte-of r (suc zero) t h = and-true (says-byte r 1) _ (and-true (says-byte r 0) _ t .1) .0
 byte-of r (suc (suc zero)) t h = and-true (says-byte r 2) _ (and-true (says-byte r 1) _ (and-true (says-byte r 0) _ t .1) .1) .0
-byte-of r (suc (suc (suc zero))) t h = and-true (says-byte r 3) _ (and-true (says-byte r 2) _ (and-true (says-byte r 1) _ (and-true (says-byte r 0) _ t .1) .1) .1) .0
-byte-of r (suc (suc (suc (suc zero)))) t h = and-true (says-byte r 3) _ (and-true (says-byte r 2) _ (and-true (says-byte r 1) _ (and-true (says-byte r 0) _ t .1) .1) .1) .1
+byte-of r (suc (suc (suc zero))) t h = and-true (says-byte r 3) _ (and-true (says-byte r 2) _ (and-true (says-byte r 1) _ (and-true (says-byte r 0) _ t .1) .1)
+    .1) .0
+byte-of r (suc (suc (suc (suc zero)))) t h = and-true (says-byte r 3) _
+    (and-true (says-byte r 2) _ (and-true (says-byte r 1) _ (and-true (says-byte r 0) _ t .1) .1) .1) .1
 byte-of r (suc (suc (suc (suc (suc m))))) t h = absurd (omega arith)
 
 -- ---- the byte at x is `kinds`, but for Raise with an a

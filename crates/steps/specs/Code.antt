@@ -4,7 +4,7 @@ use mathlib.Core.Bool.{Bool, cond, _&&_, _||_}
 use mathlib.Core.List.{List, [], _∷_}
 use lib.Dec.{eqb, leb, ltb}
 use Rattle.laws.specs.All.{many}
-use Rattle.code.specs.Op.{Jump, ReturnR, PushRegs, StoreTopR, PopTop}
+use Rattle.ops.specs.Op.{Jump, ReturnR, PushRegs, StoreTopR, PopTop}
 use Rattle.code.specs.Ins.{insAt, count, isCall, wide}
 use Rattle.roles.specs.Kinds.{isJump}
 use Rattle.roles.specs.Sets.{usedBy, givenBy}
@@ -31,9 +31,11 @@ restores w k = (eqb (insAt w k .op) StoreTopR || eqb (insAt w k .op) PopTop) && 
 unfoldable pub idle : List ℕ → ℕ → Bool
 idle w k = overPending w (k + 1) || restores w k
 
+-- the registers that position k uses: none where it is idle
 unfoldable pub usedAt : List ℕ → ℕ → List ℕ
 usedAt w k = cond (idle w k) [] (usedBy (insAt w k))
 
+-- the registers that position k gives up: none where it is idle
 unfoldable pub givenAt : List ℕ → ℕ → List ℕ
 givenAt w k = cond (idle w k) [] (givenBy (insAt w k))
 
@@ -52,6 +54,7 @@ jumpsBack w = many (λ k. isJump (insAt w k) && leb (insAt w k .a) k) (count w)
 abbrev pub setOf : ℕ → List ℕ → ℕ
 setOf regs rs = joined (alone regs) rs
 
+-- the row equations of lent code with so many registers; nothing leaves for a handler in them
 abbrev pub flow : ℕ → List ℕ → Flow
 flow regs w = record {
   size = count w;

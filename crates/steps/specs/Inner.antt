@@ -11,7 +11,7 @@ use Rattle.touch.specs.Touch.{named}
 use Rattle.flow.specs.Flow.{Flow}
 use Rattle.steps.specs.Code.{setOf, usedAt, givenAt, afterAt}
 use Rattle.steps.specs.declared.Step.{Step}
-use Rattle.code.specs.Op.{Jump, ReturnR, PushRegs, StoreTopR, PopTop}
+use Rattle.ops.specs.Op.{Jump, ReturnR, PushRegs, StoreTopR, PopTop}
 use Rattle.code.specs.declared.Ins.{Ins}
 use Rattle.roles.specs.Kinds.{none, jumps, has, Rule, Bits, ByX, FirstAbc, FirstBc, Bare, ruleOf, says}
 use Rattle.roles.specs.declared.Case.{Case}
@@ -23,12 +23,15 @@ pub record TouchesAt (w : List ℕ) (k : ℕ) (t : Touch) : Type 0 where
   pub used : named (t .used) (insAt w k .a) (insAt w k .b) (insAt w k .c) ≡ usedAt w k
   pub given : named (t .given) (insAt w k .a) (insAt w k .b) (insAt w k .c) ++ from (insAt w k .b) (t .run) ≡ givenAt w k
 
+-- the registers that a step uses
 abbrev pub usedOf : Step → List ℕ
 usedOf s = named (s .used) (s .a) (s .b) (s .c)
 
+-- the registers that a step gives up
 abbrev pub givenOf : Step → List ℕ
 givenOf s = named (s .given) (s .a) (s .b) (s .c) ++ from (s .b) (s .run)
 
+-- the positions that come after a step at k: the next if it goes on, and where it jumps if it does
 abbrev pub afterOf : Step → ℕ → List ℕ
 afterOf s k = only (s .on) (k + 1) ++ only (s .to) (s .target)
 
@@ -62,6 +65,7 @@ bitsOf (FirstAbc k) = 64
 bitsOf (FirstBc k) = 64
 bitsOf Bare = 64
 
+-- the case in which `role` alone tells the registers
 abbrev pub isPlain : Case → Bool
 isPlain Store = false
 isPlain Unpack = false
@@ -83,13 +87,16 @@ rowUnread o = eqb o ReturnR || eqb o Jump
 abbrev pub told : ℕ → Bool → ℕ
 told kind stop = cond (has none kind) 0 kind + cond stop 32 0
 
+-- what an opcode alone tells of its step, in the bits of `told`; 64 where it does not tell all
 unfoldable pub calmOf : ℕ → ℕ
 calmOf o = cond (tells o) (told (bitsOf (ruleOf o)) (rowUnread o)) 64
 
+-- the step of an instruction whose opcode tells the bits m, where it just goes on to the next
 abbrev pub calmStep : Ins → ℕ → Step
 calmStep i m =
     record { a = i .a; b = i .b; c = i .c; used = m / 2 % 8 * 2; given = m % 2 * 2; run = 0; on = true; to = false; target = 0 }
 
+-- the step of an instruction whose opcode tells the bits m, in code of n instructions: it may stop or jump
 abbrev pub turnStep : Ins → ℕ → ℕ → Step
 turnStep i m n =
     record {
@@ -108,6 +115,7 @@ turnStep i m n =
 unfoldable pub packed : Rule → ℕ
 packed r = says r 0 0 + 256 * (says r 1 0 + 256 * (says r 2 0 + 256 * (says r 3 0 + 256 * says r 4 0)))
 
+-- what an opcode's rule says where a is 0, a byte for each x
 unfoldable pub wordOf : ℕ → ℕ
 wordOf o = packed (ruleOf o)
 

@@ -4,7 +4,7 @@ use mathlib.Core.Bool.{Bool, _||_}
 use mathlib.Core.List.{List}
 use lib.Dec.{eqb}
 use Rattle.laws.specs.Walk.{first}
-use Rattle.code.specs.Op.{JumpIfFalseR, GetAttrR, Call}
+use Rattle.ops.specs.Op.{JumpIfFalseR, GetAttrR, Call}
 use Rattle.code.specs.Ins.{insAt, count, isCall, dunder}
 use Rattle.code.specs.declared.Ins.{Ins}
 

@@ -3,7 +3,7 @@ use Prim.Native.Nat.{ℕ, _+_}
 use mathlib.Core.Bool.{cond, _||_}
 use mathlib.Core.List.{List}
 use lib.Dec.{eqb, ltb}
-use Rattle.code.specs.Op.{JumpIfFalseR, Call}
+use Rattle.ops.specs.Op.{JumpIfFalseR, Call}
 use Rattle.code.specs.Ins.{insAt, count, isCall}
 use Rattle.steps.specs.Code.{storeOf}
 
@@ -19,4 +19,5 @@ noRegister = 65536
 unfoldable pub resultAt : List ℕ → ℕ → ℕ
 resultAt w k =
     let o = insAt w k .op in
-    cond (eqb o JumpIfFalseR || eqb o Call) noRegister (cond (isCall o) (cond (ltb (storeOf w k) (count w)) (insAt w (storeOf w k) .a) noRegister) (insAt w k .a))
+    cond (eqb o JumpIfFalseR || eqb o Call) noRegister (cond (isCall o) (cond (ltb (storeOf w k) (count w)) (insAt w (storeOf w k) .a) noRegister)
+    (insAt w k .a))

@@ -9,7 +9,7 @@ ghost use Rattle.steps.specs.Level.{isLevel, firstLevel};
 ghost use Rattle.steps.specs.Code.{storeOf, overPending, pastStore, idle as idleAt};
 ghost use Rattle.steps.specs.Inner.{Goes, TouchesAt, goesBefore, StepAt, calmOf, calmStep, turnStep, wordOf};
 use code::Ins;
-use code::op::*;
+use ops::*;
 use touch::Touch;
 
 // Where a level goes on, and the register of its result.
@@ -272,7 +272,7 @@ pub fn step_of(code: &[u16], n: usize, k: usize) -> Step
         run: t.run,
         on: (o != ReturnR) & (o != Jump),
         to: kind / 16 % 4 == 1,
-        target: code::least(i.a as usize, n),
+        target: refusals::least(i.a as usize, n),
     }
 }
 
@@ -306,7 +306,7 @@ fn turn(i: Ins, m: u8, n: usize) -> Step
         run: 0,
         on: m / 32 % 2 != 1,
         to: m / 16 % 2 == 1,
-        target: code::least(i.a as usize, n),
+        target: refusals::least(i.a as usize, n),
     }
 }
 
@@ -328,7 +328,8 @@ pub fn goes_before(s: Step, p: usize) -> bool
     s.to & (s.target < p)
 }
 
-// The same for one who has the table of roles at hand: asked by way of `step_of`, since with two callers `touch_at` would no longer stand in place in the sweeps.
+// The same for one who has the table of roles at hand: asked by way of `step_of`, since with two callers `touch_at` would no longer stand in place in the
+// sweeps.
 pub fn step_in(roles: &[u8; 1280], code: &[u16], n: usize, k: usize) -> Step
     requires { ⌜ (now roles ≡ roleTable) × Whole (now code) × (n ≡ count (now code)) × (k < n) ⌝ }
     ensures { λ s. ⌜ StepAt (now (code .entry)) k s ⌝ }

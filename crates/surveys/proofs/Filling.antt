@@ -3,12 +3,12 @@ use mathlib.Core.Path.{_≡_, refl, sym, _∙_}
 use mathlib.Core.List.{List}
 use Prim.Native.Nat.{ℕ}
 use Rattle.laws.specs.Table.{filledTo}
-use Rattle.code.specs.Answers.{answerOf, refusedOf}
-use Rattle.code.specs.declared.Answer.{Answer}
-use Rattle.code.specs.declared.Refusal.{Refusal}
-use Rattle.code.specs.declared.Checked.{Checked}
-use Rattle.code.specs.declared.Checked.the-variants.{Count, No}
-use Rattle.code.proofs.Answers.{refused, told}
+use Rattle.refusals.specs.Answers.{answerOf, refusedOf}
+use Rattle.refusals.specs.declared.Answer.{Answer}
+use Rattle.refusals.specs.declared.Refusal.{Refusal}
+use Rattle.refusals.specs.declared.Checked.{Checked}
+use Rattle.refusals.specs.declared.Checked.the-variants.{Count, No}
+use Rattle.refusals.proofs.Answers.{refused, told}
 use Rattle.surveys.specs.Answers.{Fills}
 
 module _ (v s : Checked) (e : v ≡ s) (m : ℕ) (f : ℕ → ℕ) (out : List ℕ) (r : Answer) where
@@ -29,5 +29,6 @@ module _ (v s : Checked) (e : v ≡ s) (m : ℕ) (f : ℕ → ℕ) (out : List �
 pub ruleset filling = (not-filled, all-filled)
 
 -- any two results that the contract of `targets` or `loops_around` allows are equal, with every lent word
-pub one-filling : (v : Checked) (m : ℕ) (f : ℕ → ℕ) (out : List ℕ) (r r′ : Answer) (a a′ : List ℕ) → Fills v m f out r a → Fills v m f out r′ a′ → (r ≡ r′) × (a ≡ a′)
+pub one-filling : (v : Checked) (m : ℕ) (f : ℕ → ℕ) (out : List ℕ) (r r′ : Answer) (a a′ : List ℕ) → Fills v m f out r a → Fills v m f out r′ a′ → (r ≡ r′)
+    × (a ≡ a′)
 one-filling v m f out r r′ a a′ x y = (x .answer ∙ sym (y .answer), x .words ∙ sym (y .words))

@@ -77,14 +77,16 @@ module _ (n : ℕ) (f : ℕ → ℕ → Bool) (out₀ out : List ℕ) (m k : ℕ
   all-landed : m ≤ k → Lands n (f m) out₀ out
   all-landed h = let q : k ≡ m = omega (arith, s .below) in rw q at (s .lands)
 
-  turns : (y : Bool) (q : ℕ) (out′ : List ℕ) → k < m → Lands n (hits y q) out out′ → ((p : ℕ) → f (k + 1) p ≡ f k p || hits y q p) → Landing n f out₀ out′ m (k + 1)
+  turns : (y : Bool) (q : ℕ) (out′ : List ℕ) → k < m → Lands n (hits y q) out out′ → ((p : ℕ) → f (k + 1) p ≡ f k p || hits y q p) → Landing n f out₀ out′ m
+      (k + 1)
   turns y q out′ h l more =
       record {
         below = omega arith;
         room = s .room;
         lands =
             record {
-              each = λ p i. l .each p i ∙ ap (λ (v : ℕ). cond (hits y q p) 1 v) (s .lands .each p i) ∙ or-last (f k p) (hits y q p) (getD out₀ p 0) ∙ rw (more p);
+              each = λ p i. l .each p i ∙ ap (λ (v : ℕ). cond (hits y q p) 1 v) (s .lands .each p i) ∙ or-last (f k p) (hits y q p) (getD out₀ p 0)
+                  ∙ rw (more p);
               held = record { same = l .held .same ∙ s .lands .held .same; tail = l .held .tail ∙ s .lands .held .tail };
             };
       }
@@ -149,5 +151,6 @@ all-targets w t a b c d h e j l =
     })
     (λ p i.
     l .each p i
-    ∙ ap (λ (v : ℕ). cond (handled t (length t / 2) p) 1 v) (j .each p i ∙ ap (λ (v : ℕ). cond (jumped w (length w / 6) p) 1 v) (rw e (cleared-at (length w / 6 + 1) a p i)))
+    ∙ ap (λ (v : ℕ). cond (handled t (length t / 2) p) 1 v) (j .each p i ∙ ap (λ (v : ℕ). cond (jumped w (length w / 6) p) 1 v)
+    (rw e (cleared-at (length w / 6 + 1) a p i)))
     ∙ both (jumped w (length w / 6) p) (handled t (length t / 2) p))

@@ -6,10 +6,11 @@ use lib.ListN.{length}
 use mir.Val.{boolByte}
 use Rattle.laws.specs.Table.{filledTo}
 use Rattle.code.specs.Ins.{count}
-use Rattle.code.specs.Check.{checkOf, triedOf, roomOf}
-use Rattle.code.specs.Answers.{asked, answerOf, refusedOf}
-use Rattle.code.specs.declared.Answer.{Answer}
-use Rattle.code.specs.declared.Checked.{Checked}
+use Rattle.code.specs.Check.{checkOf}
+use Rattle.refusals.specs.Stages.{triedOf, roomOf}
+use Rattle.refusals.specs.Answers.{asked, answerOf, refusedOf}
+use Rattle.refusals.specs.declared.Answer.{Answer}
+use Rattle.refusals.specs.declared.Checked.{Checked}
 use Rattle.surveys.specs.Targets.{target}
 
 -- a call that fills m entries: refused and nothing touched; or no value, entry p is f p, and the words past them stay

@@ -7,23 +7,23 @@ ghost use Rattle.code.specs.Inner.{Whole};
 ghost use Rattle.surveys.specs.Answers.{targetMark, Targets};
 ghost use Rattle.surveys.specs.Targets.{hits, handlerOf, jumped, handled};
 ghost use Rattle.surveys.specs.Inner.{Lands};
-use code::Answer;
-use code::Checked;
+use refusals::Answer;
+use refusals::Checked;
 
 // `targets`: refusals 1, 2, 4, 5.
 pub fn targets(code: &[u16], tries: &[u32], out: &mut [u8]) -> Answer
     ensures { λ r. ⌜ Targets (now (code .entry)) (now (tries .entry)) (now (out .entry)) r (now (out .exit)) ⌝ }
 {
-    match code::room(
-        code::tried(code::check(code), tries),
+    match refusals::room(
+        refusals::tried(code::check(code), tries),
         1,
         out.len(),
         code.len() / 6 + 1,
     ) {
-        Checked::No(r) => code::refused(r),
+        Checked::No(r) => refusals::refused(r),
         Checked::Count(_) => {
             fill_targets(code, tries, out);
-            code::tell(0, 0, 0, 0)
+            refusals::tell(0, 0, 0, 0)
         }
     }
 }
@@ -41,7 +41,8 @@ fn land(out: &mut [u8], n: usize, yes: bool, q: usize)
 // The marks of the jumps.
 fn land_jumps(code: &[u16], out: &mut [u8])
     requires { ⌜ Whole (now code) × (length (now code) / 6 + 1 ≤ length (now out)) ⌝ }
-    ensures { λ _. ⌜ Lands (length (now (code .entry)) / 6) (jumped (now (code .entry)) (length (now (code .entry)) / 6)) (now (out .entry)) (now (out .exit)) ⌝ }
+    ensures { λ _. ⌜ Lands (length (now (code .entry)) / 6) (jumped (now (code .entry)) (length (now (code .entry)) / 6))
+        (now (out .entry)) (now (out .exit)) ⌝ }
 {
     let roles = roles::table();
     let n = code.len() / 6;
@@ -53,6 +54,7 @@ fn land_jumps(code: &[u16], out: &mut [u8])
     }
 }
 
+// A word of the tries as a position.
 fn wide(x: u32) -> usize
     ensures { λ r. ⌜ r ≡ x ⌝ }
 {
@@ -84,10 +86,11 @@ fn land_tries(tries: &[u32], n: usize, out: &mut [u8])
 // `targets` in accepted code.
 fn fill_targets(code: &[u16], tries: &[u32], out: &mut [u8])
     requires { ⌜ Whole (now code) × (length (now code) / 6 + 1 ≤ length (now out)) ⌝ }
-    ensures { λ _. ⌜ now (out .exit) ≡ filledTo (targetMark (now (code .entry)) (now (tries .entry))) (length (now (code .entry)) / 6 + 1) (now (out .entry)) ⌝ }
+    ensures { λ _. ⌜ now (out .exit) ≡ filledTo (targetMark (now (code .entry)) (now (tries .entry))) (length (now (code .entry)) / 6 + 1)
+        (now (out .entry)) ⌝ }
 {
     let n = code.len() / 6;
-    walks::clear_marks(out, n + 1);
+    sections::clear_marks(out, n + 1);
     land_jumps(code, out);
     land_tries(tries, n, out);
 }

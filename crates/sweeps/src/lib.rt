@@ -2,7 +2,7 @@
 ghost use mathlib.Core.Path.{_≡_};
 ghost use Rattle.nested.specs.Raising.{stranded as strandedOf};
 use code::Ins;
-use code::op::*;
+use ops::*;
 
 // Whether a call at a marked instruction goes on where the instruction by itself does not lead, or gives up more than its result.
 pub fn stranded(i: Ins) -> bool

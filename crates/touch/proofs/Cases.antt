@@ -53,15 +53,18 @@ same k m j e = rw e
 
 module _ (i : Ins) (k : Case) (e : k ≡ caseOf (i .op)) where
   by-case : (s : Case) (f : Touch) → k ≡ s → named (f .used) (i .a) (i .b) (i .c) ≡ used s i
-      → named (f .given) (i .a) (i .b) (i .c) ++ from (i .b) (f .run) ≡ given s i → named (f .written) (i .a) (i .b) (i .c) ++ from (i .b) (f .run) ≡ written s i → Touches i f
+      → named (f .given) (i .a) (i .b) (i .c) ++ from (i .b) (f .run) ≡ given s i → named (f .written) (i .a) (i .b) (i .c) ++ from (i .b) (f .run) ≡ written s
+      i → Touches i f
   unfolding usedBy givenBy writtenBy
   by-case s f h u g v = record { used = rw (← e, h) u; given = rw (← e, h) g; written = rw (← e, h) v }
 
   is-store : (v : ℕ) → k ≡ Store → v ≡ cond (eqb (i .x) 0) 2 0 → Touches i (record { used = 0; given = 2; written = v; run = 0 })
-  is-store v h z = by-case Store (record { used = 0; given = 2; written = v; run = 0 }) h refl refl (no-more (named v (i .a) (i .b) (i .c)) ∙ if-a (i .a) (i .b) (i .c) (eqb (i .x) 0) v z)
+  is-store v h z = by-case Store (record { used = 0; given = 2; written = v; run = 0 }) h refl refl (no-more (named v (i .a) (i .b) (i .c)) ∙ if-a (i .a) (i .b)
+      (i .c) (eqb (i .x) 0) v z)
 
   is-unpack : (g : ℕ) → k ≡ Unpack → g ≡ firstOf abc (i .x) → Touches i (record { used = 0; given = g; written = g; run = 0 })
-  is-unpack g h z = by-case Unpack (record { used = 0; given = g; written = g; run = 0 }) h refl (rw z (firsts (i .a) (i .b) (i .c) (i .x))) (rw z (firsts (i .a) (i .b) (i .c) (i .x)))
+  is-unpack g h z = by-case Unpack (record { used = 0; given = g; written = g; run = 0 }) h refl (rw z (firsts (i .a) (i .b) (i .c) (i .x)))
+      (rw z (firsts (i .a) (i .b) (i .c) (i .x)))
 
   is-enter : (u r : ℕ) → k ≡ Enter → u ≡ cond (eqb (i .x) 2) 8 0 → r ≡ cond (not (eqb (i .x) 0)) 2 0
       → Touches i (record { used = u; given = 0; written = 0; run = r })
@@ -70,22 +73,31 @@ module _ (i : Ins) (k : Case) (e : k ≡ caseOf (i .op)) where
       (if-c (i .a) (i .b) (i .c) (eqb (i .x) 2) u z) (some (i .b) 2 (eqb (i .x) 0) r y) (some (i .b) 2 (eqb (i .x) 0) r y)
 
   is-exit : (r : ℕ) → k ≡ Exit → r ≡ cond (not (eqb (i .x) 0)) 5 0 → Touches i (record { used = 0; given = 0; written = 0; run = r })
-  is-exit r h y = by-case Exit (record { used = 0; given = 0; written = 0; run = r }) h refl (some (i .b) 5 (eqb (i .x) 0) r y) (some (i .b) 5 (eqb (i .x) 0) r y)
+  is-exit r h y = by-case Exit (record { used = 0; given = 0; written = 0; run = r }) h refl (some (i .b) 5 (eqb (i .x) 0) r y)
+      (some (i .b) 5 (eqb (i .x) 0) r y)
 
   is-judge : (u : ℕ) → k ≡ Judge → u ≡ cond (eqb (i .x) 1) 2 0 → Touches i (record { used = u; given = 0; written = 0; run = 0 })
   is-judge u h z = by-case Judge (record { used = u; given = 0; written = 0; run = 0 }) h (if-a (i .a) (i .b) (i .c) (eqb (i .x) 1) u z) refl refl
 
   is-step : (u : ℕ) → k ≡ Step → u ≡ cond (eqb (i .x) 0) 4 0 → Touches i (record { used = u; given = 0; written = u; run = 0 })
-  is-step u h z = by-case Step (record { used = u; given = 0; written = u; run = 0 }) h (if-b (i .a) (i .b) (i .c) (eqb (i .x) 0) u z) refl (no-more (named u (i .a) (i .b) (i .c)) ∙ if-b (i .a) (i .b) (i .c) (eqb (i .x) 0) u z)
+  is-step u h z = by-case Step (record { used = u; given = 0; written = u; run = 0 }) h (if-b (i .a) (i .b) (i .c) (eqb (i .x) 0) u z) refl
+      (no-more (named u (i .a) (i .b) (i .c)) ∙ if-b (i .a) (i .b) (i .c) (eqb (i .x) 0) u z)
 
   -- by `role`: without one, nothing; else by its bits
   no-role : (f : Touch) (m : ℕ) → k ≡ Plain → m ≡ kindsOf i → has none m ≡ true → f ≡ record { used = 0; given = 0; written = 0; run = 0 } → Touches i f
   unfolding hasRole
   no-role f m h z t y = by-case Plain f h (rw (y, ← z, t)) (rw (y, ← z, t)) (rw (y, ← z, t))
 
-  a-role : (f : Touch) (m : ℕ) → k ≡ Plain → m ≡ kindsOf i → has none m ≡ false → f ≡ record { used = m / 2 % 8 * 2; given = m % 2 * 2; written = m % 2 * 2; run = 0 } → Touches i f
+  a-role : (f : Touch) (m : ℕ) → k ≡ Plain → m ≡ kindsOf i → has none m ≡ false → f ≡ record {
+    used = m / 2 % 8 * 2;
+    given = m % 2 * 2;
+    written = m % 2 * 2;
+    run
+        = 0;
+  } → Touches i f
   unfolding hasRole
-  a-role f m h z t y = by-case Plain f h (rw (y, ← z, t, low, mid, high)) (rw (y, ← z, t, first, second, third) (alone-list (has dest m))) (rw (y, ← z, t, first, second, third) (alone-list (has dest m)))
+  a-role f m h z t y = by-case Plain f h (rw (y, ← z, t, low, mid, high)) (rw (y, ← z, t, first, second, third) (alone-list (has dest m)))
+      (rw (y, ← z, t, first, second, third) (alone-list (has dest m)))
     where
       low : eqb (m / 2 % 8 * 2 / 2 % 2) 1 ≡ eqb (m / 2 % 2) 1
       low = same (m / 2 % 8 * 2 / 2 % 2) 1 (m / 2 % 2) (omega arith)

@@ -24,7 +24,8 @@ among-append r (x ∷ l) m = or-assoc (eqb r x) (among r l) (among r m) ∙ ap (
 pub among-named : (m r x y z : ℕ) → has a m && eqb r x || has b m && eqb r y || has c m && eqb r z ≡ among r (named m x y z)
 among-named m r x y z =
     ap₂ (λ (p q : Bool). p || q)
-    (ap₂ (λ (p q : Bool). p || q) (among-only (has a m) r x) (among-only (has b m) r y) ∙ among-append r (only (has a m) x) (only (has b m) y)) (among-only (has c m) r z)
+    (ap₂ (λ (p q : Bool). p || q) (among-only (has a m) r x) (among-only (has b m) r y) ∙ among-append r (only (has a m) x) (only (has b m) y))
+    (among-only (has c m) r z)
     ∙ among-append r (only (has a m) x ++ only (has b m) y) (only (has c m) z)
 
 -- the test of `writes_of`: a field that the mask names, or one of the run

@@ -32,6 +32,7 @@ touchBy Judge i = touch (cond (eqb (i .x) 1) a 0) 0 0 0
 touchBy Step i = touch (cond (eqb (i .x) 0) b 0) 0 (cond (eqb (i .x) 0) b 0) 0
 touchBy Plain i = plainOf (kindsOf i)
 
+-- what an instruction by itself uses, gives up and writes, as masks over its fields
 unfoldable pub touchOf : Ins → Touch
 touchOf i = touchBy (caseOf (i .op)) i
 

@@ -2,7 +2,7 @@
 use mathlib.Core.Path.{_≡_}
 use mathlib.Core.List.{List, [], _∷_}
 use Prim.Native.Nat.{ℕ}
-use Rattle.code.specs.Op.{StoreTopR, UnpackR, WithEnter, WithExit, ForIterR}
+use Rattle.ops.specs.Op.{StoreTopR, UnpackR, WithEnter, WithExit, ForIterR}
 use Rattle.code.specs.declared.Ins.{Ins}
 use Rattle.roles.specs.Sets.{usedBy, givenBy}
 use Rattle.touch.specs.Touch.{writtenBy}
@@ -15,6 +15,7 @@ overThree o x = record { op = o; marks = 0; a = 10; b = 20; c = 30; x = x }
 abbrev pub Touching : Ins → List ℕ → List ℕ → List ℕ → Type 0
 Touching i used given written = (usedBy i ≡ used) × (givenBy i ≡ given) × (writtenBy i ≡ written)
 
+-- the three sets of five opcodes with which one can go wrong, computed
 pub record Traps : Type 0 where
   -- ForIterR with x = 0 uses b, gives up nothing, and writes b; with another x it touches nothing
   pub for-first : Touching (overThree ForIterR 0) (20 ∷ []) [] (20 ∷ [])

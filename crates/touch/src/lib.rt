@@ -6,15 +6,17 @@ ghost use Rattle.roles.specs.Roles.{roleTable};
 ghost use Rattle.roles.specs.Sets.{caseOf, writes};
 ghost use Rattle.touch.specs.Touch.{plainOf, touchOf};
 use code::Ins;
-use code::op::*;
+use ops::*;
 use roles::A;
 use roles::B;
 use roles::C;
 use roles::Case;
 use roles::NONE;
 
+// The fields a and b, as a mask.
 const AB: u8 = A + B;
 
+// The fields a, b and c, as a mask.
 const ABC: u8 = A + B + C;
 
 // The first n of a, b, c.

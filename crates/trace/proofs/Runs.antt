@@ -98,14 +98,16 @@ module _ (w tries t : List ℕ) where
 
     -- what a good step says of a slot that is no filler
     module _ (s : ℕ) (h : s < 127 * (length t / 512)) (n : fillerAt t s ≡ false) where
-      open-step : cond (leb (count w) (slotAt t s)) true (cond (eqb s 0) (not (eqb (slotAt t s) 0)) (cond (leb (count w) (slotAt t (s - 1))) true (not (mayGo w tries (slotAt t (s - 1)) (slotAt t s))))) ≡ false
+      open-step : cond (leb (count w) (slotAt t s)) true (cond (eqb s 0) (not (eqb (slotAt t s) 0)) (cond (leb (count w) (slotAt t (s - 1))) true
+          (not (mayGo w tries (slotAt t (s - 1)) (slotAt t s))))) ≡ false
       unfolding badStep fillerAt
       open-step = let e = good-step s h in rw n at e
 
       inside : slotAt t s < count w
       inside = leb-false (count w) (slotAt t s) (go (leb (count w) (slotAt t s)) open-step)
         where
-          go : (x : Bool) → cond x true (cond (eqb s 0) (not (eqb (slotAt t s) 0)) (cond (leb (count w) (slotAt t (s - 1))) true (not (mayGo w tries (slotAt t (s - 1)) (slotAt t s))))) ≡ false → x ≡ false
+          go : (x : Bool) → cond x true (cond (eqb s 0) (not (eqb (slotAt t s) 0)) (cond (leb (count w) (slotAt t (s - 1))) true
+              (not (mayGo w tries (slotAt t (s - 1)) (slotAt t s))))) ≡ false → x ≡ false
           go true e = e
           go false e = refl
 
@@ -171,7 +173,8 @@ module _ (w tries t : List ℕ) (r : Recorded w tries t) where
   good-of s h = go (fillerAt t s) refl
     where
       tail : (s : ℕ) → s < 127 * (length t / 512) → fillerAt t s ≡ false
-          → cond (leb (count w) (slotAt t s)) true (cond (eqb s 0) (not (eqb (slotAt t s) 0)) (cond (leb (count w) (slotAt t (s - 1))) true (not (mayGo w tries (slotAt t (s - 1)) (slotAt t s))))) ≡ false
+          → cond (leb (count w) (slotAt t s)) true (cond (eqb s 0) (not (eqb (slotAt t s) 0)) (cond (leb (count w) (slotAt t (s - 1))) true
+          (not (mayGo w tries (slotAt t (s - 1)) (slotAt t s))))) ≡ false
       tail zero h n = rw (lt-leb (count w) (slotAt t 0) (r .below 0 h n), r .starts h n)
       tail (suc s) h n = rw (
         lt-leb (count w) (slotAt t (suc s)) (r .below (suc s) h n),

@@ -23,6 +23,7 @@ unfoldable pub verdictFrom : List ℕ → List ℕ → List ℕ → ℕ → ℕ 
 verdictFrom w tries t b zero = Fine
 verdictFrom w tries t b (suc m) = let rest = verdictFrom w tries t (suc b) m in wrongIn w tries t b rest
 
+-- what is wrong first in all of a trace, if anything is
 unfoldable pub verdictOf : List ℕ → List ℕ → List ℕ → Verdict
 verdictOf w tries t = verdictFrom w tries t 0 (blocksOf t)
 

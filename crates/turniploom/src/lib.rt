@@ -3,7 +3,7 @@ ghost use mathlib.Core.Path.{_≡_};
 ghost use Rattle.fields.specs.Answers.{kindsAnswer, roleAnswer, fieldAnswer, writesAnswer, touchAnswer};
 ghost use Rattle.laid.specs.Answers.{pureAnswer};
 ghost use Rattle.shapes.specs.Answers.{flatAnswer, guardedAnswer};
-ghost use Rattle.walks.specs.Answers.{returnsAnswer};
+ghost use Rattle.sections.specs.Answers.{returnsAnswer};
 ghost use Rattle.params.specs.Answers.{writtenAnswer};
 ghost use Rattle.passed.specs.Answers.{passedAnswer};
 ghost use Rattle.callee.specs.Answers.{globalAnswer};
@@ -11,7 +11,7 @@ ghost use Rattle.pushes.specs.Answers.{pushAnswer};
 ghost use Rattle.stack.specs.Answers.{stackAnswer};
 ghost use Rattle.surveys.specs.Answers.{Targets};
 ghost use Rattle.loops.specs.Answers.{LoopsAround};
-ghost use Rattle.phis.specs.Answers.{DeadPhi};
+ghost use Rattle.unread.specs.Answers.{DeadPhi};
 ghost use Rattle.generators.specs.Answers.{GenTold};
 ghost use Rattle.needed.specs.Answers.{NeededTold};
 ghost use Rattle.answers.specs.Answers.{keptTold as keptAnswered, KeptTold, FoldTold, MadeTold, EnterTold, LeaveTold, ReplayTold};
@@ -23,23 +23,23 @@ ghost use Rattle.figures.specs.Answers.{reports, addCall, joinCall};
 ghost use Rattle.saver.specs.Saver.{saver as words};
 ghost use Rattle.leaves.specs.Leaving.{returned, thrown};
 ghost use Rattle.answers.specs.Answers.{countTold, RaisingTold, ExposedTold};
-ghost use Rattle.code.specs.Answers.{answerOf};
-use code::Answer;
-use code::Checked;
+ghost use Rattle.refusals.specs.Answers.{answerOf};
 use kept::KeptAnswer;
+use refusals::Answer;
+use refusals::Checked;
 
 // The list's length and the two sweep counts.
 fn kept_told(k: KeptAnswer) -> Answer
     ensures { λ r. ⌜ r ≡ keptAnswered k ⌝ }
 {
     match k {
-        KeptAnswer::Is(n, full, abandoned) => code::tell(
+        KeptAnswer::Is(n, full, abandoned) => refusals::tell(
             n as u64,
             full as u64,
             abandoned as u64,
             0,
         ),
-        KeptAnswer::No(r) => code::refused(r),
+        KeptAnswer::No(r) => refusals::refused(r),
     }
 }
 
@@ -112,7 +112,7 @@ pub extern "C" fn turniploom_guarded(code: &[u16]) -> Answer
 pub extern "C" fn turniploom_returns(code: &[u16], at: usize) -> Answer
     ensures { λ r. ⌜ r ≡ returnsAnswer (now (code .entry)) at ⌝ }
 {
-    walks::returns(code, at)
+    sections::returns(code, at)
 }
 
 // The parameters that some instruction writes, as bits.
@@ -150,7 +150,7 @@ pub extern "C" fn turniploom_dead_phi(
 ) -> Answer
     ensures { λ a. ⌜ DeadPhi (now (code .entry)) at r (now (seen .entry)) (now (todo .entry)) a (now (seen .exit)) (now (todo .exit)) ⌝ }
 {
-    phis::dead_phi(code, at, r, seen, todo)
+    unread::dead_phi(code, at, r, seen, todo)
 }
 
 // For each position and the end, how many for loops it lies inside.
@@ -219,7 +219,8 @@ pub extern "C" fn turniploom_kept(
     offsets: &mut [u32],
     list: &mut [u16],
 ) -> Answer
-    ensures { λ r. ⌜ KeptTold 64 (now (code .entry)) regs (now (tries .entry)) wide (now (rows .entry)) (now (offsets .entry)) (now (list .entry)) (now (rows .exit)) (now (offsets .exit)) (now (list .exit)) r ⌝ }
+    ensures { λ r. ⌜ KeptTold 64 (now (code .entry)) regs (now (tries .entry)) wide (now (rows .entry)) (now (offsets .entry)) (now (list .entry))
+        (now (rows .exit)) (now (offsets .exit)) (now (list .exit)) r ⌝ }
 {
     kept_told(kept::kept(code, regs, tries, wide, rows, offsets, list))
 }
@@ -235,7 +236,8 @@ pub extern "C" fn turniploom_kept32(
     offsets: &mut [u32],
     list: &mut [u16],
 ) -> Answer
-    ensures { λ r. ⌜ KeptTold 32 (now (code .entry)) regs (now (tries .entry)) wide (now (rows .entry)) (now (offsets .entry)) (now (list .entry)) (now (rows .exit)) (now (offsets .exit)) (now (list .exit)) r ⌝ }
+    ensures { λ r. ⌜ KeptTold 32 (now (code .entry)) regs (now (tries .entry)) wide (now (rows .entry)) (now (offsets .entry)) (now (list .entry))
+        (now (rows .exit)) (now (offsets .exit)) (now (list .exit)) r ⌝ }
 {
     kept_told(kept32::kept32(code, regs, tries, wide, rows, offsets, list))
 }
@@ -261,7 +263,17 @@ pub extern "C" fn turniploom_fold(
     landings: &mut [u64],
     strict: bool,
 ) -> Answer
-    ensures { λ r. ⌜ FoldTold strict (buffers (now (code .entry)) (now (kinds .entry)) (now (words .entry)) (now («phi_map» .entry)) (now («phi_sources» .entry)) (now («stmt_pos» .entry)) (now («call_byte_pos» .entry)) (now (dead .entry)) (now (remap .entry))) (now (tries .entry)) (now (landings .entry)) (record { constants = constants; map = «phi_map_count»; sources = «phi_sources_count»; stmts = «stmt_pos_count»; calls = «call_byte_pos_count» }) r (buffers (now (code .exit)) (now (kinds .exit)) (now (words .exit)) (now («phi_map» .exit)) (now («phi_sources» .exit)) (now («stmt_pos» .exit)) (now («call_byte_pos» .exit)) (now (dead .exit)) (now (remap .exit))) (now (tries .exit)) (now (landings .exit)) ⌝ }
+    ensures { λ r. ⌜ FoldTold strict (buffers (now (code .entry)) (now (kinds .entry)) (now (words .entry)) (now («phi_map» .entry))
+        (now («phi_sources» .entry)) (now («stmt_pos» .entry)) (now («call_byte_pos» .entry)) (now (dead .entry)) (now (remap .entry))) (now (tries .entry))
+        (now (landings .entry)) (record {
+          constants = constants;
+          map = «phi_map_count»;
+          sources = «phi_sources_count»;
+          stmts = «stmt_pos_count»;
+          calls =
+              «call_byte_pos_count»;
+        }) r (buffers (now (code .exit)) (now (kinds .exit)) (now (words .exit)) (now («phi_map» .exit)) (now («phi_sources» .exit))
+        (now («stmt_pos» .exit)) (now («call_byte_pos» .exit)) (now (dead .exit)) (now (remap .exit))) (now (tries .exit)) (now (landings .exit)) ⌝ }
 {
     folding::fold(
         code,
@@ -293,7 +305,8 @@ pub extern "C" fn turniploom_clear(
     constants: usize,
     scratch: &mut [u32],
 ) -> Answer
-    ensures { λ r. ⌜ ClearTold (clearable (now (code .entry)) (now (kinds .entry)) (now (words .entry)) (now (scratch .entry))) constants r (clearable (now (code .exit)) (now (kinds .exit)) (now (words .exit)) (now (scratch .exit))) ⌝ }
+    ensures { λ r. ⌜ ClearTold (clearable (now (code .entry)) (now (kinds .entry)) (now (words .entry)) (now (scratch .entry))) constants r
+        (clearable (now (code .exit)) (now (kinds .exit)) (now (words .exit)) (now (scratch .exit))) ⌝ }
 {
     clear::clear(code, kinds, words, constants, scratch)
 }
@@ -396,8 +409,8 @@ fn counted(c: Checked) -> Answer
     ensures { λ r. ⌜ r ≡ countTold c ⌝ }
 {
     match c {
-        Checked::Count(n) => code::tell(n as u64, 0, 0, 0),
-        Checked::No(r) => code::refused(r),
+        Checked::Count(n) => refusals::tell(n as u64, 0, 0, 0),
+        Checked::No(r) => refusals::refused(r),
     }
 }
 
@@ -412,7 +425,8 @@ pub extern "C" fn turniploom_kept_raising(
     offsets: &mut [u32],
     list: &mut [u16],
 ) -> Answer
-    ensures { λ r. ⌜ RaisingTold (now (code .entry)) regs (now (tries .entry)) all (now (rows .entry)) (now (offsets .entry)) (now (list .entry)) (now (rows .exit)) (now (offsets .exit)) (now (list .exit)) r ⌝ }
+    ensures { λ r. ⌜ RaisingTold (now (code .entry)) regs (now (tries .entry)) all (now (rows .entry)) (now (offsets .entry)) (now (list .entry))
+        (now (rows .exit)) (now (offsets .exit)) (now (list .exit)) r ⌝ }
 {
     kept_told(raises::kept_raising(code, regs, tries, all, rows, offsets, list))
 }

@@ -20,7 +20,26 @@ use Rattle.values.specs.declared.Divmod.{Divmod}
 use Rattle.values.specs.declared.Divmod.the-variants.{Into, ByZero}
 use Rattle.values.specs.declared.Op.{Op}
 use Rattle.values.specs.declared.Op.the-variants.{Add, Sub, Mul, Div, Mod, FloorDiv, Eq, NotEq, Lt, Gt, LtEq, GtEq, BitAnd, BitOr, BitXor, Shl, Shr}
-use Rattle.values.proofs.Word.{back, back-ok, small-fits, sum-fits, difference-fits, minus-fits, minus-is, zero-bits, and64, or64, xor64, shift-low, shift-far, shift-near, shift-is, shift-down, shift-fits, one-up}
+use Rattle.values.proofs.Word.{
+  back,
+  back-ok,
+  small-fits,
+  sum-fits,
+  difference-fits,
+  minus-fits,
+  minus-is,
+  zero-bits,
+  and64,
+  or64,
+  xor64,
+  shift-low,
+  shift-far,
+  shift-near,
+  shift-is,
+  shift-down,
+  shift-fits,
+  one-up,
+}
 use Rattle.values.proofs.Order.{lt-ints, le-ints, eq-ints, ne-ints}
 
 -- ---- floats
@@ -49,7 +68,8 @@ unfolding ints
 no-arm a b e = rw e refl
 
 -- compared through their floats
-pub compared : {r : Maybe} (o : Op) {x y : Float} {a b : ℤ} → SmallInt a → SmallInt b → x ≡ ofInt binary64 (read a) → y ≡ ofInt binary64 (read b) → r ≡ floats o x y
+pub compared : {r : Maybe} (o : Op) {x y : Float} {a b : ℤ} → SmallInt a → SmallInt b → x ≡ ofInt binary64 (read a) → y ≡ ofInt binary64 (read b)
+    → r ≡ floats o x y
     → r ≡ floats o (ofInt binary64 a) (ofInt binary64 b)
 compared o s t p q h = rw (p, q, back (small-fits s), back (small-fits t)) at h
 

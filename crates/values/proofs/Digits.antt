@@ -13,7 +13,8 @@ use Rattle.values.proofs.Division.{down-law}
 -- ---- a law that holds of the last digit and is kept by halving holds of each digit
 
 module _ (f : ℕ → ℕ → ℕ) (g : ℤ → ℤ → ℤ) where
-  by-halves : ((a b : ℤ) → downMod (g a b) 2 ≡ f (downMod a 2) (downMod b 2)) → ((a b : ℤ) → downDiv (g a b) 2 ≡ g (downDiv a 2) (downDiv b 2)) → (a b : ℤ) → Digitwise f a b (g a b)
+  by-halves : ((a b : ℤ) → downMod (g a b) 2 ≡ f (downMod a 2) (downMod b 2)) → ((a b : ℤ) → downDiv (g a b) 2 ≡ g (downDiv a 2) (downDiv b 2)) → (a b : ℤ)
+      → Digitwise f a b (g a b)
   unfolding digit
   by-halves last half a b zero = last a b
   by-halves last half a b (suc i) = ap (λ (z : ℤ). digit z i) (half a b) ∙ by-halves last half (downDiv a 2) (downDiv b 2) i
@@ -103,7 +104,8 @@ unfolding digit
 within zero a b h k e = last-one a b h k (e 0)
 within (suc n) a b h k e =
     let q = within n (downDiv a 2) (downDiv b 2) (half-mag a n h) (half-mag b n k) (λ i. e (suc i)) in
-    sym (down-law a 2 (omega arith)) ∙ ap (λ (z : ℤ). z *ℤ pos 2 +ℤ pos (downMod a 2)) q ∙ ap (λ (m : ℕ). downDiv b 2 *ℤ pos 2 +ℤ pos m) (e 0) ∙ down-law b 2 (omega arith)
+    sym (down-law a 2 (omega arith)) ∙ ap (λ (z : ℤ). z *ℤ pos 2 +ℤ pos (downMod a 2)) q ∙ ap (λ (m : ℕ). downDiv b 2 *ℤ pos 2 +ℤ pos m) (e 0) ∙ down-law b 2
+    (omega arith)
 
 below-power : (n : ℕ) → n < 2 ^ n
 below-power zero = omega arith

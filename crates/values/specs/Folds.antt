@@ -27,11 +27,13 @@ inRange z = cond (ltb (mag z) (2 ^ 47)) (Is (Int z)) Nothing
 unfoldable pub divmod : ℤ → ℤ → Divmod
 divmod a d = cond (eqZ d (pos 0)) ByZero (Into (floorDiv a d) (floorMod a d))
 
+-- the quotient as a result: in range, and of no zero divisor
 unfoldable pub quotient : Divmod → Maybe
 unfolding inRange
 quotient (Into q r) = inRange q
 quotient ByZero = Nothing
 
+-- what is left as a result: in range, and of no zero divisor
 unfoldable pub remainder : Divmod → Maybe
 unfolding inRange
 remainder (Into q r) = inRange r
@@ -43,6 +45,7 @@ unfolding inRange
 shifted (pos n) f = cond (ltb n 63) (inRange (f n)) Nothing
 shifted (negsuc n) f = Nothing
 
+-- a truth as a result
 abbrev pub truth : Bool → Maybe
 truth b = Is (Truth b)
 
@@ -102,11 +105,13 @@ foldBinop o (Real x) (Real y) = floats o x y
 foldBinop o (Real x) (Truth t) = Nothing
 foldBinop o (Truth s) b = Nothing
 
+-- Not: whether a number is zero, and the opposite of a bool
 unfoldable pub foldNot : Val → Maybe
 foldNot (Int a) = truth (eqZ a (pos 0))
 foldNot (Real x) = truth (isZero x)
 foldNot (Truth t) = truth (not t)
 
+-- Minus: the opposite of a number, an int's within the range; a bool has none
 unfoldable pub foldNeg : Val → Maybe
 unfolding inRange
 foldNeg (Int a) = inRange (negℤ a)

@@ -20,6 +20,7 @@ unfoldable pub downDiv : ℤ → ℕ → ℤ
 downDiv (pos a) d = pos (a / d)
 downDiv (negsuc a) d = negsuc (a / d)
 
+-- what a division by a d above 0 leaves: from 0 up to d, and not d
 unfoldable pub downMod : ℤ → ℕ → ℕ
 downMod (pos a) d = a % d
 downMod (negsuc a) d = d - suc (a % d)
@@ -30,6 +31,7 @@ unfolding downDiv
 floorDiv a (pos d) = downDiv a d
 floorDiv a (negsuc d) = downDiv (negℤ a) (suc d)
 
+-- what floor division by d leaves: 0, or a number of d's sign
 unfoldable pub floorMod : ℤ → ℤ → ℤ
 unfolding downMod
 floorMod a (pos d) = pos (downMod a d)
@@ -51,9 +53,11 @@ Digitwise f a b z = (i : ℕ) → digit z i ≡ f (digit a i) (digit b i)
 abbrev pub both : ℕ → ℕ → ℕ
 both x y = min x y
 
+-- 1 where one digit is 1 or both are
 abbrev pub anyOf : ℕ → ℕ → ℕ
 anyOf x y = max x y
 
+-- 1 where just one of two digits is 1
 abbrev pub one : ℕ → ℕ → ℕ
 one x y = (x + y) % 2
 
@@ -64,12 +68,14 @@ andZ (pos a) (negsuc b) = pos (a - bitAnd a b)
 andZ (negsuc a) (pos b) = pos (b - bitAnd a b)
 andZ (negsuc a) (negsuc b) = negsuc (bitOr a b)
 
+-- bitwise or of two ints, in two's complement without end
 unfoldable pub orZ : ℤ → ℤ → ℤ
 orZ (pos a) (pos b) = pos (bitOr a b)
 orZ (pos a) (negsuc b) = negsuc (b - bitAnd a b)
 orZ (negsuc a) (pos b) = negsuc (a - bitAnd a b)
 orZ (negsuc a) (negsuc b) = negsuc (bitAnd a b)
 
+-- bitwise exclusive or of two ints, in two's complement without end
 unfoldable pub xorZ : ℤ → ℤ → ℤ
 xorZ (pos a) (pos b) = pos (bitXor a b)
 xorZ (pos a) (negsuc b) = negsuc (bitXor a b)
@@ -78,15 +84,18 @@ xorZ (negsuc a) (negsuc b) = pos (bitXor a b)
 
 -- ---- shifts (6.8): times, and floor-divided by, a power of two
 
+-- z shifted up by n places
 unfoldable pub shiftUp : ℤ → ℕ → ℤ
 shiftUp z n = z *ℤ pos (2 ^ n)
 
+-- z shifted down by n places, rounded down
 unfoldable pub shiftDown : ℤ → ℕ → ℤ
 unfolding floorDiv
 shiftDown z n = floorDiv z (pos (2 ^ n))
 
 -- ---- comparisons (6.10): the order of ℤ is the kit's ltZ and leZ
 
+-- two ints are the same
 abbrev pub eqZ : ℤ → ℤ → Bool
 eqZ (pos a) (pos b) = eqb a b
 eqZ (pos a) (negsuc b) = false
@@ -95,10 +104,12 @@ eqZ (negsuc a) (negsuc b) = eqb a b
 
 -- ---- an int beside a float, which is a sign and a size
 
+-- the int with this sign, true for minus, and this size
 abbrev pub signed : Bool → ℕ → ℤ
 signed false n = pos n
 signed true n = negℤ (pos n)
 
+-- an int is below 0
 abbrev pub sign : ℤ → Bool
 sign (pos n) = false
 sign (negsuc n) = true

@@ -6,6 +6,7 @@ ghost use Rattle.values.specs.Python.{shiftUp, shiftDown};
 ghost use Rattle.values.specs.Folds.{SmallInt, inRange, divmod, shifted, ints, floats, foldNot, foldNeg, foldBinop};
 ghost use Rattle.values.specs.Inner.{SoundInt};
 
+// What folds compute with: an operand, or a result.
 pub enum Val {
     Int(i64),
     Float(f64),
@@ -18,6 +19,7 @@ pub enum Maybe {
     Nothing,
 }
 
+// The operators of two operands.
 pub enum Op {
     Add,
     Sub,
@@ -44,12 +46,16 @@ pub enum Divmod {
     ByZero,
 }
 
+// The least int in range.
 const INT_MIN: i64 = -140_737_488_355_328;
 
+// The greatest int in range.
 const INT_MAX: i64 = 140_737_488_355_327;
 
+// The most places that a shift may go.
 const MAX_SHIFT: i64 = 62;
 
+// Not: whether a number is zero, and the opposite of a bool.
 pub fn fold_not(v: Val) -> Maybe
     requires { ⌜ SoundInt v ⌝ }
     ensures { λ r. ⌜ r ≡ foldNot v ⌝ }
@@ -61,6 +67,7 @@ pub fn fold_not(v: Val) -> Maybe
     }
 }
 
+// Minus: the opposite of a number, an int's within the range; a bool has none.
 pub fn fold_neg(v: Val) -> Maybe
     requires { ⌜ SoundInt v ⌝ }
     ensures { λ r. ⌜ r ≡ foldNeg v ⌝ }
@@ -72,6 +79,7 @@ pub fn fold_neg(v: Val) -> Maybe
     }
 }
 
+// An operator over two operands: an int beside a float becomes one, and a bool is no operand.
 pub fn fold_binop(op: Op, a: Val, b: Val) -> Maybe
     requires { ⌜ SoundInt a × SoundInt b ⌝ }
     ensures { λ r. ⌜ r ≡ foldBinop op a b ⌝ }
@@ -99,6 +107,7 @@ fn as_f64(i: i64) -> f64
     i as f64
 }
 
+// Two ints, by Python's rules.
 fn fold_ints(op: Op, a: i64, b: i64) -> Maybe
     requires { ⌜ SmallInt a × SmallInt b ⌝ }
     ensures { λ r. ⌜ r ≡ ints op a b ⌝ }
@@ -132,6 +141,7 @@ fn compare(op: Op, a: i64, b: i64) -> Maybe
     fold_floats(op, as_f64(a), as_f64(b))
 }
 
+// Two floats, by IEEE 754: each operation rounds once.
 fn fold_floats(op: Op, x: f64, y: f64) -> Maybe
     ensures { λ r. ⌜ r ≡ floats op x y ⌝ }
 {
@@ -175,6 +185,7 @@ fn in_range(z: i64) -> Maybe
     Maybe::Is(Val::Int(z))
 }
 
+// The opposite of an int, if it is in range.
 fn checked_neg(a: i64) -> Maybe
     requires { ⌜ SmallInt a ⌝ }
     ensures { λ r. ⌜ r ≡ inRange (negℤ a) ⌝ }
@@ -182,6 +193,7 @@ fn checked_neg(a: i64) -> Maybe
     in_range(-a)
 }
 
+// The sum of two ints, if it is in range.
 fn checked_add(a: i64, b: i64) -> Maybe
     requires { ⌜ SmallInt a × SmallInt b ⌝ }
     ensures { λ r. ⌜ r ≡ ints Op.Add a b ⌝ }
@@ -189,6 +201,7 @@ fn checked_add(a: i64, b: i64) -> Maybe
     in_range(a + b)
 }
 
+// The difference of two ints, if it is in range.
 fn checked_sub(a: i64, b: i64) -> Maybe
     requires { ⌜ SmallInt a × SmallInt b ⌝ }
     ensures { λ r. ⌜ r ≡ ints Op.Sub a b ⌝ }
@@ -234,6 +247,7 @@ fn int_divmod(a: i64, b: i64) -> Divmod
     }
 }
 
+// The quotient of two ints rounded down, if it is in range; none by zero.
 fn checked_div(a: i64, b: i64) -> Maybe
     requires { ⌜ SmallInt a × SmallInt b ⌝ }
     ensures { λ r. ⌜ r ≡ ints Op.FloorDiv a b ⌝ }
@@ -244,6 +258,7 @@ fn checked_div(a: i64, b: i64) -> Maybe
     in_range(q)
 }
 
+// What the quotient of two ints rounded down leaves, if it is in range; none by zero.
 fn checked_mod(a: i64, b: i64) -> Maybe
     requires { ⌜ SmallInt a × SmallInt b ⌝ }
     ensures { λ r. ⌜ r ≡ ints Op.Mod a b ⌝ }
@@ -267,6 +282,7 @@ fn checked_shl(a: i64, n: i64) -> Maybe
     checked_mul(a, 1i64 << (n as u64))
 }
 
+// A shift down by 0 to 62 places, rounded down; none by any other number of places.
 fn checked_shr(a: i64, n: i64) -> Maybe
     ensures { λ r. ⌜ r ≡ shifted n (shiftDown a) ⌝ }
 {

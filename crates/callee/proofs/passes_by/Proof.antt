@@ -3,7 +3,7 @@ use borrow.Author.Needs.{needs}
 use mathlib.Core.Path.{_≡_}
 use mathlib.Core.Bool.{Bool, _||_}
 use lib.Dec.{eqb}
-use Rattle.code.specs.Op.{CallSectionR, SectionR, MakeFunction, CallIsInstance}
+use Rattle.ops.specs.Op.{CallSectionR, SectionR, MakeFunction, CallIsInstance}
 use Rattle.code.specs.declared.Ins.{Ins}
 use Rattle.roles.specs.Kinds.{hasRole}
 use Rattle.callee.specs.Trace.{passesBy}

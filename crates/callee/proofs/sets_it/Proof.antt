@@ -4,7 +4,7 @@ use mathlib.Core.Path.{_≡_}
 use mathlib.Core.Bool.{Bool, not, _&&_}
 use Prim.Native.Nat.{ℕ}
 use lib.Dec.{eqb}
-use Rattle.code.specs.Op.{ForIterR}
+use Rattle.ops.specs.Op.{ForIterR}
 use Rattle.code.specs.declared.Ins.{Ins}
 use Rattle.roles.specs.Sets.{writes}
 use Rattle.callee.specs.Trace.{setsIt}

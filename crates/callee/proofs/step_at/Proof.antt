@@ -6,7 +6,7 @@ use mathlib.Core.List.{List}
 use Prim.Native.Nat.{ℕ, _<_, _≤_}
 use native.Mathlib.Omega.{arith}
 use borrow.Author.Tests.{eq-eqb, ne-eqb}
-use Rattle.code.specs.Op.{StoreTopR, LoadGlobalR}
+use Rattle.ops.specs.Op.{StoreTopR, LoadGlobalR}
 use Rattle.code.specs.Ins.{insAt, count}
 use Rattle.code.specs.Inner.{Valid}
 use Rattle.code.specs.declared.Ins.{Ins}

@@ -12,7 +12,8 @@ returns : tie.Need-returns
 returns c = refused-by _ _ _ (c .before .before .before .before .ready .ensures) _ _ (c .before .before .r .given .1) (c .refused .ensures)
 
 returns-2 : tie.Need-returns-2
-returns-2 c = told-by _ _ _ (c .before .before .before .before .before .before .before .before .before .before .before .before .before .before .before .before .ready .ensures) _ _ _ _
+returns-2 c = told-by _ _ _ (c .before .before .before .before .before .before .before .before .before .before .before .before .before .before .before .before
+    .ready .ensures) _ _ _ _
     (c .before .before .before .before .before .before .before .before .before .before .before .before .before .before .enum-told .given .1)
     (c .before .before .before .before .before .before .before .before .before .clear-unused .ensures) (c .tell .ensures)
 

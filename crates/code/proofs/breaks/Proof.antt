@@ -6,7 +6,7 @@ use mathlib.Core.List.{List}
 use Prim.Native.Nat.{ℕ, _+_, _%_}
 use lib.Dec.{leb, eqb}
 use Rattle.laws.proofs.Branch.{or-false}
-use Rattle.code.specs.Op.{last, PushRegs, UnpackR, ArgsR, WithEnter, WithExit}
+use Rattle.ops.specs.Op.{last, PushRegs, UnpackR, ArgsR, WithEnter, WithExit}
 use Rattle.code.specs.Ins.{insAt, isCall, wide}
 use Rattle.code.specs.Rules.{rules, ruleAt}
 use Rattle.code.specs.Inner.{hasRule}

@@ -1,7 +1,7 @@
 -- `day::told` meets its contract: each arm knows the case. Assumes nothing.
 use borrow.Author.Needs.{needs}
 use mathlib.Core.Path.{_≡_}
-use Rattle.code.specs.declared.Answer.{Answer}
+use Rattle.refusals.specs.declared.Answer.{Answer}
 use Rattle.day.specs.Answers.{dayTold}
 use Rattle.day.specs.declared.DayAnswer.{DayAnswer}
 use Rattle.day.proofs.told.Statement.{statement}

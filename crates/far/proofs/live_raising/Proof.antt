@@ -26,53 +26,22 @@ Inv-loop code regs tries rows₀ words all n full₀ rows full =
 abbrev μ-loop : tie.MeasureT-loop
 μ-loop code regs tries rows₀ words all n full₀ rows full = toGo all code regs tries 0 full 0
 
-clear-requires : tie.Need-clear-requires Inv-loop2 μ-loop2 Inv-loop μ-loop
-clear-requires c κs = search needs
-
 loop-holds : tie.Need-loop-holds Inv-loop2 μ-loop2 Inv-loop μ-loop
 loop-holds c = (search starts, search cleared)
 
 loop2-holds : tie.Need-loop2-holds Inv-loop2 μ-loop2 Inv-loop μ-loop
 loop2-holds c = (search sweep-starts, search needs)
 
-sub-step-of : tie.Need-sub-step-of Inv-loop2 μ-loop2 Inv-loop μ-loop
-sub-step-of c = search needs
-
-step-of-requires : tie.Need-step-of-requires Inv-loop2 μ-loop2 Inv-loop μ-loop
-step-of-requires c κs = search needs
-
-sub-ins-in : tie.Need-sub-ins-in Inv-loop2 μ-loop2 Inv-loop μ-loop
-sub-ins-in c = search needs
-
-ins-in-requires : tie.Need-ins-in-requires Inv-loop2 μ-loop2 Inv-loop μ-loop
-ins-in-requires c κs = search needs
-
-sub-put-raising : tie.Need-sub-put-raising Inv-loop2 μ-loop2 Inv-loop μ-loop
-sub-put-raising c = search needs
-
-put-raising-requires : tie.Need-put-raising-requires Inv-loop2 μ-loop2 Inv-loop μ-loop
-put-raising-requires c κs = search needs
-
-goes-before-requires : tie.Need-goes-before-requires Inv-loop2 μ-loop2 Inv-loop μ-loop
-goes-before-requires c κs = search needs
-
-sub-k : tie.Need-sub-k Inv-loop2 μ-loop2 Inv-loop μ-loop
-sub-k c = search needs
-
-loop2-less : tie.Need-loop2-less Inv-loop2 μ-loop2 Inv-loop μ-loop
-loop2-less c = search needs
-
 loop2-again : tie.Need-loop2-again Inv-loop2 μ-loop2 Inv-loop μ-loop
 loop2-again c = (
-  step (c .before .before .before .before .before .before .before .before .loop2 .inv .0) (c .before .before .before .before .before .step-of .ensures) (search needs) (c .before .before .before .before .before .before .ins-in .ensures) (c .before .before .before .put-raising .ensures) (c .goes-before .ensures),
+  step (c .before .before .before .before .before .before .before .before .loop2 .inv .0) (c .before .before .before .before .before .step-of .ensures)
+      (search needs) (c .before .before .before .before .before .before .ins-in .ensures) (c .before .before .before .put-raising .ensures)
+      (c .goes-before .ensures),
   search needs,
 )
 
 add-full : tie.Need-add-full Inv-loop2 μ-loop2 Inv-loop μ-loop
 add-full c = record { fits = whole-few (c .before .loop2 .inv .0) (c .loop2-test .left) }
-
-same-length : tie.Need-same-length Inv-loop2 μ-loop2 Inv-loop μ-loop
-same-length c = search needs
 
 returns : tie.Need-returns Inv-loop2 μ-loop2 Inv-loop μ-loop
 returns c = whole-found (c .before .before .loop2 .inv .0) (c .before .loop2-test .left) (c .if1 .taken)
@@ -85,27 +54,6 @@ loop-again c = (whole-again (c .before .before .loop2 .inv .0) (c .before .loop2
 
 pub live-raising-spec : {M : Type 1} → statement M
 live-raising-spec =
-    tie.close
-    (tie.spec
-    Inv-loop2
-    μ-loop2
-    Inv-loop
-    μ-loop
-    clear-requires
-    loop-holds
-    loop2-holds
-    sub-ins-in
-    ins-in-requires
-    sub-step-of
-    step-of-requires
-    sub-put-raising
-    put-raising-requires
-    goes-before-requires
-    sub-k
-    loop2-less
-    loop2-again
-    add-full
-    same-length
-    returns
-    loop-less
-    loop-again)
+    tie.close (tie.spec Inv-loop2 μ-loop2 Inv-loop μ-loop (λ c κs. search needs) loop-holds loop2-holds (λ c. search needs) (λ c κs. search needs)
+    (λ c. search needs) (λ c κs. search needs) (λ c. search needs) (λ c κs. search needs) (λ c κs. search needs) (λ c. search needs)
+    (λ c. search needs) loop2-again add-full (λ c. search needs) returns loop-less loop-again)

@@ -2,11 +2,12 @@
 use borrow.Author.Needs.{needs}
 use mathlib.Core.Path.{_≡_}
 use Prim.Native.Nat.{ℕ}
-use Rattle.code.specs.Answers.{answerOf}
-use Rattle.code.specs.declared.Answer.{Answer}
+use Rattle.refusals.specs.Answers.{answerOf}
+use Rattle.refusals.specs.declared.Answer.{Answer}
 use Rattle.code.specs.declared.Ins.{Ins}
-use Rattle.code.proofs.Answers.{refused, told}
-use Rattle.code.proofs.Stages.{passing, onward}
+use Rattle.refusals.proofs.Answers.{refused, told}
+use Rattle.code.proofs.Passed.{passing}
+use Rattle.refusals.proofs.Stages.{onward}
 use Rattle.roles.specs.Kinds.{kindsOf}
 use Rattle.fields.specs.Answers.{kindsAnswer}
 use Rattle.fields.proofs.kinds.Statement.{statement}

@@ -2,10 +2,11 @@
 use borrow.Author.Needs.{needs}
 use mathlib.Core.Path.{_≡_}
 use Prim.Native.Nat.{ℕ}
-use Rattle.code.specs.declared.Answer.{Answer}
+use Rattle.refusals.specs.declared.Answer.{Answer}
 use Rattle.code.specs.declared.Ins.{Ins}
-use Rattle.code.proofs.Answers.{refused, told}
-use Rattle.code.proofs.Stages.{passing, onward}
+use Rattle.refusals.proofs.Answers.{refused, told}
+use Rattle.code.proofs.Passed.{passing}
+use Rattle.refusals.proofs.Stages.{onward}
 use Rattle.roles.specs.Kinds.{kindsOf}
 use Rattle.fields.specs.Answers.{roleTold, roleAnswer}
 use Rattle.fields.proofs.role.Statement.{statement}

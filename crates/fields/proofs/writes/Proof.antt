@@ -4,11 +4,12 @@ use mathlib.Core.Path.{_≡_}
 use mathlib.Core.Bool.{Bool}
 use Prim.Native.Nat.{ℕ}
 use mir.Val.{boolByte}
-use Rattle.code.specs.Answers.{answerOf}
-use Rattle.code.specs.declared.Answer.{Answer}
+use Rattle.refusals.specs.Answers.{answerOf}
+use Rattle.refusals.specs.declared.Answer.{Answer}
 use Rattle.code.specs.declared.Ins.{Ins}
-use Rattle.code.proofs.Answers.{refused, told}
-use Rattle.code.proofs.Stages.{passing, onward}
+use Rattle.refusals.proofs.Answers.{refused, told}
+use Rattle.code.proofs.Passed.{passing}
+use Rattle.refusals.proofs.Stages.{onward}
 use Rattle.roles.specs.Sets.{writes}
 use Rattle.fields.specs.Answers.{writesAnswer}
 use Rattle.fields.proofs.writes.Statement.{statement}

@@ -1,7 +1,7 @@
 -- `generators::gen_pure` meets its contract. Assumes nothing.
 use borrow.Author.Needs.{needs}
-use Rattle.code.proofs.Stages.{onward}
-use Rattle.phis.proofs.Telling.{code-room, telling}
+use Rattle.refusals.proofs.Stages.{onward}
+use Rattle.unread.proofs.Telling.{code-room, telling}
 use Rattle.generators.proofs.gen_pure.Statement.{statement}
 use Rattle.generators.proofs.gen_pure.Tie as tie
 

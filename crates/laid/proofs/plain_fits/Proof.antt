@@ -4,7 +4,7 @@ use mathlib.Core.Path.{_≡_}
 use mathlib.Core.Bool.{Bool, true, false, _&&_}
 use lib.Dec.{eqb}
 use borrow.Author.Tests.{eq-eqb, ne-eqb}
-use Rattle.code.specs.Op.{StoreTopR, ArgsR}
+use Rattle.ops.specs.Op.{StoreTopR, ArgsR}
 use Rattle.code.specs.Ins.{isCall, wide}
 use Rattle.code.specs.declared.Ins.{Ins}
 use Rattle.laid.specs.Section.{plainFits}

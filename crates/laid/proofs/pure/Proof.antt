@@ -1,8 +1,8 @@
 -- `laid::pure` meets its contract. Assumes nothing.
 use borrow.Author.Needs.{needs}
 use Rattle.laid.specs.Answers.{pureAnswer}
-use Rattle.code.proofs.Stages.{passing}
-use Rattle.walks.proofs.Truths.{truths}
+use Rattle.code.proofs.Passed.{passing}
+use Rattle.sections.proofs.Truths.{truths}
 use Rattle.laid.proofs.pure.Statement.{statement}
 use Rattle.laid.proofs.pure.Tie as tie
 

@@ -15,7 +15,12 @@ abbrev μ-loop : tie.MeasureT-loop
 μ-loop tries landings₀ n j₀ landings j = n - j
 
 loop-again : tie.Need-loop-again Inv-loop μ-loop
-loop-again c = (refl, search needs, handled-more _ _ _ _ (c .before .before .before .before .before .before .before .loop .inv .2) (search needs) (c .before .before .bump .ensures))
+loop-again c = (
+  refl,
+  search needs,
+  handled-more _ _ _ _ (c .before .before .before .before .before .before .before .loop .inv .2) (search needs)
+      (c .before .before .bump .ensures),
+)
 
 pub count-handlers-spec : {M : Type 1} → statement M
 count-handlers-spec =

@@ -2,7 +2,7 @@
 use borrow.Author.Needs.{needs}
 use Prim.Native.Nat.{_≤_, _-_}
 use mathlib.Core.Path.{_≡_}
-use Rattle.lent.specs.Chunk.{chunkCount}
+use Rattle.chunk.specs.Chunk.{chunkCount}
 use Rattle.landings.specs.Inner.{Jumped}
 use Rattle.landings.proofs.Filled.{jumped-none, jumped-all, jumped-skip, jumped-more, jump-fits}
 use Rattle.landings.proofs.count_jumps.Statement.{statement}

@@ -5,12 +5,14 @@ use mathlib.Core.List.{List}
 use Prim.Native.Nat.{ℕ, _<_}
 use native.Mathlib.Omega.{arith}
 use Rattle.code.specs.Ins.{count}
-use Rattle.code.specs.Check.{checkOf, insideOf}
-use Rattle.code.specs.declared.Checked.{Checked}
-use Rattle.code.specs.declared.Checked.the-variants.{Count}
-use Rattle.code.proofs.Answers.{refused, told}
+use Rattle.code.specs.Check.{checkOf}
+use Rattle.refusals.specs.Stages.{insideOf}
+use Rattle.refusals.specs.declared.Checked.{Checked}
+use Rattle.refusals.specs.declared.Checked.the-variants.{Count}
+use Rattle.refusals.proofs.Answers.{refused, told}
 use Rattle.code.proofs.Checks.{count-of}
-use Rattle.code.proofs.Stages.{passing, onward, at-before, at-inside}
+use Rattle.code.proofs.Passed.{passing}
+use Rattle.refusals.proofs.Stages.{onward, at-before, at-inside}
 use Rattle.levels.specs.Answers.{levelAnswer}
 use Rattle.levels.proofs.level.Statement.{statement}
 use Rattle.levels.proofs.level.Tie as tie

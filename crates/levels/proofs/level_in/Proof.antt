@@ -5,8 +5,8 @@ use mathlib.Core.Bool.{Bool, true, false}
 use mathlib.Core.List.{List}
 use Prim.Native.Nat.{ℕ}
 use Rattle.code.specs.Ins.{insAt}
-use Rattle.code.specs.Answers.{answerOf}
-use Rattle.code.specs.declared.Answer.{Answer}
+use Rattle.refusals.specs.Answers.{answerOf}
+use Rattle.refusals.specs.declared.Answer.{Answer}
 use Rattle.code.specs.declared.Ins.{Ins}
 use Rattle.steps.specs.Level.{isLevel}
 use Rattle.steps.specs.Inner.{Goes}

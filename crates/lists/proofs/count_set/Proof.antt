@@ -11,45 +11,7 @@ Inv-loop words set n₀ j₀ n j = Counting 64 words set n j
 abbrev μ-loop : tie.MeasureT-loop
 μ-loop words set n₀ j₀ n j = words - j
 
-loop-holds : tie.Need-loop-holds Inv-loop μ-loop
-loop-holds c = search (needs, countings)
-
-mul-n : tie.Need-mul-n Inv-loop μ-loop
-mul-n c = search needs
-
-array-read-n : tie.Need-array-read-n Inv-loop μ-loop
-array-read-n c = search needs
-
-cast-n : tie.Need-cast-n Inv-loop μ-loop
-cast-n c = search (needs, countings)
-
-add-n : tie.Need-add-n Inv-loop μ-loop
-add-n c = search (needs, countings)
-
-add-j : tie.Need-add-j Inv-loop μ-loop
-add-j c = search needs
-
-loop-less : tie.Need-loop-less Inv-loop μ-loop
-loop-less c = search needs
-
-loop-again : tie.Need-loop-again Inv-loop μ-loop
-loop-again c = search (needs, countings)
-
-returns : tie.Need-returns Inv-loop μ-loop
-returns c = search (needs, countings)
-
 pub count-set-spec : {M : Type 1} → statement M
 count-set-spec =
-    tie.close
-    (tie.spec
-    Inv-loop
-    μ-loop
-    loop-holds
-    mul-n
-    array-read-n
-    cast-n
-    add-n
-    add-j
-    loop-less
-    loop-again
-    returns)
+    tie.close (tie.spec Inv-loop μ-loop (λ c. search (needs, countings)) (λ c. search needs) (λ c. search needs) (λ c. search (needs, countings))
+    (λ c. search (needs, countings)) (λ c. search needs) (λ c. search needs) (λ c. search (needs, countings)) (λ c. search (needs, countings)))

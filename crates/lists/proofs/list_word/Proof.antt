@@ -15,24 +15,6 @@ abbrev μ-loop : tie.MeasureT-loop
 loop-holds : tie.Need-loop-holds Inv-loop μ-loop
 loop-holds c = walked-start 64 (c .args .base) (c .args .word) (now (c .args .out)) (c .args .m) (c .fits .word .fits) (c .pre .1)
 
-cast-out : tie.Need-cast-out Inv-loop μ-loop
-cast-out c = omega (arith, trailing-le 64 (c .before .loop .rest))
-
-add-out : tie.Need-add-out Inv-loop μ-loop
-add-out c = omega (arith, trailing-le 64 (c .before .loop .rest))
-
-mul-out : tie.Need-mul-out Inv-loop μ-loop
-mul-out c = omega (arith, walked-next (c .before .loop .inv) (c .loop-test .taken))
-
-slice-write-out : tie.Need-slice-write-out Inv-loop μ-loop
-slice-write-out c = omega (arith, walked-next (c .before .loop .inv) (c .loop-test .taken))
-
-sub-rest : tie.Need-sub-rest Inv-loop μ-loop
-sub-rest c = omega (arith, c .loop-test .taken)
-
-add-n : tie.Need-add-n Inv-loop μ-loop
-add-n c = omega (arith, walked-next (c .before .loop .inv) (c .loop-test .taken))
-
 loop-less : tie.Need-loop-less Inv-loop μ-loop
 loop-less c = walked-less (c .before .loop .inv) (c .loop-test .taken)
 
@@ -47,18 +29,7 @@ returns c = walked-end (c .before .loop .inv) (c .loop-test .left)
 
 pub list-word-spec : {M : Type 1} → statement M
 list-word-spec =
-    tie.close
-    (tie.spec
-    Inv-loop
-    μ-loop
-    loop-holds
-    cast-out
-    add-out
-    mul-out
-    slice-write-out
-    sub-rest
-    add-n
-    loop-less
-    loop-again
-    same-length
-    returns)
+    tie.close (tie.spec Inv-loop μ-loop loop-holds (λ c. omega (arith, trailing-le 64 (c .before .loop .rest)))
+    (λ c. omega (arith, trailing-le 64 (c .before .loop .rest))) (λ c. omega (arith, walked-next (c .before .loop .inv) (c .loop-test .taken)))
+    (λ c. omega (arith, walked-next (c .before .loop .inv) (c .loop-test .taken))) (λ c. omega (arith, c .loop-test .taken))
+    (λ c. omega (arith, walked-next (c .before .loop .inv) (c .loop-test .taken))) loop-less loop-again same-length returns)

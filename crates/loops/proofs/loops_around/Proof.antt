@@ -5,8 +5,9 @@ use Prim.Native.Nat.{ℕ, _+_, _/_, _≤_}
 use lib.ListN.{length}
 use Rattle.code.specs.Inner.{Valid}
 use Rattle.loops.specs.Inner.{Space}
-use Rattle.code.proofs.Stages.{passing, onward}
-use Rattle.walks.proofs.Rooms.{rooms}
+use Rattle.code.proofs.Passed.{passing}
+use Rattle.refusals.proofs.Stages.{onward}
+use Rattle.sections.proofs.Rooms.{rooms}
 use Rattle.surveys.proofs.Filling.{filling}
 use Rattle.loops.proofs.loops_around.Statement.{statement}
 use Rattle.loops.proofs.loops_around.Tie as tie

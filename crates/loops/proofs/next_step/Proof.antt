@@ -8,7 +8,7 @@ use lib.Dec.{eqb}
 use lib.ListN.{length}
 use Rattle.laws.specs.Walk.{first}
 use Rattle.laws.proofs.Walk.{finds}
-use Rattle.code.specs.Op.{ForIterR, ForIter}
+use Rattle.ops.specs.Op.{ForIterR, ForIter}
 use Rattle.code.specs.Ins.{insAt}
 use Rattle.code.specs.declared.Ins.{Ins}
 use Rattle.loops.specs.Loops.{stepAt, nextStep}

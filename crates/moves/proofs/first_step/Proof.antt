@@ -10,7 +10,8 @@ use Rattle.moves.proofs.first_step.Statement.{statement}
 use Rattle.moves.proofs.first_step.Tie as tie
 
 abbrev Inv-loop : tie.InvT-loop
-Inv-loop code tries t b roles end s₀ s = (127 * b ≤ s) × (s ≤ end) × (end ≡ 127 * b + 127) × (first (badStep code tries t) s (end - s) ≡ firstStep code tries t b)
+Inv-loop code tries t b roles end s₀ s = (127 * b ≤ s) × (s ≤ end) × (end ≡ 127 * b + 127) × (first (badStep code tries t) s (end - s) ≡ firstStep code tries t
+    b)
 
 abbrev μ-loop : tie.MeasureT-loop
 μ-loop code tries t b roles end s₀ s = end - s

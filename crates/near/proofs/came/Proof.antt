@@ -3,8 +3,5 @@ use borrow.Author.Needs.{needs}
 use Rattle.near.proofs.came.Statement.{statement}
 use Rattle.near.proofs.came.Tie as tie
 
-returns : tie.Need-returns
-returns c = search needs
-
 pub came-spec : {M : Type 1} → statement M
-came-spec = tie.close (tie.spec returns)
+came-spec = tie.close (tie.spec (λ c. search needs))

@@ -7,14 +7,5 @@ use Rattle.near.proofs.covering.Tie as tie
 returns : tie.Need-returns
 returns c = covered-none _ _ _ 0 0 _ (search needs)
 
-handlers-word-requires : tie.Need-handlers-word-requires
-handlers-word-requires c κs = search needs
-
-lowest-requires : tie.Need-lowest-requires
-lowest-requires c κs = search needs
-
-returns-2 : tie.Need-returns-2
-returns-2 c = search covered-new
-
 pub covering-spec : {M : Type 1} → statement M
-covering-spec = tie.close (tie.spec returns handlers-word-requires lowest-requires returns-2)
+covering-spec = tie.close (tie.spec returns (λ c κs. search needs) (λ c κs. search needs) (λ c. search covered-new))

@@ -22,57 +22,28 @@ abbrev μ-again : tie.MeasureT-again
 μ-again code regs tries all rows₀ n start₀ full₀ abandoned₀ rows start full abandoned =
     toGo all code regs tries (firstLevel code) full abandoned
 
-first-level-requires : tie.Need-first-level-requires Inv-loop μ-loop Inv-again μ-again
-first-level-requires c κs = search needs
-
-clear-requires : tie.Need-clear-requires Inv-loop μ-loop Inv-again μ-again
-clear-requires c κs = search needs
-
-again-holds : tie.Need-again-holds Inv-loop μ-loop Inv-again μ-again
-again-holds c = search near-starts
-
-loop-holds : tie.Need-loop-holds Inv-loop μ-loop Inv-again μ-again
-loop-holds c = search sweep-starts
-
-sub-covering : tie.Need-sub-covering Inv-loop μ-loop Inv-again μ-again
-sub-covering c = search needs
-
 covering-requires : tie.Need-covering-requires Inv-loop μ-loop Inv-again μ-again
 covering-requires c κs = near-reach (c .before .before .loop .inv)
 
-most-requires : tie.Need-most-requires Inv-loop μ-loop Inv-again μ-again
-most-requires c κs = search needs
-
 sweep-near-requires : tie.Need-sweep-near-requires Inv-loop μ-loop Inv-again μ-again
 sweep-near-requires c κs =
-    let s = stretch-needs (c .before .before .before .before .before .loop .inv) (c .before .before .before .before .loop-test .taken) (c .before .before .covering .ensures) (c .before .most .ensures) in
+    let s = stretch-needs (c .before .before .before .before .before .loop .inv) (c .before .before .before .before .loop-test .taken)
+    (c .before .before .covering .ensures) (c .before .most .ensures) in
     (search needs, search needs, near-long (c .before .before .before .before .before .loop .inv), s .0, s .1, s .2)
-
-clear-requires-2 : tie.Need-clear-requires-2 Inv-loop μ-loop Inv-again μ-again
-clear-requires-2 c κs = search needs
 
 add-abandoned : tie.Need-add-abandoned Inv-loop μ-loop Inv-again μ-again
 add-abandoned c = record { fits = search left-few }
 
-again-less : tie.Need-again-less Inv-loop μ-loop Inv-again μ-again
-again-less c = search left-less
-
-again-again : tie.Need-again-again Inv-loop μ-loop Inv-again μ-again
-again-again c = search left-again
-
-loop-less : tie.Need-loop-less Inv-loop μ-loop Inv-again μ-again
-loop-less c = search stretch-less
-
 loop-again : tie.Need-loop-again Inv-loop μ-loop Inv-again μ-again
 loop-again c =
-    stretch-on (c .before .before .before .before .before .before .before .before .before .before .before .loop .inv) (c .before .before .before .before .before .before .before .before .before .before .loop-test .taken) (c .before .before .before .before .before .before .before .before .covering .ensures)
-    (c .before .before .before .before .before .before .before .most .ensures) (c .before .before .before .before .before .sweep-near .ensures) (c .before .before .if1 .left)
+    stretch-on (c .before .before .before .before .before .before .before .before .before .before .before .loop .inv)
+    (c .before .before .before .before .before .before .before .before .before .before .loop-test .taken)
+    (c .before .before .before .before .before .before .before .before .covering .ensures)
+    (c .before .before .before .before .before .before .before .most .ensures) (c .before .before .before .before .before .sweep-near .ensures)
+    (c .before .before .if1 .left)
 
 add-full : tie.Need-add-full Inv-loop μ-loop Inv-again μ-again
 add-full c = record { fits = whole-few (c .before .loop .inv) (c .loop-test .left) }
-
-same-length : tie.Need-same-length Inv-loop μ-loop Inv-again μ-again
-same-length c = search needs
 
 returns : tie.Need-returns Inv-loop μ-loop Inv-again μ-again
 returns c = whole-found (c .before .before .loop .inv) (c .before .loop-test .left) (c .if2 .taken)
@@ -85,28 +56,7 @@ again-again-2 c = whole-again (c .before .before .loop .inv) (c .before .loop-te
 
 pub live-near-spec : {M : Type 1} → statement M
 live-near-spec =
-    tie.close
-    (tie.spec
-    Inv-loop
-    μ-loop
-    Inv-again
-    μ-again
-    first-level-requires
-    clear-requires
-    again-holds
-    loop-holds
-    sub-covering
-    covering-requires
-    most-requires
-    sweep-near-requires
-    clear-requires-2
-    add-abandoned
-    again-less
-    again-again
-    loop-less
-    loop-again
-    add-full
-    same-length
-    returns
-    again-less-2
+    tie.close (tie.spec Inv-loop μ-loop Inv-again μ-again (λ c κs. search needs) (λ c κs. search needs) (λ c. search near-starts)
+    (λ c. search sweep-starts) (λ c. search needs) covering-requires (λ c κs. search needs) sweep-near-requires (λ c κs. search needs) add-abandoned
+    (λ c. search left-less) (λ c. search left-again) (λ c. search stretch-less) loop-again add-full (λ c. search needs) returns again-less-2
     again-again-2)

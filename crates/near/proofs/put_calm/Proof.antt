@@ -30,47 +30,8 @@ put-marked : (i : Ins) (m more regs k : ℕ) (all : Bool) (out : ℕ) (s : Step)
     → Put (moreStep (cond (all || isLevel i) out 0) regs (calmStep i m)) rows k new r
 put-marked i m more regs k all out s rows new r told e h x p = put-as i m 13 more _ regs k s rows new r e h (by-mark i m all out more told h x) p
 
-raised-by-requires : tie.Need-raised-by-requires
-raised-by-requires c κs = search needs
-
-calm-requires : tie.Need-calm-requires
-calm-requires c κs = search needs
-
-put-word-requires : tie.Need-put-word-requires
-put-word-requires c κs = search (needs, no-target)
-
-same-length : tie.Need-same-length
-same-length c = search needs
-
-returns : tie.Need-returns
-returns c = search put-marked
-
-raised-requires : tie.Need-raised-requires
-raised-requires c κs = search needs
-
-calm-requires-2 : tie.Need-calm-requires-2
-calm-requires-2 c κs = search needs
-
-put-word-requires-2 : tie.Need-put-word-requires-2
-put-word-requires-2 c κs = search (needs, no-target)
-
-same-length-2 : tie.Need-same-length-2
-same-length-2 c = search needs
-
-returns-2 : tie.Need-returns-2
-returns-2 c = search put-as
-
 pub put-calm-spec : {M : Type 1} → statement M
 put-calm-spec =
-    tie.close
-    (tie.spec
-    raised-by-requires
-    calm-requires
-    put-word-requires
-    same-length
-    returns
-    raised-requires
-    calm-requires-2
-    put-word-requires-2
-    same-length-2
-    returns-2)
+    tie.close (tie.spec (λ c κs. search needs) (λ c κs. search needs) (λ c κs. search (needs, no-target)) (λ c. search needs)
+    (λ c. search put-marked) (λ c κs. search needs) (λ c κs. search needs) (λ c κs. search (needs, no-target)) (λ c. search needs)
+    (λ c. search put-as))

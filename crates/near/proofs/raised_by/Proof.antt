@@ -20,14 +20,5 @@ every all out x e = rw e
 none : (all : Bool) (out x : ℕ) → (x ≡ 1 → ⊥) → all ≡ false → 0 ≡ cond (all || eqb x 1) out 0
 none all out x n e = rw (e, ne-eqb x 1 n)
 
-returns : tie.Need-returns
-returns c = search marked
-
-returns-2 : tie.Need-returns-2
-returns-2 c = search every
-
-returns-3 : tie.Need-returns-3
-returns-3 c = search none
-
 pub raised-by-spec : {M : Type 1} → statement M
-raised-by-spec = tie.close (tie.spec returns returns-2 returns-3)
+raised-by-spec = tie.close (tie.spec (λ c. search marked) (λ c. search every) (λ c. search none))

@@ -1,7 +1,7 @@
 -- `needed::needed` meets its contract. Assumes nothing.
 use borrow.Author.Needs.{needs}
 use Rattle.needed.proofs.Telling.{place-room, place-in, chain}
-use Rattle.phis.proofs.Telling.{telling}
+use Rattle.unread.proofs.Telling.{telling}
 use Rattle.needed.proofs.needed.Statement.{statement}
 use Rattle.needed.proofs.needed.Tie as tie
 

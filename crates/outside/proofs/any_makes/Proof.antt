@@ -5,8 +5,8 @@ use mathlib.Core.Bool.{false}
 use Prim.Native.Nat.{_-_, _≤_}
 use Rattle.laws.specs.Some.{some}
 use Rattle.laws.proofs.Some.{somewhere}
-use Rattle.walks.specs.There.{there}
-use Rattle.walks.proofs.There.{tested-there}
+use Rattle.sections.specs.There.{there}
+use Rattle.sections.proofs.There.{tested-there}
 use Rattle.outside.specs.Outside.{makes, made}
 use Rattle.outside.proofs.any_makes.Statement.{statement}
 use Rattle.outside.proofs.any_makes.Tie as tie

@@ -13,8 +13,8 @@ use Rattle.laws.proofs.Byte.{byte-small}
 use Rattle.laws.proofs.Every.{one-more, one-fails, all}
 use Rattle.code.specs.Ins.{insAt}
 use Rattle.code.specs.declared.Ins.{Ins}
-use Rattle.walks.specs.Returns.{returnsAt}
-use Rattle.walks.specs.There.{there}
+use Rattle.sections.specs.Returns.{returnsAt}
+use Rattle.sections.specs.There.{there}
 use Rattle.outside.specs.Outside.{opens, closes, returnsFrom, outsideAt, returnsOutside}
 use Rattle.outside.proofs.returns_outside.Statement.{statement}
 use Rattle.outside.proofs.returns_outside.Tie as tie
@@ -31,7 +31,8 @@ module _ (f : Ins → Bool) (w : List ℕ) where
   unfolding many there
   one-counted k i b c e g h = rw (add-one, h, g, e)
 
-module _ (w : List ℕ) (k o c : ℕ) (i : Ins) (l p : Bool) (e : i ≡ insAt w k) (f : l ≡ returnsFrom i) (g : p ≡ returnsAt w k) (h : o ≡ many (there opens w) k) (m : c ≡ many (there closes w) k) where
+module _ (w : List ℕ) (k o c : ℕ) (i : Ins) (l p : Bool) (e : i ≡ insAt w k) (f : l ≡ returnsFrom i) (g : p ≡ returnsAt w k) (h : o ≡ many (there opens w) k)
+    (m : c ≡ many (there closes w) k) where
   at-k : not (not (eqb o c) && (l || p)) ≡ outsideAt w k
   unfolding outsideAt
   at-k = rw (f, g, h, m, e)
@@ -43,53 +44,15 @@ module _ (w : List ℕ) (k o c : ℕ) (i : Ins) (l p : Bool) (e : i ≡ insAt w 
   leaves-inside n t h = one-fails (outsideAt w) k n (not (not (eqb o c) && (l || p))) at-k (rw t refl) h
 
 abbrev Inv-loop : tie.InvT-loop
-Inv-loop code n opened₀ closed₀ k₀ opened closed k = (k ≤ n) × (opened ≤ k) × (closed ≤ k) × (opened ≡ many (there opens code) k) × (closed ≡ many (there closes code) k) × (every (outsideAt code) k ≡ true)
+Inv-loop code n opened₀ closed₀ k₀ opened closed k = (k ≤ n) × (opened ≤ k) × (closed ≤ k) × (opened ≡ many (there opens code) k)
+    × (closed ≡ many (there closes code) k) × (every (outsideAt code) k ≡ true)
 
 abbrev μ-loop : tie.MeasureT-loop
 μ-loop code n opened₀ closed₀ k₀ opened closed k = n - k
 
-loop-holds : tie.Need-loop-holds Inv-loop μ-loop
-loop-holds c = search (needs, none-counted, all)
-
-ins-at-requires : tie.Need-ins-at-requires Inv-loop μ-loop
-ins-at-requires c κs = search needs
-
-leaves-requires : tie.Need-leaves-requires Inv-loop μ-loop
-leaves-requires c κs = search needs
-
-returns-at-requires : tie.Need-returns-at-requires Inv-loop μ-loop
-returns-at-requires c κs = search needs
-
 returns : tie.Need-returns Inv-loop μ-loop
 unfolding returnsOutside
 returns c = search leaves-inside
-
-opens-requires : tie.Need-opens-requires Inv-loop μ-loop
-opens-requires c κs = search needs
-
-cast-opened : tie.Need-cast-opened Inv-loop μ-loop
-cast-opened c = search needs
-
-add-opened : tie.Need-add-opened Inv-loop μ-loop
-add-opened c = omega (arith, byte-small (c .opens .result))
-
-closes-requires : tie.Need-closes-requires Inv-loop μ-loop
-closes-requires c κs = search needs
-
-cast-closed : tie.Need-cast-closed Inv-loop μ-loop
-cast-closed c = search needs
-
-add-closed : tie.Need-add-closed Inv-loop μ-loop
-add-closed c = omega (arith, byte-small (c .closes .result))
-
-add-k : tie.Need-add-k Inv-loop μ-loop
-add-k c = search needs
-
-loop-less : tie.Need-loop-less Inv-loop μ-loop
-loop-less c = search needs
-
-loop-again : tie.Need-loop-again Inv-loop μ-loop
-loop-again c = search (needs, counted, one-counted, stays)
 
 returns-2 : tie.Need-returns-2 Inv-loop μ-loop
 unfolding returnsOutside
@@ -97,22 +60,7 @@ returns-2 c = search (needs, all)
 
 pub returns-outside-spec : {M : Type 1} → statement M
 returns-outside-spec =
-    tie.close
-    (tie.spec
-    Inv-loop
-    μ-loop
-    loop-holds
-    ins-at-requires
-    leaves-requires
-    returns-at-requires
-    returns
-    opens-requires
-    cast-opened
-    add-opened
-    closes-requires
-    cast-closed
-    add-closed
-    add-k
-    loop-less
-    loop-again
+    tie.close (tie.spec Inv-loop μ-loop (λ c. search (needs, none-counted, all)) (λ c κs. search needs) (λ c κs. search needs) (λ c κs. search needs)
+    returns (λ c κs. search needs) (λ c. search needs) (λ c. omega (arith, byte-small (c .opens .result))) (λ c κs. search needs) (λ c. search needs)
+    (λ c. omega (arith, byte-small (c .closes .result))) (λ c. search needs) (λ c. search needs) (λ c. search (needs, counted, one-counted, stays))
     returns-2)

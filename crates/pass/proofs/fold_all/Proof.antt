@@ -2,7 +2,7 @@
 use borrow.Author.Needs.{needs}
 use mathlib.Core.Path.{_≡_}
 use Prim.Native.Nat.{_≤_, _-_}
-use Rattle.lent.specs.Chunk.{chunkCount}
+use Rattle.chunk.specs.Chunk.{chunkCount}
 use Rattle.fold.specs.Plan.{chunk}
 use Rattle.fold.proofs.Grown.{Asked, asked-none, asked-ready, asked-more, asked-all}
 use Rattle.pass.proofs.fold_all.Statement.{statement}

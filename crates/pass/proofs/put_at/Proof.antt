@@ -5,7 +5,7 @@ use mathlib.Core.Path.{_≡_}
 use mathlib.Core.List.{List}
 use Prim.Native.Nat.{ℕ, _+_, _*_}
 use lib.ListN.{set, length-set}
-use Rattle.lent.specs.Chunk.{stride}
+use Rattle.chunk.specs.Chunk.{stride}
 use Rattle.fold.specs.Pass.{markOf, put}
 use Rattle.pass.proofs.put_at.Statement.{statement}
 use Rattle.pass.proofs.put_at.Tie as tie

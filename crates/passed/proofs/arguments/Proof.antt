@@ -4,7 +4,7 @@ use mathlib.Core.Path.{_≡_}
 use native.Mathlib.Omega.{arith}
 use Prim.Native.Nat.{_+_}
 use borrow.Author.Tests.{eq-eqb, ne-eqb}
-use Rattle.code.specs.Op.{CallMethodR}
+use Rattle.ops.specs.Op.{CallMethodR}
 use Rattle.code.specs.declared.Ins.{Ins}
 use Rattle.passed.specs.Passed.{arguments}
 use Rattle.passed.proofs.arguments.Statement.{statement}

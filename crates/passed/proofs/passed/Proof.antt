@@ -5,15 +5,16 @@ use mathlib.Core.Bool.{Bool, true, false, cond}
 use mathlib.Core.List.{List}
 use Prim.Native.Nat.{ℕ}
 use Rattle.code.specs.Ins.{insAt, isCall}
-use Rattle.code.specs.Answers.{answerOf, refusedOf}
-use Rattle.code.specs.declared.Answer.{Answer}
+use Rattle.refusals.specs.Answers.{answerOf, refusedOf}
+use Rattle.refusals.specs.declared.Answer.{Answer}
 use Rattle.code.specs.declared.Ins.{Ins}
-use Rattle.code.specs.declared.Refusal.the-variants.{Position}
+use Rattle.refusals.specs.declared.Refusal.the-variants.{Position}
 use Rattle.passed.specs.Passed.{passedAt}
 use Rattle.passed.specs.Answers.{passedAnswer}
-use Rattle.code.proofs.Answers.{refused, told}
-use Rattle.code.proofs.Stages.{passing, onward}
-use Rattle.walks.proofs.Rooms.{near}
+use Rattle.refusals.proofs.Answers.{refused, told}
+use Rattle.code.proofs.Passed.{passing}
+use Rattle.refusals.proofs.Stages.{onward}
+use Rattle.sections.proofs.Rooms.{near}
 use Rattle.passed.proofs.passed.Statement.{statement}
 use Rattle.passed.proofs.passed.Tie as tie
 

@@ -12,7 +12,8 @@ use Rattle.passed.specs.Passed.{passedIn, passedAt}
 use Rattle.passed.proofs.passed_at.Statement.{statement}
 use Rattle.passed.proofs.passed_at.Tie as tie
 
-joined : (w : List ℕ) (j arity m : ℕ) (c rest : Ins) → c ≡ insAt w j → rest ≡ insAt w (j + boolByte (wide c)) → m ≡ passedIn c rest arity → m ≡ passedAt w j arity
+joined : (w : List ℕ) (j arity m : ℕ) (c rest : Ins) → c ≡ insAt w j → rest ≡ insAt w (j + boolByte (wide c)) → m ≡ passedIn c rest arity
+    → m ≡ passedAt w j arity
 unfolding passedAt
 joined w j arity m c rest e f g = g ∙ rw (f, e)
 

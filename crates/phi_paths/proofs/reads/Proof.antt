@@ -4,7 +4,7 @@ use mathlib.Core.Path.{_≡_}
 use mathlib.Core.Bool.{not, _&&_, _||_}
 use Prim.Native.Nat.{ℕ}
 use lib.Dec.{eqb}
-use Rattle.code.specs.Op.{ForIterR, LoadName}
+use Rattle.ops.specs.Op.{ForIterR, LoadName}
 use Rattle.code.specs.declared.Ins.{Ins}
 use Rattle.roles.specs.Kinds.{kindsOf, has, none}
 use Rattle.phi_paths.specs.Read.{inFields, phiReads}

@@ -10,7 +10,7 @@ use lib.Dec.{eqb, leb}
 use lib.ListN.{take}
 use lib.Seq.{take-all}
 use Rattle.laws.specs.Page.{among}
-use Rattle.code.specs.Op.{CallR, CallGlobalR, CallMethodR, PushRegs}
+use Rattle.ops.specs.Op.{CallR, CallGlobalR, CallMethodR, PushRegs}
 use Rattle.code.specs.declared.Ins.{Ins}
 use Rattle.pushes.specs.Pushes.{pending}
 use Rattle.pushes.proofs.pending_under.Statement.{statement}

@@ -3,12 +3,13 @@ use borrow.Author.Needs.{needs}
 use mathlib.Core.Path.{_≡_}
 use mathlib.Core.List.{List}
 use Prim.Native.Nat.{ℕ}
-use Rattle.code.proofs.Answers.{refused, told}
-use Rattle.code.proofs.Stages.{passing, onward}
+use Rattle.refusals.proofs.Answers.{refused, told}
+use Rattle.code.proofs.Passed.{passing}
+use Rattle.refusals.proofs.Stages.{onward}
 use Rattle.pushes.specs.declared.Place.{Place}
 use Rattle.pushes.specs.declared.Place.the-variants.{At, Nowhere}
-use Rattle.code.specs.Answers.{answerOf}
-use Rattle.code.specs.declared.Answer.{Answer}
+use Rattle.refusals.specs.Answers.{answerOf}
+use Rattle.refusals.specs.declared.Answer.{Answer}
 use Rattle.pushes.specs.Pushes.{pushedBack}
 use Rattle.pushes.specs.Answers.{pushTold, pushAnswer}
 use Rattle.stack.proofs.Accepted.{at-in}

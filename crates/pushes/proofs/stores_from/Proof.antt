@@ -7,7 +7,7 @@ use Prim.Native.Nat.{ℕ, suc, _-_, _<_, _≤_}
 use native.Mathlib.Omega.{arith}
 use lib.Dec.{eqb}
 use borrow.Author.Tests.{eq-eqb, ne-eqb}
-use Rattle.code.specs.Op.{StoreTopR}
+use Rattle.ops.specs.Op.{StoreTopR}
 use Rattle.code.specs.Ins.{insAt}
 use Rattle.code.specs.declared.Ins.{Ins}
 use Rattle.pushes.specs.Pushes.{storesFrom}

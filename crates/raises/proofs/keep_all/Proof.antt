@@ -11,9 +11,6 @@ use Rattle.raises.proofs.keep_all.Tie as tie
 words-for-requires : tie.Need-words-for-requires
 words-for-requires c κs = accepted-few _ _ _ _ _ _ _ (c .before .before .before .before .before .pre)
 
-add-need : tie.Need-add-need
-add-need c = search needs
-
 mul-need : tie.Need-mul-need
 mul-need c = part-mul _ _ _ (now (c .before .before .before .before .before .before .args .rows))
     (now (c .before .before .before .before .before .before .args .offsets)) _ (c .before .before .before .before .before .before .pre) _
@@ -111,19 +108,5 @@ returns-2 c = out-told _ _ _ (now (c .before .before .before .before .before .be
 
 pub keep-all-spec : {M : Type 1} → statement M
 keep-all-spec =
-    tie.close
-    (tie.spec
-    words-for-requires
-    add-need
-    mul-need
-    slice-relend-prefix-find-raising
-    slice-aggregate-find-raising
-    find-raising-requires
-    count-all-requires
-    same-length
-    returns
-    each-call-requires
-    same-length-2
-    same-length-3
-    same-length-4
-    returns-2)
+    tie.close (tie.spec words-for-requires (λ c. search needs) mul-need slice-relend-prefix-find-raising slice-aggregate-find-raising
+    find-raising-requires count-all-requires same-length returns each-call-requires same-length-2 same-length-3 same-length-4 returns-2)

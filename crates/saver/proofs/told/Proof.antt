@@ -1,7 +1,7 @@
 -- `saver::told` meets its contract: each arm knows the case. Assumes nothing.
 use borrow.Author.Needs.{needs}
 use mathlib.Core.Path.{_≡_}
-use Rattle.code.specs.declared.Answer.{Answer}
+use Rattle.refusals.specs.declared.Answer.{Answer}
 use Rattle.saver.specs.Answers.{saverTold}
 use Rattle.saver.specs.declared.SaverAnswer.{SaverAnswer}
 use Rattle.saver.proofs.told.Statement.{statement}

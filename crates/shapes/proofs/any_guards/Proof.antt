@@ -6,8 +6,8 @@ use Prim.Native.Nat.{_-_, _≤_}
 use Rattle.laws.specs.Some.{some}
 use Rattle.laws.proofs.Some.{somewhere}
 use Rattle.shapes.specs.Shape.{guards, guarded}
-use Rattle.walks.specs.There.{there}
-use Rattle.walks.proofs.There.{tested-there}
+use Rattle.sections.specs.There.{there}
+use Rattle.sections.proofs.There.{tested-there}
 use Rattle.shapes.proofs.any_guards.Statement.{statement}
 use Rattle.shapes.proofs.any_guards.Tie as tie
 

@@ -1,8 +1,8 @@
 -- `shapes::flat` meets its contract. Assumes nothing.
 use borrow.Author.Needs.{needs}
 use Rattle.shapes.specs.Answers.{flatAnswer}
-use Rattle.code.proofs.Stages.{passing}
-use Rattle.walks.proofs.Truths.{truths}
+use Rattle.code.proofs.Passed.{passing}
+use Rattle.sections.proofs.Truths.{truths}
 use Rattle.shapes.proofs.flat.Statement.{statement}
 use Rattle.shapes.proofs.flat.Tie as tie
 

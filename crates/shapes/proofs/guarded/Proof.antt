@@ -1,8 +1,8 @@
 -- `shapes::guarded` meets its contract. Assumes nothing.
 use borrow.Author.Needs.{needs}
 use Rattle.shapes.specs.Answers.{guardedAnswer}
-use Rattle.code.proofs.Stages.{passing}
-use Rattle.walks.proofs.Truths.{truths}
+use Rattle.code.proofs.Passed.{passing}
+use Rattle.sections.proofs.Truths.{truths}
 use Rattle.shapes.proofs.guarded.Statement.{statement}
 use Rattle.shapes.proofs.guarded.Tie as tie
 

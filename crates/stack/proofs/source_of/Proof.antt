@@ -3,7 +3,7 @@ use borrow.Author.Needs.{needs}
 use mathlib.Core.Path.{_≡_}
 use Prim.Native.Nat.{ℕ}
 use borrow.Author.Tests.{eq-eqb, ne-eqb}
-use Rattle.code.specs.Op.{PushRegs}
+use Rattle.ops.specs.Op.{PushRegs}
 use Rattle.code.specs.declared.Ins.{Ins}
 use Rattle.roles.specs.Kinds.{fieldOf}
 use Rattle.stack.specs.declared.Source.the-variants.{From, Lost}

@@ -3,12 +3,13 @@ use borrow.Author.Needs.{needs}
 use mathlib.Core.Path.{_≡_}
 use mathlib.Core.List.{List}
 use Prim.Native.Nat.{ℕ}
-use Rattle.code.proofs.Answers.{refused, told}
-use Rattle.code.proofs.Stages.{passing, onward}
+use Rattle.refusals.proofs.Answers.{refused, told}
+use Rattle.code.proofs.Passed.{passing}
+use Rattle.refusals.proofs.Stages.{onward}
 use Rattle.stack.specs.declared.Source.{Source}
 use Rattle.stack.specs.declared.Source.the-variants.{From, Lost}
-use Rattle.code.specs.Answers.{answerOf}
-use Rattle.code.specs.declared.Answer.{Answer}
+use Rattle.refusals.specs.Answers.{answerOf}
+use Rattle.refusals.specs.declared.Answer.{Answer}
 use Rattle.stack.specs.Stack.{stackCallee}
 use Rattle.stack.specs.Answers.{stackTold, stackAnswer}
 use Rattle.stack.proofs.Accepted.{at-in}

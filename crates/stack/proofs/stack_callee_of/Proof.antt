@@ -22,7 +22,8 @@ unfolding pushedAt
 by-turn w zero need h = absurd (omega arith)
 by-turn w (suc k) need h = let z : suc k - 1 ≡ k = omega arith in rw z
 
-module _ (w : List ℕ) (k need : ℕ) (v : Source) (h : 0 < k) (whole : pushedAt w k need ≡ v) (i : Ins) (e : i ≡ insAt w (k - 1)) (t : Turn) (f : t ≡ turnOf i (k - 1) need) where
+module _ (w : List ℕ) (k need : ℕ) (v : Source) (h : 0 < k) (whole : pushedAt w k need ≡ v) (i : Ins) (e : i ≡ insAt w (k - 1)) (t : Turn)
+    (f : t ≡ turnOf i (k - 1) need) where
   ends : (s : Source) → t ≡ Ends s → s ≡ v
   ends s q = rw (by-turn w k need h, ← e, ← f, q) at whole
 

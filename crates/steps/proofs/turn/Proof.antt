@@ -11,7 +11,18 @@ use Rattle.steps.proofs.turn.Statement.{statement}
 use Rattle.steps.proofs.turn.Tie as tie
 
 turned : (i : Ins) (m n t : ℕ) → t ≡ min (i .a) n
-    → _≡_ {A = Step} (record { a = i .a; b = i .b; c = i .c; used = m / 2 % 8 * 2; given = m % 2 * 2; run = 0; on = not (eqb (m / 32 % 2) 1); to = eqb (m / 16 % 2) 1; target = t }) (turnStep i m n)
+    → _≡_ {A = Step} (record {
+      a = i .a;
+      b = i .b;
+      c = i .c;
+      used = m / 2 % 8 * 2;
+      given = m % 2 * 2;
+      run = 0;
+      on = not (eqb (m / 32 % 2) 1);
+      to = eqb
+          (m / 16 % 2) 1;
+      target = t;
+    }) (turnStep i m n)
 turned i m n t e = rw e
 
 pub turn-spec : {M : Type 1} → statement M

@@ -1,7 +1,8 @@
 -- `surveys::targets` meets its contract. Assumes nothing.
 use borrow.Author.Needs.{needs}
-use Rattle.code.proofs.Stages.{passing, onward}
-use Rattle.walks.proofs.Rooms.{rooms}
+use Rattle.code.proofs.Passed.{passing}
+use Rattle.refusals.proofs.Stages.{onward}
+use Rattle.sections.proofs.Rooms.{rooms}
 use Rattle.surveys.proofs.Filling.{filling}
 use Rattle.surveys.proofs.targets.Statement.{statement}
 use Rattle.surveys.proofs.targets.Tie as tie

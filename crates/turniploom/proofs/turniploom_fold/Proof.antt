@@ -3,9 +3,6 @@ use borrow.Author.Needs.{needs}
 use Rattle.turniploom.proofs.turniploom_fold.Statement.{statement}
 use Rattle.turniploom.proofs.turniploom_fold.Tie as tie
 
-fold-requires : tie.Need-fold-requires
-fold-requires c κs = search needs
-
 same-length : tie.Need-same-length
 same-length c = c .before .before .before .before .before .before .before .before .before .before .before .before .before .before .before .before .before
     .before .before .before .before .code .given
@@ -48,18 +45,5 @@ returns c = c .before .before .before .before .before .before .before .before .b
 
 pub turniploom-fold-spec : {M : Type 1} → statement M
 turniploom-fold-spec =
-    tie.close
-    (tie.spec
-    fold-requires
-    same-length
-    same-length-2
-    same-length-3
-    same-length-4
-    same-length-5
-    same-length-6
-    same-length-7
-    same-length-8
-    same-length-9
-    same-length-10
-    same-length-11
-    returns)
+    tie.close (tie.spec (λ c κs. search needs) same-length same-length-2 same-length-3 same-length-4 same-length-5 same-length-6 same-length-7
+    same-length-8 same-length-9 same-length-10 same-length-11 returns)

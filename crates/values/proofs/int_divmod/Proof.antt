@@ -1,4 +1,5 @@
--- `values::int_divmod` meets its contract: the quotient toward 0, turned where what is left has the wrong sign, satisfies the law of floor division. Assumes nothing.
+-- `values::int_divmod` meets its contract: the quotient toward 0, turned where what is left has the wrong sign, satisfies the law of floor division. Assumes
+-- nothing.
 use mathlib.Core.Path.{_≡_}
 use mathlib.Core.Bool.{true, false}
 use lib.Signed.{remZ}
@@ -21,12 +22,14 @@ rem-r c = div-q c
 sub-t11 : tie.Need-sub-t11
 sub-t11 c =
     let s = c .before .before in
-    rw (back (s .fits .a), back (s .fits .b), back (quot-fits (s .args .a) (s .args .b) (s .pre .0) (s .pre .1))) (quot-less-fits (s .args .a) (s .args .b) (s .pre .0) (s .pre .1))
+    rw (back (s .fits .a), back (s .fits .b), back (quot-fits (s .args .a) (s .args .b) (s .pre .0) (s .pre .1))) (quot-less-fits (s .args .a) (s .args .b)
+    (s .pre .0) (s .pre .1))
 
 add-t12 : tie.Need-add-t12
 add-t12 c =
     let s = c .before .before in
-    rw (back (s .fits .a), back (s .fits .b), back (rem-fits (s .args .a) (s .args .b) (s .pre .0) (s .pre .1))) (rem-more-fits (s .args .a) (s .args .b) (s .pre .0) (s .pre .1))
+    rw (back (s .fits .a), back (s .fits .b), back (rem-fits (s .args .a) (s .args .b) (s .pre .0) (s .pre .1))) (rem-more-fits (s .args .a) (s .args .b)
+    (s .pre .0) (s .pre .1))
 
 test : (c : tie.Then2) → wrong (remZ (c .before .before .args .a) (c .before .before .args .b)) (c .before .before .args .b) ≡ true
 test c =

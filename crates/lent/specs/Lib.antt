@@ -1,4 +1,0 @@
-pub mod Chunk
-pub mod Tables
-pub mod Check
-pub mod Inner

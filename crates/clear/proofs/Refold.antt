@@ -236,94 +236,94 @@ in-or-past {X} k n y z = go (ltb k n) refl
     go true e = y (ltb-true k n e)
     go false e = z (ltb-false k n e)
 
-module _ (n : ℕ) (s : Chunk) (ok : chunkCheckOf (s .code) ≡ Count n) (limit : ℕ) (up : s .constants ≤ limit) (near : AllNear (s .code) (s .constants) limit)
-  where
-    abbrev w : List ℕ
-    w = s .code
+module _ (n : ℕ) (s : Chunk) (ok : chunkCheckOf (s .code) ≡ Count n) (limit : ℕ) (up : s .constants ≤ limit)
+    (near : AllNear (s .code) (s .constants) limit) where
+  abbrev w : List ℕ
+  w = s .code
 
-    abbrev m : ℕ
-    m = s .constants
+  abbrev m : ℕ
+  m = s .constants
 
-    abbrev w′ : List ℕ
-    w′ = recoded (before w) m w
+  abbrev w′ : List ℕ
+  w′ = recoded (before w) m w
 
-    long : length w ≡ stride * chunkCount w
-    long = whole-of w (check-met n w (sym ok))
+  long : length w ≡ stride * chunkCount w
+  long = whole-of w (check-met n w (sym ok))
 
-    long′ : length w′ ≡ stride * chunkCount w′
-    long′ = recoded-length (before w) m w ∙ ap (λ (x : ℕ). stride * x) (sym (recoded-count (before w) m w))
+  long′ : length w′ ≡ stride * chunkCount w′
+  long′ = recoded-length (before w) m w ∙ ap (λ (x : ℕ). stride * x) (sym (recoded-count (before w) m w))
 
-    past′ : (k : ℕ) → chunkCount w ≤ k → chunkCount w′ ≤ k
-    past′ k h = rw (recoded-count (before w) m w) h
+  past′ : (k : ℕ) → chunkCount w ≤ k → chunkCount w′ ≤ k
+  past′ k h = rw (recoded-count (before w) m w) h
 
-    unmarked-past : (k : ℕ) → chunkCount w ≤ k → names w k ≡ true → ⊥
-    unmarked-past k h e = false≢true (sym (ap (λ (x : ℕ). eqb (x / 2 % 2) 1) (mark-past w k long h)) ∙ e)
+  unmarked-past : (k : ℕ) → chunkCount w ≤ k → names w k ≡ true → ⊥
+  unmarked-past k h e = false≢true (sym (ap (λ (x : ℕ). eqb (x / 2 % 2) 1) (mark-past w k long h)) ∙ e)
 
-    start-near : (k : ℕ) → k < chunkCount w → names w k ≡ true → operandAt w k < m → SameLoad s (clearedChunk s) (operandAt w k) (operandAt w′ k)
-    start-near k h e l =
-        let v = operandAt w k in
-        let y : constantNamed w v ≡ true = named-by w v k h e refl in
-        rw (near-moves (before w) m w k h e l)
-        (record {
-          there = l;
-          here = in-order (constantNamed w) v m l y;
-          kind = sym (pooled-kept (constantNamed w) m (s .kinds) v l y);
-          word = sym (pooled-kept (constantNamed w) m (s .words) v l y);
-        })
+  start-near : (k : ℕ) → k < chunkCount w → names w k ≡ true → operandAt w k < m → SameLoad s (clearedChunk s) (operandAt w k) (operandAt w′ k)
+  start-near k h e l =
+      let v = operandAt w k in
+      let y : constantNamed w v ≡ true = named-by w v k h e refl in
+      rw (near-moves (before w) m w k h e l)
+      (record {
+        there = l;
+        here = in-order (constantNamed w) v m l y;
+        kind = sym (pooled-kept (constantNamed w) m (s .kinds) v l y);
+        word = sym (pooled-kept (constantNamed w) m (s .words) v l y);
+      })
 
-    start-load : (k : ℕ) → k < chunkCount w → names w k ≡ true → Loads limit s (clearedChunk s) (operandAt w k) (operandAt w′ k)
-    start-load k h e =
-        ⊎-elim (λ l. inl (start-near k h e l)) (λ l. inr (record { same = sym (far-stays (before w) m w k h (omega arith)); past = l })) (near k h e)
+  start-load : (k : ℕ) → k < chunkCount w → names w k ≡ true → Loads limit s (clearedChunk s) (operandAt w k) (operandAt w′ k)
+  start-load k h e =
+      ⊎-elim (λ l. inl (start-near k h e l)) (λ l. inr (record { same = sym (far-stays (before w) m w k h (omega arith)); past = l })) (near k h e)
 
-    start-alike : Alike limit s (clearedChunk s)
-    start-alike =
-        record {
-          long = long ∙ sym (recoded-length (before w) m w);
-          dead = refl;
-          ops = λ k. in-or-past k (chunkCount w) (λ h. sym (recoded-op (before w) m w k h)) (λ h. op-past w k long h ∙ sym (op-past w′ k long′ (past′ k h)));
-          marks = λ k. in-or-past k (chunkCount w) (λ h. sym (recoded-mark (before w) m w k h)) (λ h. mark-past w k long h
-              ∙ sym (mark-past w′ k long′ (past′ k h)));
-          plain = λ k e.
-              in-or-past k (chunkCount w) (λ h. sym (unmarked-stays (before w) m w k h e)) (λ h. operand-past w k long h
-              ∙ sym (operand-past w′ k long′ (past′ k h)));
-          loads = λ k e. in-or-past k (chunkCount w) (λ h. start-load k h e) (λ h. absurd (unmarked-past k h e));
-          consts = λ k e.
-              in-or-past k (chunkCount w) (λ h. rule-const (opAt w k) (markAt w k) (accepted-at n w ok k h) e)
-              (λ h. absurd (false≢true (sym (ap (λ (x : ℕ). eqb x LoadConst) (op-past w k long h)) ∙ e)));
-          apart = λ k e. in-or-past k (chunkCount w) (λ h. rule-both (opAt w k) (markAt w k) (accepted-at n w ok k h) e .0) (λ h. absurd (unmarked-past k h e));
-          free = λ k e. in-or-past k (chunkCount w) (λ h. rule-both (opAt w k) (markAt w k) (accepted-at n w ok k h) e .1) (λ h. absurd (unmarked-past k h e));
-        }
+  start-alike : Alike limit s (clearedChunk s)
+  start-alike =
+      record {
+        long = long ∙ sym (recoded-length (before w) m w);
+        dead = refl;
+        ops = λ k. in-or-past k (chunkCount w) (λ h. sym (recoded-op (before w) m w k h)) (λ h. op-past w k long h ∙ sym (op-past w′ k long′ (past′ k h)));
+        marks = λ k. in-or-past k (chunkCount w) (λ h. sym (recoded-mark (before w) m w k h)) (λ h. mark-past w k long h
+            ∙ sym (mark-past w′ k long′ (past′ k h)));
+        plain = λ k e.
+            in-or-past k (chunkCount w) (λ h. sym (unmarked-stays (before w) m w k h e)) (λ h. operand-past w k long h
+            ∙ sym (operand-past w′ k long′ (past′ k h)));
+        loads = λ k e. in-or-past k (chunkCount w) (λ h. start-load k h e) (λ h. absurd (unmarked-past k h e));
+        consts = λ k e.
+            in-or-past k (chunkCount w) (λ h. rule-const (opAt w k) (markAt w k) (accepted-at n w ok k h) e)
+            (λ h. absurd (false≢true (sym (ap (λ (x : ℕ). eqb x LoadConst) (op-past w k long h)) ∙ e)));
+        apart = λ k e. in-or-past k (chunkCount w) (λ h. rule-both (opAt w k) (markAt w k) (accepted-at n w ok k h) e .0) (λ h. absurd (unmarked-past k h e));
+        free = λ k e. in-or-past k (chunkCount w) (λ h. rule-both (opAt w k) (markAt w k) (accepted-at n w ok k h) e .1) (λ h. absurd (unmarked-past k h e));
+      }
 
-    start-pools : Pools (s .kinds) (s .words) m (pooled (constantNamed w) m (s .kinds)) (pooled (constantNamed w) m (s .words)) (before w m)
-    start-pools =
-        record {
-          used = constantNamed w;
-          count = refl;
-          forth = λ i h e. record {
-            at = before w i;
-            inside = in-order (constantNamed w) i m h e;
-            kind = pooled-kept (constantNamed w) m (s .kinds) i h e;
-            word = pooled-kept (constantNamed w) m (s .words) i h e;
-          };
-          back = λ j h.
-              let p = onto (constantNamed w) m j h in
-              record {
-                at = p .place;
-                inside = p .below;
-                kind = sym (pooled-kept (constantNamed w) m (s .kinds) (p .place) (p .below) (p .passes))
-                    ∙ ap (λ (x : ℕ). getD (pooled (constantNamed w) m (s .kinds)) x 0) (p .number);
-                word = sym (pooled-kept (constantNamed w) m (s .words) (p .place) (p .below) (p .passes))
-                    ∙ ap (λ (x : ℕ). getD (pooled (constantNamed w) m (s .words)) x 0) (p .number);
-              };
-        }
+  start-pools : Pools (s .kinds) (s .words) m (pooled (constantNamed w) m (s .kinds)) (pooled (constantNamed w) m (s .words)) (before w m)
+  start-pools =
+      record {
+        used = constantNamed w;
+        count = refl;
+        forth = λ i h e. record {
+          at = before w i;
+          inside = in-order (constantNamed w) i m h e;
+          kind = pooled-kept (constantNamed w) m (s .kinds) i h e;
+          word = pooled-kept (constantNamed w) m (s .words) i h e;
+        };
+        back = λ j h.
+            let p = onto (constantNamed w) m j h in
+            record {
+              at = p .place;
+              inside = p .below;
+              kind = sym (pooled-kept (constantNamed w) m (s .kinds) (p .place) (p .below) (p .passes))
+                  ∙ ap (λ (x : ℕ). getD (pooled (constantNamed w) m (s .kinds)) x 0) (p .number);
+              word = sym (pooled-kept (constantNamed w) m (s .words) (p .place) (p .below) (p .passes))
+                  ∙ ap (λ (x : ℕ). getD (pooled (constantNamed w) m (s .words)) x 0) (p .number);
+            };
+      }
 
-    sim-refold : (strict : Bool) (tries : List ℕ) → PassRoom s → foldAll (byScan strict tries) s .constants < 65535
-        → foldAll (byScan strict tries) s .constants ≤ limit
-        → Sim limit (foldAll (byScan strict tries) s) (foldAll (byScan strict tries) (clearedChunk s))
-    sim-refold strict tries x few low =
-        let e = all-is (byScan strict tries) s (chunkCount w) refl in
-        sim-all strict tries s (clearedChunk s) (chunkCount w) refl (sym (recoded-count (before w) m w)) x (room-after s x) (rw e at few) limit (rw e at low)
-        (record { alike = start-alike; pools = start-pools })
+  sim-refold : (strict : Bool) (tries : List ℕ) → PassRoom s → foldAll (byScan strict tries) s .constants < 65535
+      → foldAll (byScan strict tries) s .constants ≤ limit
+      → Sim limit (foldAll (byScan strict tries) s) (foldAll (byScan strict tries) (clearedChunk s))
+  sim-refold strict tries x few low =
+      let e = all-is (byScan strict tries) s (chunkCount w) refl in
+      sim-all strict tries s (clearedChunk s) (chunkCount w) refl (sym (recoded-count (before w) m w)) x (room-after s x) (rw e at few) limit (rw e at low)
+      (record { alike = start-alike; pools = start-pools })
 
 -- the pass adds to the constants
 more-all : (bars : Bars) (s : Chunk) → s .constants ≤ foldAll bars s .constants

@@ -31,17 +31,8 @@ use Rattle.clear.proofs.Whole.{numbered-ext}
 use Rattle.named.proofs.Recoding.{Recoding, recoding-none, recoding-more, recoding-done}
 use Rattle.clear.proofs.Tested.{held-of, table-met}
 use Rattle.clear.proofs.Kept.{named-by, naming, onto, pooled-kept, pooled-length}
-use Rattle.clear.proofs.Loads.{
-  recoded-length,
-  recoded-count,
-  recoded-op,
-  recoded-mark,
-  recoded-names,
-  near-moves,
-  operand-unmarked,
-  operand-far,
-  operand-near,
-}
+use Rattle.clear.proofs.Loads.{recoded-length, recoded-count, recoded-op, recoded-mark, recoded-names, near-moves, operand-unmarked, operand-far}
+use Rattle.clear.proofs.Loads.{operand-near}
 
 -- ---- where every constant is named, nothing moves
 

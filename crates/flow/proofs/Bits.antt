@@ -3,27 +3,8 @@ use mathlib.Core.Path.{_≡_, refl, sym, ap, ap₂, _∙_, subst}
 use mathlib.Core.Logic.{_≢_}
 use Prim.Native.Nat.{ℕ, zero, suc, _+_, _-_, _*_, _/_, _%_, _^_, _≤_, _<_, min, max}
 use native.Mathlib.Decide.{ℕ-discrete, decLt}
-use native.Mathlib.Nat.{
-  mod-eq-of-lt,
-  mul-add-mod-self-right,
-  mod-lt,
-  div-one,
-  zero-div,
-  zero-mod,
-  pow-suc,
-  mul-comm,
-  mul-assoc,
-  one-mul,
-  add-zero,
-  div-div-eq-div-mul,
-  div-eq-of-lt,
-  mul-mod-left,
-  lt-of-lt-of-le,
-  div-lt-iff-lt-mul,
-  zero-lt-suc,
-  le-add-right,
-  le-add-left,
-}
+use native.Mathlib.Nat.{mod-eq-of-lt, mul-add-mod-self-right, mod-lt, div-one, zero-div, zero-mod, pow-suc, mul-comm, mul-assoc, one-mul, add-zero}
+use native.Mathlib.Nat.{div-div-eq-div-mul, div-eq-of-lt, mul-mod-left, lt-of-lt-of-le, div-lt-iff-lt-mul, zero-lt-suc, le-add-right, le-add-left}
 use native.Mathlib.Omega.{arith}
 use lib.Arith.{digits-mod, half-le}
 use lib.Bits.{bitAnd, bitOr, bitXor, differ, and-shr, or-shr, xor-shr, and-step, or-step, xor-step}

@@ -2,22 +2,8 @@
 use mathlib.Core.Path.{_≡_, refl, sym, ap, ap₂, _∙_, subst}
 use mathlib.Core.List.{List, [], _∷_, _++_, append-nil}
 use Prim.Native.Nat.{ℕ, zero, suc, _+_, _-_, _*_, _/_, _%_, _^_, _≤_, _<_, min}
-use native.Mathlib.Nat.{
-  add-comm,
-  zero-mul,
-  mul-zero,
-  suc-mul,
-  mul-suc,
-  lt-of-le-of-lt,
-  mod-lt,
-  zero-lt-suc,
-  add-zero,
-  add-suc,
-  suc-add,
-  pow-suc,
-  zero-add,
-  div-lt-iff-lt-mul,
-}
+use native.Mathlib.Nat.{add-comm, zero-mul, mul-zero, suc-mul, mul-suc, lt-of-le-of-lt, mod-lt, zero-lt-suc, add-zero, add-suc, suc-add, pow-suc, zero-add}
+use native.Mathlib.Nat.{div-lt-iff-lt-mul}
 use native.Mathlib.Numerals.{add-one}
 use native.Mathlib.Omega.{arith}
 use lib.Arith.{lt-one}

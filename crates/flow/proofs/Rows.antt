@@ -1,19 +1,8 @@
 -- The sweeps find the least solution of the row equations. Assumes nothing.
 use mathlib.Core.Path.{_≡_, refl, sym, ap, ap₂, _∙_, subst}
 use mathlib.Core.Logic.{⊎-elim, _⊎_, inl, inr}
-use mathlib.Core.List.{
-  List,
-  [],
-  _∷_,
-  List·Memᴰ,
-  List·Memᴰ·head,
-  List·Memᴰ·tail,
-  List·Memᴰ·cases-cons,
-  List·Memᴰ·not-nil,
-  Memᴰ·append-left,
-  Memᴰ·append-right,
-  List-discrete,
-}
+use mathlib.Core.List.{List, [], _∷_, List·Memᴰ, List·Memᴰ·head, List·Memᴰ·tail, List·Memᴰ·cases-cons, List·Memᴰ·not-nil, Memᴰ·append-left, Memᴰ·append-right}
+use mathlib.Core.List.{List-discrete}
 use Prim.Native.Nat.{ℕ, zero, suc, _+_, _-_, _^_, _≤_, _<_, max}
 use native.Mathlib.Nat.{le-refl, le-antisymm}
 use native.Mathlib.Decide.{ℕ-discrete, decLe, decLt}

@@ -4,19 +4,8 @@ use mathlib.Core.Logic.{_≢_}
 use mathlib.Core.List.{List, [], _∷_}
 use mathlib.Core.Bool.{Bool, cond}
 use Prim.Native.Nat.{ℕ, suc, _+_, _-_, _*_, _/_, _%_, _^_, _≤_, _<_, max}
-use native.Mathlib.Nat.{
-  mod-lt,
-  div-add-mod',
-  one-mul,
-  div-eq-of-lt,
-  mod-eq-of-lt,
-  lt-of-lt-of-le,
-  div-lt-iff-lt-mul,
-  add-div-right,
-  add-mod-right,
-  le-add-right,
-  mul-le-mul-right,
-}
+use native.Mathlib.Nat.{mod-lt, div-add-mod', one-mul, div-eq-of-lt, mod-eq-of-lt, lt-of-lt-of-le, div-lt-iff-lt-mul, add-div-right, add-mod-right}
+use native.Mathlib.Nat.{le-add-right, mul-le-mul-right}
 use native.Mathlib.Decide.{ℕ-discrete, decLt}
 use native.Mathlib.Numerals.{add-one}
 use native.Mathlib.Omega.{arith}

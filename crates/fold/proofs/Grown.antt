@@ -171,17 +171,17 @@ pub asked-none : (strict : Bool) (l : List ℕ) (s : Chunk) → Asked strict l s
 unfolding latest
 asked-none strict l s = record { held = held-none (byTable strict l) s; told = refl }
 
-module _ {strict : Bool} {l : List ℕ} {s t : Chunk} {last i n : ℕ} (h : Asked strict l s t last i) (z : n ≡ chunkCount (s .code)) (b : i < n) (f : PassRoom s)
-  where
-    pub asked-ready : OperatorRoom t i
-    asked-ready = held-ready (h .held) z b f
+module _ {strict : Bool} {l : List ℕ} {s t : Chunk} {last i n : ℕ} (h : Asked strict l s t last i) (z : n ≡ chunkCount (s .code)) (b : i < n)
+    (f : PassRoom s) where
+  pub asked-ready : OperatorRoom t i
+  asked-ready = held-ready (h .held) z b f
 
-    pub asked-more : {more : ℕ} (u : Chunk) → more ≡ cond (isLanding strict l i) i last → u ≡ tryFold (after more) i t → length (u .code) ≡ length (t .code)
-        → length (u .dead) ≡ length (t .dead) → length (u .kinds) ≡ length (t .kinds) → length (u .words) ≡ length (t .words) → Asked strict l s u more (i + 1)
-    unfolding latest
-    asked-more {more} u m e c d k w =
-        let y : more ≡ latest (isLanding strict l) (suc i) = m ∙ ap (λ (x : ℕ). cond (isLanding strict l i) i x) (h .told) in
-        record { held = held-more (h .held) z b f u (rw y at e) c d k w; told = rw (add-one i) y }
+  pub asked-more : {more : ℕ} (u : Chunk) → more ≡ cond (isLanding strict l i) i last → u ≡ tryFold (after more) i t → length (u .code) ≡ length (t .code)
+      → length (u .dead) ≡ length (t .dead) → length (u .kinds) ≡ length (t .kinds) → length (u .words) ≡ length (t .words) → Asked strict l s u more (i + 1)
+  unfolding latest
+  asked-more {more} u m e c d k w =
+      let y : more ≡ latest (isLanding strict l) (suc i) = m ∙ ap (λ (x : ℕ). cond (isLanding strict l i) i x) (h .told) in
+      record { held = held-more (h .held) z b f u (rw y at e) c d k w; told = rw (add-one i) y }
 
 pub asked-all : {strict : Bool} {l : List ℕ} {s t : Chunk} {last i n : ℕ} → Asked strict l s t last i → n ≡ chunkCount (s .code) → n ≤ i → i ≤ n → t ≡ foldAll
     (byTable strict l) s

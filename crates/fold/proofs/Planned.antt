@@ -17,21 +17,8 @@ use Rattle.values.specs.declared.Maybe.{Maybe}
 use Rattle.values.specs.declared.Maybe.the-variants.{Is, Nothing}
 use Rattle.values.specs.declared.Op.{Op}
 use Rattle.pool.specs.Inner.{PushRoom}
-use Rattle.fold.specs.Plan.{
-  Chunk,
-  operatorPage,
-  kindOf,
-  prevLive,
-  operandOf,
-  blocked,
-  withFound,
-  withVal,
-  foldUnary,
-  tryFoldBinop,
-  tryFoldUnary,
-  planFor,
-  planAt,
-}
+use Rattle.fold.specs.Plan.{Chunk, operatorPage, kindOf, prevLive, operandOf, blocked, withFound, withVal, foldUnary, tryFoldBinop, tryFoldUnary, planFor}
+use Rattle.fold.specs.Plan.{planAt}
 use Rattle.fold.specs.Inner.{OperatorRoom}
 use Rattle.operands.specs.declared.Found.{Found}
 use Rattle.operands.specs.declared.Found.the-variants.{At, Nowhere}
@@ -132,16 +119,16 @@ module _ (bars : ℕ → Bool) (i : ℕ) (s : Chunk) {p q : ℕ} {v : Val} where
 
 -- ---- so they are there, and there is room for the result
 
-module _ (bars : ℕ → Bool) (i : ℕ) (s : Chunk) {plan : Plan} {p q : ℕ} {v : Val} (e : plan ≡ planAt bars i s) (f : plan ≡ Put p q v) (r : OperatorRoom s i)
-  where
-    is : Planned s i p q
-    is = planned bars i s (sym e ∙ f)
+module _ (bars : ℕ → Bool) (i : ℕ) (s : Chunk) {plan : Plan} {p q : ℕ} {v : Val} (e : plan ≡ planAt bars i s) (f : plan ≡ Put p q v)
+    (r : OperatorRoom s i) where
+  is : Planned s i p q
+  is = planned bars i s (sym e ∙ f)
 
-    pub first-there : p < chunkCount (s .code)
-    first-there = omega (arith, is .first, r .readable .here)
+  pub first-there : p < chunkCount (s .code)
+  first-there = omega (arith, is .first, r .readable .here)
 
-    pub second-there : q < length (s .dead)
-    second-there = omega (arith, is .second, r .readable .marked)
+  pub second-there : q < length (s .dead)
+  second-there = omega (arith, is .second, r .readable .marked)
 
-    pub room-there : PushRoom (s .kinds) (s .words) (s .constants)
-    room-there = r .room (is .operator)
+  pub room-there : PushRoom (s .kinds) (s .words) (s .constants)
+  room-there = r .room (is .operator)

@@ -79,7 +79,7 @@ fn kind_of(o: u16) -> Kind
     }
 }
 
-// Each missing operand ends the attempt.
+// What a folding operator of two operands becomes; each missing operand ends the attempt.
 fn try_fold_binop(
     code: &[u16],
     dead: &[u8],

@@ -50,12 +50,11 @@ figuresOf b ms = record {
   at = firstAt (longestOf ms) ms .at;
 }
 
--- Two groups joined. The later one's longest list is reported if the earlier has no level or none so long; its body moves up by the
--- earlier group's bodies.
+-- whether the later group's longest list is reported: the earlier has no level, or none so long
 unfoldable pub betterOf : Figures → Figures → Bool
 betterOf f g = g .found && (not (f .found) || ltb (f .longest) (g .longest))
 
--- the figures of two groups as those of one, f the earlier
+-- the figures of two groups as those of one, f the earlier; a body of the later moves up by the earlier's bodies
 unfoldable pub joinOf : Figures → Figures → Figures
 joinOf f g =
     let t = betterOf f g in
@@ -69,11 +68,11 @@ joinOf f g =
       at = cond t (g .at) (f .at);
     }
 
--- 13 where a total would pass 64 bits: 1 bodies, 2 levels, 3 kept registers; 4 the body's number, moved up
+-- the largest number of 64 bits
 abbrev pub most : ℕ
 most = 18446744073709551615
 
--- two groups joined, or 13 with the number of the first total that would pass 64 bits
+-- two groups joined, or 13 and the first total that would pass 64 bits: 1 bodies, 2 levels, 3 kept registers; 4 the body's number, moved up
 unfoldable pub sumsOf : Figures → Figures → FiguresAnswer
 sumsOf f g =
     cond (ltb (most - f .bodies) (g .bodies)) (Over 1)

@@ -132,36 +132,36 @@ module _ (bits hand : ℕ) (width : Width bits hand) (regs : ℕ) (w tries rows 
             lists = z .lists ∙ ap (λ (x : ℕ). over (listsTo regs w tries (rowsOf bits x (suc (count w)) new) (count w)) list) e
 
   -- by document 01's
-  module _ (wide : Bool) (part : List ℕ) (full lost : ℕ) (f : Rows bits wide regs w part full lost) (l : length part ≡ length (take ((count w + 1) * m) rows))
-    where
-      pub ready : Small bits (part ++ drop ((count w + 1) * m) rows) → LevelsRoom bits hand regs w m (part ++ drop ((count w + 1) * m) rows)
-      ready = ready-by (flow regs w) (routeStart bits wide regs w) (rows-regs bits wide regs w) part full lost f l
+  module _ (wide : Bool) (part : List ℕ) (full lost : ℕ) (f : Rows bits wide regs w part full lost)
+      (l : length part ≡ length (take ((count w + 1) * m) rows)) where
+    pub ready : Small bits (part ++ drop ((count w + 1) * m) rows) → LevelsRoom bits hand regs w m (part ++ drop ((count w + 1) * m) rows)
+    ready = ready-by (flow regs w) (routeStart bits wide regs w) (rows-regs bits wide regs w) part full lost f l
 
-      pub new-long : length (part ++ drop ((count w + 1) * m) rows) ≡ length rows
-      new-long = long-by (flow regs w) (routeStart bits wide regs w) (rows-regs bits wide regs w) part full lost f l
+    pub new-long : length (part ++ drop ((count w + 1) * m) rows) ≡ length rows
+    new-long = long-by (flow regs w) (routeStart bits wide regs w) (rows-regs bits wide regs w) part full lost f l
 
-      module _ (list : List ℕ) (total : ℕ) (q : total ≡ length (listsTo regs w tries (rowsOf bits m (suc (count w)) (part ++ drop ((count w + 1) * m) rows))
-          (count w))) where
-        pub out-short : length list < total → Outcome bits w regs tries wide rows offsets list (part ++ drop ((count w + 1) * m) rows) offsets list
-            (No (Short 3 total))
-        out-short = short-by (flow regs w) (routeStart bits wide regs w) (rows-regs bits wide regs w) part full lost f l list total q
+    module _ (list : List ℕ) (total : ℕ) (q : total ≡ length (listsTo regs w tries (rowsOf bits m (suc (count w)) (part ++ drop ((count w + 1) * m) rows))
+        (count w))) where
+      pub out-short : length list < total → Outcome bits w regs tries wide rows offsets list (part ++ drop ((count w + 1) * m) rows) offsets list
+          (No (Short 3 total))
+      out-short = short-by (flow regs w) (routeStart bits wide regs w) (rows-regs bits wide regs w) part full lost f l list total q
 
-        pub out-told : total ≤ length list → (o l′ : List ℕ) → Filled regs w tries (rowsOf bits m (suc (count w)) (part ++ drop ((count w + 1) * m) rows))
-            offsets
-            list o l′
-            → Outcome bits w regs tries wide rows offsets list (part ++ drop ((count w + 1) * m) rows) o l′ (Is total full lost)
-        out-told = told-by (flow regs w) (routeStart bits wide regs w) (rows-regs bits wide regs w) part full lost f l list total q
+      pub out-told : total ≤ length list → (o l′ : List ℕ) → Filled regs w tries (rowsOf bits m (suc (count w)) (part ++ drop ((count w + 1) * m) rows))
+          offsets
+          list o l′
+          → Outcome bits w regs tries wide rows offsets list (part ++ drop ((count w + 1) * m) rows) o l′ (Is total full lost)
+      out-told = told-by (flow regs w) (routeStart bits wide regs w) (rows-regs bits wide regs w) part full lost f l list total q
 
 -- the tests decide
-module _ (bits : ℕ) (w : List ℕ) (regs : ℕ) (tries rows offsets : List ℕ) (v : Checked) (e : v ≡ stagesOf bits w regs tries (length rows) (length offsets))
-  where
-    pub go-on : (n : ℕ) → v ≡ stage.Count n → stagesOf bits w regs tries (length rows) (length offsets) ≡ stage.Count (count w)
-    go-on n h = accepted-count bits w regs tries (length rows) (length offsets) n (sym e ∙ h)
+module _ (bits : ℕ) (w : List ℕ) (regs : ℕ) (tries rows offsets : List ℕ) (v : Checked)
+    (e : v ≡ stagesOf bits w regs tries (length rows) (length offsets)) where
+  pub go-on : (n : ℕ) → v ≡ stage.Count n → stagesOf bits w regs tries (length rows) (length offsets) ≡ stage.Count (count w)
+  go-on n h = accepted-count bits w regs tries (length rows) (length offsets) n (sym e ∙ h)
 
-    pub no-by : (r : Refusal) → v ≡ stage.No r → (f : Flow) (start : ℕ) (list : List ℕ) → ListsLeft f start bits w regs tries rows offsets list rows offsets
-        list
-        (No r)
-    no-by r h f start list = refused (sym e ∙ h)
+  pub no-by : (r : Refusal) → v ≡ stage.No r → (f : Flow) (start : ℕ) (list : List ℕ) → ListsLeft f start bits w regs tries rows offsets list rows offsets
+      list
+      (No r)
+  no-by r h f start list = refused (sym e ∙ h)
 
-    pub go-no : (r : Refusal) → v ≡ stage.No r → (wide : Bool) (list : List ℕ) → Outcome bits w regs tries wide rows offsets list rows offsets list (No r)
-    go-no r h wide list = no-by r h (flow regs w) (routeStart bits wide regs w) list
+  pub go-no : (r : Refusal) → v ≡ stage.No r → (wide : Bool) (list : List ℕ) → Outcome bits w regs tries wide rows offsets list rows offsets list (No r)
+  go-no r h wide list = no-by r h (flow regs w) (routeStart bits wide regs w) list

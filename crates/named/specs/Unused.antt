@@ -23,11 +23,11 @@ constantNamed w i = some (namesIt w i) (chunkCount w)
 abbrev pub before : List ℕ → ℕ → ℕ
 before w i = many (constantNamed w) i
 
--- of the first m entries those that pass f, in their order
+-- entry i if it passes f, as a list of one
 abbrev pub packedAt : (ℕ → Bool) → List ℕ → ℕ → List ℕ
 packedAt f l i = cond (f i) (getD l i 0 ∷ []) []
 
--- the entries that pass f, of the first m, as one list
+-- of the first m entries those that pass f, in their order
 unfoldable pub packedList : (ℕ → Bool) → ℕ → List ℕ → List ℕ
 packedList f m l = each (packedAt f l) m
 

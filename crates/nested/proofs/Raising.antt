@@ -9,24 +9,8 @@ use borrow.Author.Tests.{eqb-true}
 use lib.Bits.{bitOr}
 use lib.Dec.{eqb}
 use Rattle.laws.proofs.Branch.{or-false, or-true}
-use Rattle.ops.specs.Op.{
-  JumpIfFalseR,
-  GetAttrR,
-  Call,
-  ArgsR,
-  Jump,
-  ReturnR,
-  CallGlobalR,
-  CallR,
-  CallMethodR,
-  CallSpreadR,
-  StoreTopR,
-  UnpackR,
-  WithEnter,
-  WithExit,
-  WithJudge,
-  ForIterR,
-}
+use Rattle.ops.specs.Op.{JumpIfFalseR, GetAttrR, Call, ArgsR, Jump, ReturnR, CallGlobalR, CallR, CallMethodR, CallSpreadR, StoreTopR, UnpackR, WithEnter}
+use Rattle.ops.specs.Op.{WithExit, WithJudge, ForIterR}
 use Rattle.code.specs.Ins.{insAt, count, isCall, wide, dunder}
 use Rattle.code.specs.Inner.{Valid}
 use Rattle.code.specs.declared.Ins.{Ins}

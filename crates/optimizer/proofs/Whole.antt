@@ -31,23 +31,8 @@ use Rattle.phi_pass.specs.Phi.{marked}
 use Rattle.fold.proofs.Passed.{Passed, all-passed}
 use Rattle.finish.specs.Finish.{Tables, tables, mapOf, sourcesOf, renewed, finished}
 use Rattle.finish.specs.Inner.{TableRoom}
-use Rattle.optimizer.specs.Fold.{
-  Buffers,
-  buffers,
-  lensOf,
-  needed,
-  sourcesNeeded,
-  foldOutcome,
-  constantFold,
-  foldPass,
-  joinedBuffers,
-  settled,
-  foldLent,
-  Called,
-  called,
-  rejoined,
-  foldCall,
-}
+use Rattle.optimizer.specs.Fold.{Buffers, buffers, lensOf, needed, sourcesNeeded, foldOutcome, constantFold, foldPass, joinedBuffers, settled, foldLent}
+use Rattle.optimizer.specs.Fold.{Called, called, rejoined, foldCall}
 use Rattle.optimizer.specs.Inner.{FoldRoom, Exact, Mapped}
 use Rattle.finish.specs.declared.Left.{Left}
 use Rattle.optimizer.specs.declared.Folded.{Folded}

@@ -36,16 +36,16 @@ unfoldable pub marked : List ℕ → List ℕ → List ℕ → List ℕ → List
 unfolding phiMarkAt
 marked w map sources dead = each (λ i. phiMarkAt w map sources dead i ∷ []) (length dead)
 
--- the surviving pairs, in order
+-- the pair of the Phi at i, if it lives
 abbrev pub pairLeft : List ℕ → List ℕ → List ℕ → List ℕ → ℕ → List ℕ
 pairLeft w map sources dead i = cond (alive dead i && paired w map sources i) (leftSource map sources i ∷ rightSource map sources i ∷ []) []
 
--- the pairs of all Phis that live, as one list
+-- the surviving pairs, in order
 unfoldable pub pairsLeft : List ℕ → List ℕ → List ℕ → List ℕ → List ℕ
 unfolding paired
 pairsLeft w map sources dead = each (pairLeft w map sources dead) (length dead)
 
--- phi_map indexed anew: each Phi's entry is the number of Phis before it, any other entry 0
+-- a Phi's entry is the number of Phis before it, any other entry 0
 abbrev pub phiEntry : Bool → ℕ → ℕ
 phiEntry phi next = cond phi next 0
 

@@ -22,7 +22,7 @@ cases =
     ∷ ((ForIterR ∷ []) ↝ Step)
     ∷ []
 
--- the opcodes whose registers are not told by `role` alone
+-- how an opcode's registers are told
 unfoldable pub caseOf : ℕ → Case
 unfolding cases
 caseOf o = look Plain o cases
@@ -44,12 +44,12 @@ destBy i = only (hasRole i && has dest (kindsOf i)) (i .a)
 abbrev pub unpacked : Ins → List ℕ
 unpacked i = take (i .x) (i .a ∷ i .b ∷ i .c ∷ [])
 
--- WithEnter with x not 0: b, b + 1; WithExit with x not 0: b to b + 4
+-- m registers from r on
 abbrev pub from : ℕ → ℕ → List ℕ
 from r zero = []
 from r (suc m) = r ∷ from (suc r) m
 
--- m registers from r on if x is not 0, else nothing
+-- m registers from r on if x is not 0, else nothing: WithEnter's b, b + 1 and WithExit's b to b + 4
 abbrev pub inARow : ℕ → ℕ → ℕ → List ℕ
 inARow x r m = cond (eqb x 0) [] (from r m)
 

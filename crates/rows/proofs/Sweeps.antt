@@ -17,21 +17,8 @@ use Rattle.flow.specs.Inner.{Put}
 use Rattle.flow.specs.Words.{rowsOf}
 use Rattle.flow.proofs.Tally.{below-zero}
 use Rattle.flow.proofs.Buffer.{rows-zero}
-use Rattle.flow.proofs.Loop.{
-  Part,
-  part-start,
-  part-step,
-  Going,
-  togo,
-  going-start,
-  lost-first,
-  lost-again,
-  lost-less,
-  full-few,
-  full-found,
-  full-again,
-  full-less,
-}
+use Rattle.flow.proofs.Loop.{Part, part-start, part-step, Going, togo, going-start, lost-first, lost-again, lost-less, full-few, full-found, full-again}
+use Rattle.flow.proofs.Loop.{full-less}
 use Rattle.steps.specs.Level.{isLevel, firstLevel}
 use Rattle.steps.specs.Code.{afterAt, flow}
 use Rattle.steps.specs.Inner.{StepAt, goesBefore, stepFlow, calmOf, calmStep}

@@ -39,7 +39,7 @@ pub fn returns_at(code: &[u16], k: usize) -> bool
     returns_here(code::ins_at(code, k), next, t)
 }
 
-// The first m marks of a lent buffer.
+// Makes the first m marks of a lent buffer 0.
 pub fn clear_marks(out: &mut [u8], m: usize)
     requires { ⌜ m ≤ length (now out) ⌝ }
     ensures { λ _. ⌜ now (out .exit) ≡ clearedTo m (now (out .entry)) ⌝ }
@@ -51,7 +51,7 @@ pub fn clear_marks(out: &mut [u8], m: usize)
     }
 }
 
-// The first m words of a lent buffer.
+// Makes the first m words of a lent buffer 0.
 pub fn clear_words(out: &mut [u32], m: usize)
     requires { ⌜ m ≤ length (now out) ⌝ }
     ensures { λ _. ⌜ now (out .exit) ≡ clearedTo m (now (out .entry)) ⌝ }

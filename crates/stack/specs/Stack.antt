@@ -4,43 +4,8 @@ use mathlib.Core.Bool.{cond}
 use mathlib.Core.List.{List, [], _∷_}
 use lib.Dec.{eqb, ltb, leb}
 use Rattle.laws.specs.Page.{Row, _↝_, look}
-use Rattle.ops.specs.Op.{
-  PushRegs,
-  StoreTopR,
-  PopTop,
-  Dup,
-  BuildSlice,
-  BuildList,
-  BuildTuple,
-  BuildSet,
-  GetItem,
-  Add,
-  Sub,
-  Mul,
-  Div,
-  FloorDiv,
-  Mod,
-  Pow,
-  BitAnd,
-  BitOr,
-  BitXor,
-  Shl,
-  Shr,
-  Eq,
-  NotEq,
-  Lt,
-  LtEq,
-  Gt,
-  GtEq,
-  In,
-  NotIn,
-  Is,
-  IsNot,
-  Minus,
-  Not,
-  LoadAttr,
-  Call,
-}
+use Rattle.ops.specs.Op.{PushRegs, StoreTopR, PopTop, Dup, BuildSlice, BuildList, BuildTuple, BuildSet, GetItem, Add, Sub, Mul, Div, FloorDiv, Mod, Pow, BitAnd}
+use Rattle.ops.specs.Op.{BitOr, BitXor, Shl, Shr, Eq, NotEq, Lt, LtEq, Gt, GtEq, In, NotIn, Is, IsNot, Minus, Not, LoadAttr, Call}
 use Rattle.code.specs.Ins.{insAt}
 use Rattle.code.specs.declared.Ins.{Ins}
 use Rattle.roles.specs.Kinds.{hasRole, fieldOf}

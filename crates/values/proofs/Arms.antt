@@ -20,26 +20,8 @@ use Rattle.values.specs.declared.Divmod.{Divmod}
 use Rattle.values.specs.declared.Divmod.the-variants.{Into, ByZero}
 use Rattle.values.specs.declared.Op.{Op}
 use Rattle.values.specs.declared.Op.the-variants.{Add, Sub, Mul, Div, Mod, FloorDiv, Eq, NotEq, Lt, Gt, LtEq, GtEq, BitAnd, BitOr, BitXor, Shl, Shr}
-use Rattle.values.proofs.Word.{
-  back,
-  back-ok,
-  small-fits,
-  sum-fits,
-  difference-fits,
-  minus-fits,
-  minus-is,
-  zero-bits,
-  and64,
-  or64,
-  xor64,
-  shift-low,
-  shift-far,
-  shift-near,
-  shift-is,
-  shift-down,
-  shift-fits,
-  one-up,
-}
+use Rattle.values.proofs.Word.{back, back-ok, small-fits, sum-fits, difference-fits, minus-fits, minus-is, zero-bits, and64, or64, xor64, shift-low}
+use Rattle.values.proofs.Word.{shift-far, shift-near, shift-is, shift-down, shift-fits, one-up}
 use Rattle.values.proofs.Order.{lt-ints, le-ints, eq-ints, ne-ints}
 
 -- ---- floats

@@ -1,17 +1,7 @@
 -- Two 48-bit ints compare as their floats do, since each becomes a float exactly (`lt-ints`, `le-ints`, `eq-ints`, `ne-ints`). Assumes nothing.
 use Prim.Native.Nat.{ℕ, zero, suc, _+_, _*_, _^_, _<_}
-use native.Mathlib.Nat.{
-  mul-pos,
-  mul-comm,
-  mul-assoc,
-  mul-one,
-  mul-right-comm,
-  zero-mul,
-  eq-of-mul-eq-mul-right,
-  mul-lt-mul-of-pos-right,
-  mul-le-mul-right,
-  add-mul,
-}
+use native.Mathlib.Nat.{mul-pos, mul-comm, mul-assoc, mul-one, mul-right-comm, zero-mul, eq-of-mul-eq-mul-right, mul-lt-mul-of-pos-right, mul-le-mul-right}
+use native.Mathlib.Nat.{add-mul}
 use native.Mathlib.Omega.{arith}
 use mathlib.Core.Path.{_≡_, refl, sym, ap, ap₂, _∙_}
 use mathlib.Core.Bool.{Bool, true, false, not, _&&_, _||_, Bool·beq, false≢true}

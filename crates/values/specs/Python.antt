@@ -25,7 +25,7 @@ unfoldable pub downMod : ℤ → ℕ → ℕ
 downMod (pos a) d = a % d
 downMod (negsuc a) d = d - suc (a % d)
 
--- by a d below 0: the opposite number by the opposite divisor
+-- the quotient, rounded down; by a d below 0 that of the opposite number by the opposite divisor
 unfoldable pub floorDiv : ℤ → ℤ → ℤ
 unfolding downDiv
 floorDiv a (pos d) = downDiv a d
@@ -61,7 +61,7 @@ anyOf x y = max x y
 abbrev pub one : ℕ → ℕ → ℕ
 one x y = (x + y) % 2
 
--- `negsuc n` is -(n + 1), which has n's digits, each turned over
+-- bit by bit and: `negsuc n` is -(n + 1), which has n's digits, each turned over
 unfoldable pub andZ : ℤ → ℤ → ℤ
 andZ (pos a) (pos b) = pos (bitAnd a b)
 andZ (pos a) (negsuc b) = pos (a - bitAnd a b)

@@ -3,19 +3,8 @@ use borrow.Author.Needs.{needs}
 use mathlib.Core.Path.{_≡_}
 use Prim.Native.Nat.{_≤_, _-_}
 use lib.ListN.{length}
-use Rattle.phi_pass.proofs.Pairs.{
-  none-left,
-  in-map,
-  in-sources,
-  Gathered,
-  gathered-none,
-  gathered-dead,
-  gathered-skip,
-  gathered-put,
-  gathered-few,
-  gathered-whole,
-  gathered-all,
-}
+use Rattle.phi_pass.proofs.Pairs.{none-left, in-map, in-sources, Gathered, gathered-none, gathered-dead, gathered-skip, gathered-put, gathered-few}
+use Rattle.phi_pass.proofs.Pairs.{gathered-whole, gathered-all}
 use Rattle.phi_pass.proofs.gather.Statement.{statement}
 use Rattle.phi_pass.proofs.gather.Tie as tie
 

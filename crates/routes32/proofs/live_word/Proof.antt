@@ -2,23 +2,8 @@
 use borrow.Author.Needs.{needs}
 use Prim.Native.Nat.{_-_}
 use Rattle.steps.specs.Level.{firstLevel}
-use Rattle.rows.proofs.Sweeps.{
-  Between,
-  Turn,
-  toGo,
-  word-starts,
-  sweep-starts,
-  known,
-  calm-turn,
-  word-step,
-  left-few,
-  left-again,
-  left-less,
-  whole-few,
-  whole-found,
-  whole-again,
-  whole-less,
-}
+use Rattle.rows.proofs.Sweeps.{Between, Turn, toGo, word-starts, sweep-starts, known, calm-turn, word-step, left-few, left-again, left-less, whole-few}
+use Rattle.rows.proofs.Sweeps.{whole-found, whole-again, whole-less}
 use Rattle.routes32.proofs.live_word.Statement.{statement}
 use Rattle.routes32.proofs.live_word.Tie as tie
 

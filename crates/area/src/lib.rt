@@ -1,10 +1,12 @@
 // The save area of the frame saver: an entry stored, the newest entry, registers put back (document 02, wish 4).
+#![tactic(auto)]
+
 ghost use Rattle.std.specs.Prelude.{◌≡◌, ◌+◌, ◌*◌, ◌<◌, ◌≤◌};
 ghost use Rattle.area.specs.Area.{free_of, put_in, put_back, top_of};
 ghost use Rattle.area.specs.Inner.{StoreRoom, EntryStored};
 
 // The newest entry of the area: where it begins, how long its list is, and its result register.
-#[derive(Drop)]
+#[derive(Clone, Copy)]
 pub enum Top {
     Entry(usize, usize, u64),
     Bare,

@@ -1,4 +1,6 @@
 // A recorded trace as bytes: blocks of 512, 127 slots and a check in each (document 02, wish 9).
+#![tactic(auto)]
+
 ghost use Rattle.std.specs.Prelude.{◌≡◌, ◌+◌, ◌*◌, ◌/◌, ◌<◌, ◌≤◌, length};
 ghost use Rattle.blocks.specs.Blocks.{word_at, slot_at, filler_at, weighed, bad_check, follows, bad_fill, steps_of};
 

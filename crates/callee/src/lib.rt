@@ -1,4 +1,6 @@
 // The callee of a call, traced back to what last wrote its register (block.rs: `global_of`).
+#![tactic(auto)]
+
 ghost use Rattle.std.specs.Prelude.{◌≡◌, ◌<◌, ◌≤◌};
 ghost use Rattle.code.specs.Ins.{count};
 ghost use Rattle.code.specs.Inner.{Valid};
@@ -12,14 +14,14 @@ use pushes::Place;
 use refusals::{Answer, Checked};
 
 // A module binding, if it is known.
-#[derive(Drop)]
+#[derive(Clone, Copy)]
 pub enum Callee {
     Bound(u16),
     Unknown,
 }
 
 // What an instruction says of a register: nothing, that it came from an earlier push, or what it holds.
-#[derive(Drop)]
+#[derive(Clone, Copy)]
 pub enum Step {
     Pass,
     Back(u16),

@@ -1,4 +1,6 @@
 // Lent chunks: four words an instruction, and the refusals of the folding call in document 01's order of test.
+#![tactic(auto)]
+
 ghost use Rattle.std.specs.Prelude.{◌≡◌, not, ◌^◌, ◌<◌, ◌≤◌, length};
 ghost use mir.Val.{bool_byte};
 ghost use Rattle.laws.specs.All.{every};
@@ -11,7 +13,7 @@ use ops::*;
 use refusals::{Checked, Refusal};
 
 // How many entries each table has, the tables of pairs in words.
-#[derive(Drop)]
+#[derive(Clone, Copy)]
 pub struct Counts {
     pub constants: usize,
     pub map: usize,
@@ -21,7 +23,7 @@ pub struct Counts {
 }
 
 // How long each lent buffer is.
-#[derive(Drop)]
+#[derive(Clone, Copy)]
 pub struct Lens {
     pub kinds: usize,
     pub words: usize,
@@ -34,7 +36,7 @@ pub struct Lens {
 }
 
 // How many folding operators and Phis a chunk has.
-#[derive(Drop)]
+#[derive(Clone, Copy)]
 pub struct Tally {
     pub folding: usize,
     pub phis: usize,

@@ -1,4 +1,6 @@
 // Clearing: constants that no instruction names go, and the others move up in their order.
+#![tactic(auto)]
+
 ghost use Rattle.std.specs.Prelude.{◌≡◌, ◌≤◌, length};
 ghost use Rattle.named.specs.Inner.{marked_in};
 ghost use Rattle.clear.specs.Inner.{Down, freed, ClearRoom};

@@ -1,4 +1,6 @@
 // Lent code: its instructions, its record rules, and refusals 1 and 2.
+#![tactic(auto)]
+
 ghost use Rattle.std.specs.Prelude.{◌≡◌, not, ◌+◌, ◌*◌, ◌<◌, length};
 ghost use Rattle.code.specs.Ins.{ins_at, count, is_call};
 ghost use Rattle.code.specs.Rules.{rules, rule_at};
@@ -9,7 +11,7 @@ use ops::*;
 use refusals::{Checked, Refusal};
 
 // One instruction: six words of lent code.
-#[derive(Drop)]
+#[derive(Clone, Copy)]
 pub struct Ins {
     pub op: u16,
     pub marks: u16,

@@ -1,4 +1,6 @@
 // Compaction: dead instructions go, and whatever names a position follows.
+#![tactic(auto)]
+
 ghost use Rattle.std.specs.Prelude.{◌≡◌, ◌+◌, ◌*◌, ◌%◌, ◌≤◌, ◌<◌, length, set};
 ghost use Rattle.chunk.specs.Chunk.{stride, chunk_count, op_at, mark_at, origin_at};
 ghost use Rattle.positions.specs.Remap.{live};

@@ -1,4 +1,6 @@
 // Replay of a survey day: a trace is judged, then its reads and levels are counted (document 02, wish 9).
+#![tactic(auto)]
+
 ghost use Rattle.std.specs.Prelude.{◌≡◌, ◌<◌, ◌≤◌, length, replicate, drop, ◌++◌};
 ghost use Rattle.code.specs.Ins.{count};
 ghost use Rattle.code.specs.Inner.{Whole};
@@ -13,7 +15,7 @@ use refusals::{Answer, Checked, Refusal};
 use trace::Verdict;
 
 // The report of a trace: steps and levels met (the reads of each register are in the lent buffer); or why there is none.
-#[derive(Drop)]
+#[derive(Clone, Copy)]
 pub enum DayAnswer {
     Is(usize, usize),
     No(Refusal),

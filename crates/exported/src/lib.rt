@@ -1,1 +1,2 @@
 // What is promised of every exported call, over its statement. No code.
+#![tactic(auto)]

@@ -1,4 +1,6 @@
 // What the lists of frames whose calls raise add: the registers of one list that another has not.
+#![tactic(auto)]
+
 ghost use Rattle.std.specs.Prelude.{◌≡◌, ◌≤◌, length};
 ghost use Rattle.laws.specs.Page.{among};
 ghost use Rattle.exposes.specs.Answers.{ExposedLeft};

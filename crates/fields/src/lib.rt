@@ -1,4 +1,6 @@
 // What is asked of the instruction at a position: `kinds`, `role`, `field`, `writes` (block.rs), and what it touches. Each answers 1, 2, 6, or the value.
+#![tactic(auto)]
+
 ghost use Rattle.std.specs.Prelude.{◌≡◌};
 ghost use Rattle.fields.specs.Answers.{role_told, kinds_answer, role_answer, field_answer, writes_answer, touch_answer};
 

@@ -1,4 +1,6 @@
 // A month of scripts in figures: levels, kept registers and the longest list over many bodies (document 02, wish 12).
+#![tactic(auto)]
+
 ghost use Rattle.std.specs.Prelude.{◌≡◌, ◌+◌, ◌<◌, length};
 ghost use Rattle.code.specs.Ins.{count};
 ghost use Rattle.groups.specs.Groups.{figures_of};

@@ -1,4 +1,6 @@
 // The Phi pass, then every table anew if anything died (optimizer.rs: the end of `constant_fold`).
+#![tactic(auto)]
+
 ghost use Rattle.std.specs.Prelude.{◌≡◌, ◌*◌, ◌≤◌, length, take};
 ghost use Rattle.laws.specs.All.{many};
 ghost use Rattle.chunk.specs.Chunk.{stride, chunk_count, is_phi};
@@ -7,7 +9,7 @@ ghost use Rattle.finish.specs.Finish.{tables, sources_left, sources_after, map_c
 ghost use Rattle.finish.specs.Inner.{TableRoom};
 
 // How many instructions there are, entries of phi_map, and words of phi_sources.
-#[derive(Drop)]
+#[derive(Clone, Copy)]
 pub struct Left {
     pub instructions: usize,
     pub map: usize,

@@ -1,4 +1,6 @@
 // Folding: what an operator may fold to. Nothing is written here.
+#![tactic(auto)]
+
 ghost use Rattle.std.specs.Prelude.{◌≡◌};
 ghost use Rattle.values.specs.Inner.{SoundInt};
 ghost use Rattle.fold.specs.Plan.{chunk, kind_of, after, fold_unary, try_fold_binop, try_fold_unary, plan_at};
@@ -9,7 +11,7 @@ use ops::*;
 use values::{Maybe, Op, Val};
 
 // What an opcode folds as.
-#[derive(Drop)]
+#[derive(Clone, Copy)]
 pub enum Kind {
     Binop(Op),
     Not,
@@ -18,14 +20,14 @@ pub enum Kind {
 }
 
 // No fold, or: the result stands at the first place, and what is at the second dies with the operator.
-#[derive(Drop)]
+#[derive(Clone, Copy)]
 pub enum Plan {
     Stay,
     Put(usize, usize, Val),
 }
 
 // A result as a load: its opcode, its operand and the new count of constants; or no room.
-#[derive(Drop)]
+#[derive(Clone, Copy)]
 pub enum Loaded {
     As(u16, u16, usize),
     No,

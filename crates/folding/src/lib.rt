@@ -1,4 +1,6 @@
 // The folding call: its refusals, then the fold over each buffer as far as it is needed, told.
+#![tactic(auto)]
+
 ghost use Rattle.std.specs.Prelude.{◌≡◌};
 ghost use Rattle.chunk.specs.Check.{source_room, tally_of, ready_of};
 ghost use Rattle.optimizer.specs.Fold.{buffers};

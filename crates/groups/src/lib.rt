@@ -1,4 +1,6 @@
 // The figures of groups of bodies, and two groups as one (document 02, wish 12).
+#![tactic(auto)]
+
 ghost use Rattle.std.specs.Prelude.{◌≡◌};
 ghost use Rattle.groups.specs.Groups.{join_of, better_of, sums_of};
 ghost use Rattle.groups.specs.Inner.{Sums};
@@ -7,7 +9,7 @@ use refusals::Refusal;
 
 // What is known of a group of bodies: how many, their levels, the registers that these keep, the longest list, and the body and position where
 // it first stands. `found` says that there is a level.
-#[derive(Drop)]
+#[derive(Clone, Copy)]
 pub struct Figures {
     pub bodies: u64,
     pub levels: u64,
@@ -19,7 +21,7 @@ pub struct Figures {
 }
 
 // The figures after a call, or why it is refused.
-#[derive(Drop)]
+#[derive(Clone, Copy)]
 pub enum FiguresAnswer {
     Is(Figures),
     No(Refusal),

@@ -1,4 +1,6 @@
 // The registers that each level keeps, as one flat list with offsets (block.rs: `after`, `each_call`, `live_across`).
+#![tactic(auto)]
+
 ghost use Rattle.std.specs.Prelude.{◌≡◌, ◌+◌, ◌<◌, ◌≤◌, length};
 ghost use Rattle.code.specs.Ins.{count};
 ghost use Rattle.flow.specs.Set.{minus};
@@ -13,7 +15,7 @@ ghost use Rattle.kept.specs.Answers.{stages_of, Outcome};
 use refusals::{Checked, Refusal};
 
 // The list's length and the counts of full and of abandoned sweeps, or the refusal.
-#[derive(Drop)]
+#[derive(Clone, Copy)]
 pub enum KeptAnswer {
     Is(usize, u32, u32),
     No(Refusal),

@@ -1,4 +1,6 @@
 // The registers that each level keeps, by rows of 32 bits: the code of `kept` with other numbers.
+#![tactic(auto)]
+
 ghost use Rattle.std.specs.Prelude.{◌≡◌, ◌+◌, ◌<◌, ◌≤◌, length};
 ghost use Rattle.code.specs.Ins.{count};
 ghost use Rattle.flow.specs.Set.{minus};

@@ -1,4 +1,6 @@
 // Whether code may be laid as a section (block.rs: `pure`, `laid`).
+#![tactic(auto)]
+
 ghost use Rattle.std.specs.Prelude.{◌≡◌, ◌-◌, ◌<◌, length};
 ghost use Rattle.code.specs.Inner.{Whole};
 ghost use Rattle.roles.specs.Roles.{role_table};

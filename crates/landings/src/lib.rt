@@ -1,4 +1,6 @@
 // How many jumps and handlers land on each position of a chunk.
+#![tactic(auto)]
+
 ghost use Rattle.std.specs.Prelude.{◌≡◌, cond, ◌+◌, ◌*◌, ◌/◌, ◌^◌, ◌<◌, ◌≤◌, length, get_or};
 ghost use Rattle.chunk.specs.Chunk.{chunk_count};
 ghost use Rattle.landings.specs.Landings.{landings_of};

@@ -1,4 +1,6 @@
 // A frame saver: what a level keeps is put back as its call is left (document 02, wish 4).
+#![tactic(auto)]
+
 ghost use Rattle.std.specs.Prelude.{◌≡◌};
 ghost use Rattle.saver.specs.Saver.{saver, ends};
 ghost use Rattle.leaves.specs.Leaving.{leave_of, returned, thrown};

@@ -1,4 +1,6 @@
 // Where a level goes on and which register has its result, for hosts that save frames (document 02, wish 4).
+#![tactic(auto)]
+
 ghost use Rattle.std.specs.Prelude.{◌≡◌, ◌<◌};
 ghost use Rattle.code.specs.Ins.{count};
 ghost use Rattle.code.specs.Inner.{Valid};

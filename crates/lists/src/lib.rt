@@ -1,4 +1,6 @@
 // The registers of a set, counted and listed, and those that the handlers around a position add.
+#![tactic(auto)]
+
 ghost use Rattle.std.specs.Prelude.{◌≡◌, ◌&&◌, [], ◌∷◌, suc, ◌+◌, ◌*◌, ◌≤◌, length, take, drop, ltb};
 ghost use Rattle.std.specs.Int.Bits.{bit_or};
 ghost use Rattle.flow.specs.Set.{minus};

@@ -1,4 +1,6 @@
 // The lists of crates/lists, of sets in words of 32 bits.
+#![tactic(auto)]
+
 ghost use Rattle.std.specs.Prelude.{◌≡◌, [], ◌∷◌, suc, ◌+◌, ◌*◌, ◌≤◌, length, take, drop};
 ghost use Rattle.std.specs.Int.Bits.{bit_or};
 ghost use Rattle.flow.specs.Set.{minus};

@@ -1,4 +1,6 @@
 // How many `for` loops each position lies inside, in a lent buffer (block.rs: `loops_around`).
+#![tactic(auto)]
+
 ghost use Rattle.std.specs.Prelude.{◌≡◌, ◌+◌, ◌/◌, ◌<◌, ◌≤◌, length};
 ghost use Rattle.laws.specs.Table.{filled_to};
 ghost use Rattle.code.specs.Inner.{Whole};

@@ -1,1 +1,2 @@
 // Document 01's marked examples, computed. No code.
+#![tactic(auto)]

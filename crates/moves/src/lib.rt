@@ -1,4 +1,6 @@
 // The steps of a recorded trace: which moves a run may make, and the first slot of a block that breaks its rules (document 02, wish 9).
+#![tactic(auto)]
+
 ghost use Rattle.std.specs.Prelude.{◌≡◌, ◌/◌, ◌<◌, length};
 ghost use Rattle.laws.specs.Page.{among};
 ghost use Rattle.code.specs.Ins.{count};

@@ -1,4 +1,6 @@
 // Which constants a chunk names, and its operands by their new numbers.
+#![tactic(auto)]
+
 ghost use Rattle.std.specs.Prelude.{◌≡◌, ◌*◌, ◌≤◌, ◌<◌, length};
 ghost use Rattle.laws.specs.Table.{cleared_to};
 ghost use Rattle.chunk.specs.Chunk.{stride, chunk_count};

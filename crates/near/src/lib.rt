@@ -1,4 +1,6 @@
 // The word route of the sweeps that join handlers: a row in one word, and the handlers' rows together for a whole stretch of positions.
+#![tactic(auto)]
+
 ghost use Rattle.std.specs.Prelude.{◌≡◌, cond, ◌||◌, suc, ◌+◌, ◌/◌, ◌%◌, ◌<◌, ◌≤◌, max, length, eqb};
 ghost use Rattle.code.specs.Ins.{count};
 ghost use Rattle.code.specs.Inner.{Valid};
@@ -187,7 +189,7 @@ fn leaves(i: Ins, all: bool, out: u64, rows: &[u64], k: usize) -> u64
 }
 
 // What a stretch of a sweep told: whether it was left because a jump goes to before the start; else whether a row changed, and whether a jump goes back.
-#[derive(Drop)]
+#[derive(Clone, Copy)]
 pub struct Went {
     pub left: bool,
     pub changed: bool,
@@ -300,7 +302,7 @@ fn lowest(k: usize, tries: &[u32]) -> usize
 }
 
 // Positions with the same tries around them, from `low` on: the rows of their handlers, together.
-#[derive(Drop)]
+#[derive(Clone, Copy)]
 pub struct Cover {
     pub out: u64,
     pub low: usize,

@@ -1,4 +1,6 @@
 // Whether one register is needed at one position: the call about it, and the clearing of its buffers around the search.
+#![tactic(auto)]
+
 ghost use Rattle.std.specs.Prelude.{◌≡◌, ◌+◌, ◌/◌, ◌≤◌, length};
 ghost use Rattle.steps.specs.Code.{flow};
 ghost use Rattle.needed.specs.Path.{Needs};

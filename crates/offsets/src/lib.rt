@@ -1,4 +1,6 @@
 // Whether the offsets and the list of a kept-register call fit its code (document 02, wish 12: refusal 15).
+#![tactic(auto)]
+
 ghost use Rattle.std.specs.Prelude.{◌≡◌, ◌<◌, ◌≤◌, length};
 ghost use Rattle.code.specs.Ins.{count};
 ghost use Rattle.code.specs.Inner.{Whole};

@@ -1,4 +1,6 @@
 // The operands of an attempt to fold: where they stand, what they load, and whether a jump or a landing keeps them from folding.
+#![tactic(auto)]
+
 ghost use Rattle.std.specs.Prelude.{◌≡◌, ◌≤◌, ◌<◌, length};
 ghost use Rattle.chunk.specs.Chunk.{chunk_count, lands};
 ghost use Rattle.operands.specs.Operands.{prev_live, operand_of, skips_into, blocked, after};
@@ -7,7 +9,7 @@ use ops::*;
 use values::Maybe;
 
 // A position, where there is one.
-#[derive(Drop)]
+#[derive(Clone, Copy)]
 pub enum Found {
     At(usize),
     Nowhere,

@@ -1,4 +1,6 @@
 // The exact fold of one chunk: folding, the Phi pass and compaction under one statement, over buffers that are as long as needed.
+#![tactic(auto)]
+
 ghost use Rattle.std.specs.Prelude.{◌≡◌, ◌+◌, ◌≤◌, length, replicate};
 ghost use Rattle.chunk.specs.Chunk.{chunk_count};
 ghost use Rattle.fold.specs.Plan.{chunk};
@@ -12,7 +14,7 @@ use chunk::Counts;
 use finish::Left;
 
 // What is left: instructions, constants, entries of phi_map and words of phi_sources.
-#[derive(Drop)]
+#[derive(Clone, Copy)]
 pub struct Folded {
     pub instructions: usize,
     pub constants: usize,

@@ -1,4 +1,6 @@
 // Whether a body makes a function, and whether each return of it lies outside its `try`s and `with`s (block.rs: `gen_pure`).
+#![tactic(auto)]
+
 ghost use Rattle.std.specs.Prelude.{◌≡◌};
 ghost use Rattle.code.specs.Inner.{Whole};
 ghost use Rattle.outside.specs.Outside.{makes, made, opens, closes, returns_from, returns_outside};

@@ -1,4 +1,6 @@
 // Parameters as bits: those that are written (block.rs: `params_written`).
+#![tactic(auto)]
+
 ghost use Rattle.std.specs.Prelude.{◌≡◌, min, ◌≤◌};
 ghost use Rattle.code.specs.Inner.{Whole};
 ghost use Rattle.roles.specs.Roles.{role_table};

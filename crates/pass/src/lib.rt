@@ -1,4 +1,6 @@
 // Folding: an attempt's write, and the pass, which tries each operator once, first to last.
+#![tactic(auto)]
+
 ghost use Rattle.std.specs.Prelude.{◌≡◌, ◌≤◌, ◌<◌, length};
 ghost use Rattle.chunk.specs.Chunk.{chunk_count};
 ghost use Rattle.pool.specs.Pool.{find_or_push_const};

@@ -1,4 +1,6 @@
 // Parameters as bits: those that a call passes on (block.rs: `passed`).
+#![tactic(auto)]
+
 ghost use Rattle.std.specs.Prelude.{◌≡◌, ◌*◌, ◌<◌, ◌≤◌, length};
 ghost use mir.Val.{bool_byte};
 ghost use Rattle.code.specs.Inner.{Whole};

@@ -1,4 +1,6 @@
 // A search along paths with marks and a waiting stack, whatever is read, stops it and comes next: its laws, and what waits.
+#![tactic(auto)]
+
 ghost use Rattle.std.specs.Prelude.{◌≡◌, ◌+◌, ◌<◌, length};
 ghost use mir.Val.{bool_byte};
 ghost use Rattle.paths.specs.Inner.{pushed};

@@ -1,4 +1,6 @@
 // The Phi pass: which Phis die, the source pairs that survive, and phi_map indexed anew.
+#![tactic(auto)]
+
 ghost use Rattle.std.specs.Prelude.{◌≡◌, ◌&&◌, ◌++◌, eqb, ◌+◌, ◌-◌, ◌*◌, ◌/◌, ◌%◌, ◌≤◌, ◌<◌, length, get_or, take, replicate};
 ghost use Rattle.laws.specs.All.{every, many};
 ghost use Rattle.chunk.specs.Chunk.{chunk_count, is_phi};

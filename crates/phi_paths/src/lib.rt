@@ -1,4 +1,6 @@
 // Whether what a Phi writes is read: paths are followed to the first read (block.rs: `dead_phi`).
+#![tactic(auto)]
+
 ghost use Rattle.std.specs.Prelude.{◌≡◌, ℕ, ◌+◌, ◌/◌, ◌<◌, length, get_or};
 ghost use mir.Val.{bool_byte};
 ghost use Rattle.roles.specs.Kinds.{is_jump};

@@ -1,4 +1,6 @@
 // The constant pool: two lent buffers, a kind and a word for each constant, and their count.
+#![tactic(auto)]
+
 ghost use Rattle.std.specs.Prelude.{◌≡◌, ◌≤◌, ◌<◌, length};
 ghost use Rattle.std.specs.Float.{binary64};
 ghost use Rattle.std.specs.Float.Ieee.{of_bits, to_bits};
@@ -11,7 +13,7 @@ ghost use Rattle.pool.specs.Inner.{PushRoom};
 use values::{Maybe, Val};
 
 // Where a result is kept: its index and the new count, or no room.
-#[derive(Drop)]
+#[derive(Clone, Copy)]
 pub enum Kept {
     At(u16, usize),
     Full,

@@ -1,4 +1,6 @@
 // Where positions go when instructions die: the remap, and the tables that follow it.
+#![tactic(auto)]
+
 ghost use Rattle.std.specs.Prelude.{◌≡◌, ◌++◌, ◌+◌, ◌-◌, ◌%◌, ◌≤◌, length, take, replicate};
 ghost use Rattle.positions.specs.Remap.{mapped};
 ghost use Rattle.positions.specs.Inner.{Remap};

@@ -1,4 +1,6 @@
 // The push whose value a store takes back past a call (block.rs: `pushed_back`).
+#![tactic(auto)]
+
 ghost use Rattle.std.specs.Prelude.{◌≡◌, ◌<◌, ◌≤◌, length};
 ghost use Rattle.code.specs.Ins.{count};
 ghost use Rattle.code.specs.Inner.{Whole, Valid};
@@ -11,7 +13,7 @@ use ops::*;
 use refusals::{Answer, Checked};
 
 // A position, if there is one.
-#[derive(Drop)]
+#[derive(Clone, Copy)]
 pub enum Place {
     At(usize),
     Nowhere,

@@ -1,10 +1,12 @@
 // What every call shares: why it is refused, the tests after the first in document 01's order, and what it answers.
+#![tactic(auto)]
+
 ghost use Rattle.std.specs.Prelude.{◌≡◌, not, ◌*◌, ◌<◌, min, length};
 ghost use Rattle.refusals.specs.Stages.{try_kept, first_bad_try, registers_of, tried_of, inside_of, room_of};
 ghost use Rattle.refusals.specs.Answers.{refusal_of, refused_of, answer_of};
 
 // Why a call is refused, with what is returned beside the number.
-#[derive(Drop)]
+#[derive(Clone, Copy)]
 pub enum Refusal {
     Length(usize),
     Record(usize),
@@ -16,7 +18,7 @@ pub enum Refusal {
 }
 
 // What the tests of a call's input find: how many instructions there are, or the refusal.
-#[derive(Drop)]
+#[derive(Clone, Copy)]
 pub enum Checked {
     Count(usize),
     No(Refusal),
@@ -24,7 +26,7 @@ pub enum Checked {
 
 // What an exported call answers: 0 and its values, or a refusal's number and what it also returns.
 #[repr(C)]
-#[derive(Drop)]
+#[derive(Clone, Copy)]
 pub struct Answer {
     pub refusal: u8,
     pub first: u64,

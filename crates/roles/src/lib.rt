@@ -1,4 +1,6 @@
 // What an instruction does with its fields a, b and c: `kinds`, by the table of all roles (block.rs: `kinds`, `role`).
+#![tactic(auto)]
+
 ghost use Rattle.std.specs.Prelude.{◌≡◌, ◌<◌, min};
 ghost use Rattle.roles.specs.Kinds.{kinds_of, has_role, is_jump, field_of};
 ghost use Rattle.roles.specs.Roles.{role_table};
@@ -103,7 +105,7 @@ pub fn field_of(i: Ins, f: u8) -> u16
 }
 
 // The opcodes whose registers `role` does not tell.
-#[derive(Drop)]
+#[derive(Clone, Copy)]
 pub enum Case {
     Store,
     Unpack,

@@ -1,4 +1,6 @@
 // The live registers before each instruction, by the word route and the wide route (block.rs: `live_rows`, `live_across`).
+#![tactic(auto)]
+
 ghost use Rattle.std.specs.Prelude.{◌≡◌, suc, ◌*◌, ◌≤◌, length};
 ghost use Rattle.code.specs.Ins.{count};
 ghost use Rattle.code.specs.Inner.{Valid};

@@ -1,4 +1,6 @@
 // A row of live registers, found from the rows after it and stored, in one word and in several.
+#![tactic(auto)]
+
 ghost use Rattle.std.specs.Prelude.{◌≡◌, suc, ◌+◌, ◌*◌, ◌<◌, ◌≤◌, length, replicate};
 ghost use Rattle.roles.specs.Sets.{only};
 ghost use Rattle.flow.specs.Flow.{joined, row_at};
@@ -13,7 +15,7 @@ use code::Ins;
 use steps::Step;
 
 // How many sweeps there were: full ones, and ones left because a jump goes to before their start.
-#[derive(Drop)]
+#[derive(Clone, Copy)]
 pub struct Counts {
     pub full: u32,
     pub abandoned: u32,

@@ -1,4 +1,6 @@
 // A row of live registers, in words of 32 bits: the code of `rows` with other numbers.
+#![tactic(auto)]
+
 ghost use Rattle.std.specs.Prelude.{◌≡◌, suc, ◌+◌, ◌*◌, ◌<◌, ◌≤◌, length, replicate};
 ghost use Rattle.roles.specs.Sets.{only};
 ghost use Rattle.flow.specs.Flow.{joined, row_at};

@@ -1,1 +1,2 @@
 // What a folded chunk computes: no code, only the theorem.
+#![tactic(auto)]

@@ -1,4 +1,6 @@
 // A frame saver: what a level keeps is put aside as a call is entered (document 02, wish 4).
+#![tactic(auto)]
+
 ghost use Rattle.std.specs.Prelude.{◌≡◌};
 ghost use Rattle.refusals.specs.Answers.{refusal_of};
 ghost use Rattle.saver.specs.Answers.{saver_told};
@@ -7,7 +9,7 @@ ghost use Rattle.saver.specs.Saver.{saver, ends, Made, enter_of};
 use refusals::Answer;
 
 // What a call answers: the words of the area in use after it, or why it is refused.
-#[derive(Drop)]
+#[derive(Clone, Copy)]
 pub enum SaverAnswer {
     Used(usize),
     Registers(usize),

@@ -1,4 +1,6 @@
 // What walks share: the buffers that they clear first, and whether a value is returned right after its push (block.rs: `returns`).
+#![tactic(auto)]
+
 ghost use Rattle.std.specs.Prelude.{◌≡◌, ◌<◌, ◌≤◌, length};
 ghost use Rattle.laws.specs.Table.{cleared_to};
 ghost use Rattle.code.specs.Inner.{Whole};

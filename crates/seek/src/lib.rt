@@ -1,4 +1,6 @@
 // The search for a use of one register along the paths of accepted code, with marks so that loops end.
+#![tactic(auto)]
+
 ghost use Rattle.std.specs.Prelude.{◌≡◌, ℕ, ◌+◌, ◌/◌, ◌<◌, ◌≤◌, length, get_or};
 ghost use mir.Val.{bool_byte};
 ghost use Rattle.laws.specs.Page.{among};

@@ -1,4 +1,6 @@
 // Sets of registers, in one word and in sixteen: with registers and without them, joined with a row of a buffer, and stored in one.
+#![tactic(auto)]
+
 ghost use Rattle.std.specs.Prelude.{◌≡◌, cond, ◌+◌, ◌*◌, ◌≤◌, length, take, drop};
 ghost use Rattle.std.specs.Int.Bits.{bit_or};
 ghost use Rattle.roles.specs.Sets.{only, from};

@@ -1,4 +1,6 @@
 // The sets of registers of crates/sets, in words of 32 bits.
+#![tactic(auto)]
+
 ghost use Rattle.std.specs.Prelude.{◌≡◌, cond, ◌+◌, ◌*◌, ◌≤◌, length, take, drop};
 ghost use Rattle.std.specs.Int.Bits.{bit_or};
 ghost use Rattle.roles.specs.Sets.{only, from};

@@ -1,4 +1,6 @@
 // The shape of a body: whether it is flat, and whether a `try` or a `with` guards in it (block.rs: `flat`, `guarded`).
+#![tactic(auto)]
+
 ghost use Rattle.std.specs.Prelude.{◌≡◌, ◌<◌, length};
 ghost use Rattle.code.specs.Inner.{Whole};
 ghost use Rattle.shapes.specs.Shape.{flat_here, flat_at, flat as flatAll, guards, guarded as guardedAny};

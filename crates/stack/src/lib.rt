@@ -1,4 +1,6 @@
 // The callee of a call on the stack: the push of the value that lies under its arguments (block.rs: `stack_callee`).
+#![tactic(auto)]
+
 ghost use Rattle.std.specs.Prelude.{◌≡◌, ◌<◌, ◌≤◌};
 ghost use Rattle.code.specs.Ins.{count};
 ghost use Rattle.code.specs.Inner.{Valid};
@@ -12,14 +14,14 @@ use ops::*;
 use refusals::{Answer, Checked};
 
 // A push and one of its registers, if there is one.
-#[derive(Drop)]
+#[derive(Clone, Copy)]
 pub enum Source {
     From(usize, u16),
     Lost,
 }
 
 // An opcode's work on the stack.
-#[derive(Drop)]
+#[derive(Clone, Copy)]
 pub enum Work {
     // Pushes x registers.
     Push,
@@ -36,14 +38,14 @@ pub enum Work {
 }
 
 // How many values an instruction pops and how many it then pushes, if that is known.
-#[derive(Drop)]
+#[derive(Clone, Copy)]
 pub enum Effect {
     Moves(u16, u8),
     Stops,
 }
 
 // Where the walk over the stack's work ends, or how deep the value lies before the instruction.
-#[derive(Drop)]
+#[derive(Clone, Copy)]
 pub enum Turn {
     Ends(Source),
     Needs(usize),

@@ -1,4 +1,6 @@
 // What a sweep sees of lent code: levels, the registers that a position uses and gives up, and what comes after it (block.rs: `level_at`, `live_rows`).
+#![tactic(auto)]
+
 ghost use Rattle.std.specs.Prelude.{◌≡◌, ◌+◌, ◌-◌, ◌*◌, ◌/◌, ◌%◌, ◌<◌, min};
 ghost use Rattle.code.specs.Ins.{ins_at, count};
 ghost use Rattle.code.specs.Inner.{Whole, Valid};
@@ -13,7 +15,7 @@ use ops::*;
 use touch::Touch;
 
 // Where a level goes on, and the register of its result.
-#[derive(Drop)]
+#[derive(Clone, Copy)]
 pub struct Onward {
     pub at: usize,
     pub result: usize,
@@ -23,7 +25,7 @@ pub struct Onward {
 const NONE: usize = 65536;
 
 // An instruction as a sweep sees it: its fields, what it uses and gives up, and whether the row after it and its target's row are read.
-#[derive(Drop)]
+#[derive(Clone, Copy)]
 pub struct Step {
     pub a: u16,
     pub b: u16,

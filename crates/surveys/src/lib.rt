@@ -1,4 +1,6 @@
 // Where code lands, in a lent buffer (block.rs: `targets`).
+#![tactic(auto)]
+
 ghost use Rattle.std.specs.Prelude.{◌≡◌, ◌+◌, ◌*◌, ◌/◌, ◌<◌, ◌≤◌, length};
 ghost use Rattle.laws.specs.Table.{filled_to};
 ghost use Rattle.code.specs.Inner.{Whole};

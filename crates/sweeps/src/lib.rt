@@ -1,4 +1,6 @@
 // What both routes of the raising sweeps need: whether a call is stranded, and the laws of sweeps that join handlers.
+#![tactic(auto)]
+
 ghost use Rattle.std.specs.Prelude.{◌≡◌};
 ghost use Rattle.nested.specs.Raising.{stranded as strandedOf};
 

@@ -1,4 +1,6 @@
 // Which lists of registers the frame saver takes (document 02, wish 4: refusal 14).
+#![tactic(auto)]
+
 ghost use Rattle.std.specs.Prelude.{◌≡◌, ◌<◌, length, get_or, eqb};
 ghost use Rattle.laws.specs.Some.{some};
 ghost use Rattle.taken.specs.Lists.{strange, first_strange};

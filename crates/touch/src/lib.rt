@@ -1,4 +1,6 @@
 // What an instruction by itself touches: the registers that it uses, gives up and writes (block.rs: `writes`).
+#![tactic(auto)]
+
 ghost use Rattle.std.specs.Prelude.{◌≡◌, cond};
 ghost use Rattle.roles.specs.Kinds.{first_of, abc, kinds_of};
 ghost use Rattle.roles.specs.Roles.{role_table};
@@ -47,7 +49,7 @@ fn case_of(o: u16) -> Case
 }
 
 // What an instruction by itself touches: the fields it uses, gives up and writes, and how many registers from b on it gives up and writes besides.
-#[derive(Drop)]
+#[derive(Clone, Copy)]
 pub struct Touch {
     pub used: u8,
     pub given: u8,

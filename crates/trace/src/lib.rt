@@ -1,10 +1,12 @@
 // A recorded trace judged: whether it is a run of the code, and what is wrong first (document 02, wish 9).
+#![tactic(auto)]
+
 ghost use Rattle.std.specs.Prelude.{◌≡◌, ◌+◌, ◌/◌, ◌<◌};
 ghost use Rattle.code.specs.Inner.{Whole};
 ghost use Rattle.trace.specs.Trace.{verdict_of};
 
 // What a trace is found to be: a run, or the first thing wrong, with its block or step.
-#[derive(Drop)]
+#[derive(Clone, Copy)]
 pub enum Verdict {
     Fine,
     Check(usize),

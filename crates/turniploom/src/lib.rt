@@ -1,4 +1,6 @@
 // The exported calls: for Rust and C, each answers one `Answer` by value, 0 and its values or a refusal's number and what it also returns.
+#![tactic(auto)]
+
 ghost use Rattle.std.specs.Prelude.{◌≡◌, length};
 ghost use Rattle.fields.specs.Answers.{kinds_answer, role_answer, field_answer, writes_answer, touch_answer};
 ghost use Rattle.laid.specs.Answers.{pure_answer};

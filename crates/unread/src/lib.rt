@@ -1,4 +1,6 @@
 // Whether a Phi's value is dead: the call about it, and the clearing of its buffers around the search (block.rs: `dead_phi`).
+#![tactic(auto)]
+
 ghost use Rattle.std.specs.Prelude.{◌≡◌, ◌+◌, ◌/◌, ◌<◌, length};
 ghost use Rattle.paths.specs.Search.{SearchSettles};
 ghost use Rattle.phi_paths.specs.Inner.{PhiRoom};

@@ -1,4 +1,6 @@
 // What folds compute: each constant is an int, a float or a bool, with its number inside.
+#![tactic(auto)]
+
 ghost use Rattle.std.specs.Prelude.{◌≡◌, nat_abs, neg_ℤ};
 ghost use Rattle.std.specs.Float.{binary64};
 ghost use Rattle.std.specs.Float.Ieee.{of_int};
@@ -7,7 +9,7 @@ ghost use Rattle.values.specs.Folds.{SmallInt, in_range, divmod, shifted, ints, 
 ghost use Rattle.values.specs.Inner.{SoundInt};
 
 // What folds compute with: an operand, or a result.
-#[derive(Drop)]
+#[derive(Clone, Copy)]
 pub enum Val {
     Int(i64),
     Float(f64),
@@ -15,14 +17,14 @@ pub enum Val {
 }
 
 // An operand or a result, where there is one.
-#[derive(Drop)]
+#[derive(Clone, Copy)]
 pub enum Maybe {
     Is(Val),
     Nothing,
 }
 
 // The operators of two operands.
-#[derive(Drop)]
+#[derive(Clone, Copy)]
 pub enum Op {
     Add,
     Sub,
@@ -44,7 +46,7 @@ pub enum Op {
 }
 
 // A quotient and what it leaves, unless the divisor is 0.
-#[derive(Drop)]
+#[derive(Clone, Copy)]
 pub enum Divmod {
     Into(i64, i64),
     ByZero,

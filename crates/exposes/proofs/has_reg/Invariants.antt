@@ -1,0 +1,11 @@
+-- `exposes::has_reg` meets its contract. Assumes nothing.
+use Prim.Native.Nat.{◌-◌}
+use lib.ListN.{length}
+use Rattle.exposes.proofs.Exposing.{Seeking}
+use Rattle.exposes.proofs.has_reg.Given as goal
+
+abbrev pub invariant-loop-i : goal.invariant-loop-i
+invariant-loop-i l = Seeking l.l l.r l.i
+
+abbrev pub decreases-loop-i : goal.decreases-loop-i
+decreases-loop-i l = length l.l - l.i

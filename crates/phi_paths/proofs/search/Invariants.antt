@@ -1,0 +1,13 @@
+-- `phi_paths::search` meets its contract. The measure: the ways out of positions with no mark, and the waiting positions. Assumes nothing.
+use Prim.Native.Nat.{◌+◌, ◌/◌}
+use lib.ListN.{length}
+use Rattle.paths.specs.Inner.{owed}
+use Rattle.phi_paths.specs.Read.{leads_at}
+use Rattle.phi_paths.proofs.Loop.{Loop}
+use Rattle.phi_paths.proofs.search.Given as goal
+
+abbrev pub invariant-loop-top : goal.invariant-loop-top
+invariant-loop-top l = Loop l.code l.r l.start l.initial.seen l.initial.todo l.seen l.todo l.top
+
+abbrev pub decreases-loop-top : goal.decreases-loop-top
+decreases-loop-top l = owed (leads_at l.code) l.seen (length l.code / 6) + l.top

@@ -1,0 +1,20 @@
+-- `pushes::takes_back` meets its contract: each store passed takes its value back. Assumes nothing.
+use borrow.Author.Rules.{rules}
+use Prim.Native.Nat.{◌-◌}
+use Rattle.laws.proofs.Every.{all}
+use Rattle.pushes.specs.Pushes.{takes_back}
+use Rattle.pushes.proofs.takes_back.Goals as goal
+
+pub returns-then-not-taken_at : goal.returns-then-not-taken_at
+unfolding takes_back
+returns-then-not-taken_at c = search (rules, all)
+
+pub returns : goal.returns
+unfolding takes_back
+returns c = search (rules, all)
+
+pub loop-i-init : goal.loop-i-init
+loop-i-init c = search (rules, all)
+
+pub loop-i-preserved : goal.loop-i-preserved
+loop-i-preserved c = search (rules, all)

@@ -1,0 +1,9 @@
+-- `raises::kept_raising` meets its contract. Assumes nothing.
+use Rattle.raises.proofs.Calls.{go_on, go_no}
+use Rattle.raises.proofs.kept_raising.Goals as goal
+
+pub keep_all-requires : goal.keep_all-requires
+keep_all-requires c = search go_on
+
+pub returns-in-No : goal.returns-in-No
+returns-in-No c = search go_no

@@ -1,0 +1,6 @@
+-- `rows::given_word` meets its contract. Assumes nothing.
+use Rattle.sets.proofs.Sets.{both}
+use Rattle.rows.proofs.given_word.Goals as goal
+
+pub returns : goal.returns
+returns c = search both

@@ -1,0 +1,7 @@
+-- `rows::row_word` meets its contract. Assumes nothing.
+use borrow.Author.Rules.{rules}
+use Rattle.sets.proofs.Sets.{row_is}
+use Rattle.rows.proofs.row_word.Goals as goal
+
+pub returns : goal.returns
+returns c = search (rules, row_is)

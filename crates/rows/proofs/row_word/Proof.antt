@@ -1,8 +1,0 @@
--- `rows::row_word` meets its contract. Assumes nothing.
-use borrow.Author.Rules.{rules}
-use Rattle.sets.proofs.Sets.{row_is}
-use Rattle.rows.proofs.row_word.Statement.{statement}
-use Rattle.rows.proofs.row_word.Tie as tie
-
-pub row_word_spec : {M : Type 1} → statement M
-row_word_spec = tie.close (tie.spec (λ c κs. search rules) (λ c κs. search rules) (λ c κs. search rules) (λ c. search (rules, row_is)))

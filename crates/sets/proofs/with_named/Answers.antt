@@ -1,0 +1,6 @@
+-- `sets::with_named` meets its contract. Assumes nothing.
+use Rattle.sets.proofs.Words.{more}
+use Rattle.sets.proofs.with_named.Goals as goal
+
+pub returns : goal.returns
+returns c = search more

@@ -1,0 +1,21 @@
+-- `shapes::any_guards` meets its contract. Assumes nothing.
+use borrow.Author.Rules.{rules}
+use Prim.Native.Nat.{◌-◌}
+use Rattle.laws.proofs.Some.{somewhere}
+use Rattle.shapes.specs.Shape.{guarded}
+use Rattle.sections.proofs.There.{tested_there}
+use Rattle.shapes.proofs.any_guards.Goals as goal
+
+pub returns-then-guards : goal.returns-then-guards
+unfolding guarded
+returns-then-guards c = search (rules, somewhere, tested_there)
+
+pub returns : goal.returns
+unfolding guarded
+returns c = search (rules, somewhere)
+
+pub loop-k-init : goal.loop-k-init
+loop-k-init c = search (rules, somewhere)
+
+pub loop-k-preserved : goal.loop-k-preserved
+loop-k-preserved c = search (rules, somewhere, tested_there)

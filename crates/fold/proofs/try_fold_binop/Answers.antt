@@ -6,28 +6,12 @@ use Rattle.fold.proofs.try_fold_binop.Goals as goal
 
 pub blocks-requires : goal.blocks-requires
 blocks-requires c =
-    let p = c in
-    let m = p in
-    let q = m in
-    let l = q in
-    let s = l in
-    below_too _ _ m.prev-live2.ensures p.prev2.given.1 (below_too _ _ l.prev-live.ensures q.prev1.given.1 s.requires.here)
+    below_too _ _ c.prev_live-2.ensures c.in-At-prev_live.is (below_too _ _ c.prev_live.ensures c.in-At.is c.requires.here)
 
 pub returns : goal.returns
 returns c =
-    let k = c in
-    let r = k in
-    let f = r in
-    let b = f in
-    let g = b in
-    let a = g in
-    let h = a in
-    let p = h in
-    let m = p in
-    let q = m in
-    let l = q in
-    no_jump _ _ _ _ l.prev-live.ensures q.prev1.given.1 m.prev-live2.ensures p.prev2.given.1 h.operand-of.ensures a.a.given.1
-    g.operand-of2.ensures b.b.given.1 f.fold-binop.ensures r.result.given.1 k.blocks2.ensures c.if-blocks.false
+    no_jump _ _ _ _ c.prev_live.ensures c.in-At.is c.prev_live-2.ensures c.in-At-prev_live.is c.operand_of.ensures c.in-Is.is
+    c.operand_of-2.ensures c.in-Is-operand_of.is c.fold_binop.ensures c.in-Is-fold_binop.is c.blocks-2.ensures c.if-blocks.false
 
 pub returns-in_default : goal.returns-in_default
 returns-in_default c = search no_second

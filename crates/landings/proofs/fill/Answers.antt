@@ -5,9 +5,7 @@ use Rattle.landings.proofs.fill.Goals as goal
 
 pub count_handlers-requires : goal.count_handlers-requires
 count_handlers-requires c =
-    let j = c in
-    let z = j in
-    jumps_low _ _ _ _ z.clear.ensures j.count-jumps.ensures z.requires.0
+    jumps_low _ _ _ _ c.clear.ensures c.count_jumps.ensures c.requires.0
 
 pub count_jumps-requires : goal.count_jumps-requires
 count_jumps-requires c = search (rules, zeros_are)

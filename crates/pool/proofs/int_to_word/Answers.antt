@@ -8,31 +8,23 @@ use Rattle.values.proofs.Word.{back, not_fits, not_up, abs_fits, up}
 use Rattle.pool.proofs.Words.{neg_word, pos_word}
 use Rattle.pool.proofs.int_to_word.Goals as goal
 
-low : (c : tie.Then1) → lt_z c.args.i (pos 0) ≡ true
-low c = rw (back c.ranges.i) at c.if-i-lt0.true
-
-high : (c : tie.Else1) → lt_z c.args.i (pos 0) ≡ false
-high c = rw (back c.ranges.i) at c.if-i-lt0.false
-
 pub overflow_cast-result : goal.overflow_cast-result
 overflow_cast-result c =
-    let s = c in
-    rw (back s.ranges.i, back (not_fits s.ranges.i)) (not_up s.args.i (low c), abs_fits (negsuc 0 -ℤ s.args.i) (not_fits s.ranges.i).sfits)
+    rw (back c.ranges.i, back (not_fits c.ranges.i)) (not_up c.args.i (rw (back c.ranges.i) at c.if-i-lt0.true), abs_fits (negsuc 0 -ℤ c.args.i) (not_fits c.ranges.i).sfits)
 
 pub overflow_sub-result-then-i-lt0 : goal.overflow_sub-result-then-i-lt0
 overflow_sub-result-then-i-lt0 c =
-    let s = c in
-    let f = abs_fits (negsuc 0 -ℤ s.args.i) (not_fits s.ranges.i).sfits in
-    rw (back s.ranges.i, back (not_fits s.ranges.i)) (omega (arith, f.fits))
+    let f = abs_fits (negsuc 0 -ℤ c.args.i) (not_fits c.ranges.i).sfits in
+    rw (back c.ranges.i, back (not_fits c.ranges.i)) (omega (arith, f.fits))
 
 pub overflow_cast-result-else-i-lt0 : goal.overflow_cast-result-else-i-lt0
-overflow_cast-result-else-i-lt0 c = let s = c in rw (back s.ranges.i) (up s.args.i (high c), abs_fits s.args.i s.ranges.i.sfits)
+overflow_cast-result-else-i-lt0 c = rw (back c.ranges.i) (up c.args.i (rw (back c.ranges.i) at c.if-i-lt0.false), abs_fits c.args.i c.ranges.i.sfits)
 
 pub returns-then-i-lt0 : goal.returns-then-i-lt0
-returns-then-i-lt0 c = let s = c in rw (back s.ranges.i, back (not_fits s.ranges.i)) (neg_word s.args.i (low c) s.ranges.i.sfits)
+returns-then-i-lt0 c = rw (back c.ranges.i, back (not_fits c.ranges.i)) (neg_word c.args.i (rw (back c.ranges.i) at c.if-i-lt0.true) c.ranges.i.sfits)
 
 pub overflow_sub-result : goal.overflow_sub-result
 overflow_sub-result c = rw (back c.ranges.i) (not_fits c.ranges.i)
 
 pub returns-else-i-lt0 : goal.returns-else-i-lt0
-returns-else-i-lt0 c = rw (back c.ranges.i) (pos_word c.args.i (high c))
+returns-else-i-lt0 c = rw (back c.ranges.i) (pos_word c.args.i (rw (back c.ranges.i) at c.if-i-lt0.false))

@@ -1,6 +1,6 @@
 -- `values::checked_mul` meets its contract: past the test the product fits 64 bits. Assumes nothing.
 use mathlib.Core.Path.{◌≡◌, ◌∙◌, ap, sym}
-use mathlib.Core.Logic.{⊎_elim, inl, inr}
+use mathlib.Core.Logic.{inl, inr}
 use lib.IntN.{nat_abs, ◌*ℤ◌}
 use mir.Syntax.{w64}
 use mir.Val.{SFits}
@@ -8,34 +8,26 @@ use Rattle.values.specs.Folds.{ints}
 use Rattle.values.proofs.Word.{back, positive, out, product_out, product_fits}
 use Rattle.values.proofs.Arms.{mul_arm}
 use Rattle.values.proofs.checked_mul.Goals as goal
-
-size_a : (c : tie.After-unsigned-abs) → c.unsigned_abs-m.result ≡ nat_abs c.args.a
-size_a c = c.unsigned_abs-m.ensures ∙ ap nat_abs (back c.ranges.a)
-
-size_b : (c : tie.After-unsigned-abs2) → c.unsigned_abs-n.result ≡ nat_abs c.args.b
-size_b c = c.unsigned_abs-n.ensures ∙ ap nat_abs (back c.ranges.b)
+use Rattle.values.proofs.checked_mul.Goals.{then-n-ne0+else-n-m, else-n-ne0}
 
 pub returns-then-n-m : goal.returns-then-n-m
 unfolding ints
 returns-then-n-m c =
-    let s = c in
-    let m = size_a c in
-    let n = size_b c in
-    out (s.args.a *ℤ s.args.b)
-    (product_out s.args.a s.args.b (rw (sym n) (positive _ c.if-n-ne0.true)) (rw (sym m, sym n) c.if-n-m.true))
-
-fits : (c : tie.Joined1) → SFits w64 (c.args.a *ℤ c.args.b)
-fits c =
-    let s = c in
-    let m = size_a c in
-    let n = size_b c in
-    product_fits s.args.a s.args.b
-    (⊎_elim (λ w. inr (rw (sym m, sym n) w.1.left)) (λ w. inl (sym n ∙ w.left)) c.if-n-ne0.branch)
+    let m = c.unsigned_abs-m.ensures ∙ ap nat_abs (back c.ranges.a) in
+    let n = c.unsigned_abs-n.ensures ∙ ap nat_abs (back c.ranges.b) in
+    out (c.args.a *ℤ c.args.b)
+    (product_out c.args.a c.args.b (rw (sym n) (positive _ c.if-n-ne0.true)) (rw (sym m, sym n) c.if-n-m.true))
 
 pub overflow_mul-a : goal.overflow_mul-a
-overflow_mul-a c = let s = c in rw (back s.ranges.a, back s.ranges.b) (fits c)
+overflow_mul-a c =
+    let m = c.unsigned_abs-m.ensures ∙ ap nat_abs (back c.ranges.a) in
+    let n = c.unsigned_abs-n.ensures ∙ ap nat_abs (back c.ranges.b) in
+    rw (back c.ranges.a, back c.ranges.b) (product_fits c.args.a c.args.b
+    (elim c.if-n-ne0.branch [ then-n-ne0+else-n-m w ↦ inr (rw (sym m, sym n) w.if-n-m.false) | else-n-ne0 w ↦ inl (sym n ∙ w.if-n-ne0.false) ]))
 
 pub returns : goal.returns
 returns c =
-    let s = c in
-    mul_arm s.ranges.a s.ranges.b (fits c) c.in_range.ensures
+    let m = c.unsigned_abs-m.ensures ∙ ap nat_abs (back c.ranges.a) in
+    let n = c.unsigned_abs-n.ensures ∙ ap nat_abs (back c.ranges.b) in
+    mul_arm c.ranges.a c.ranges.b (product_fits c.args.a c.args.b
+    (elim c.if-n-ne0.branch [ then-n-ne0+else-n-m w ↦ inr (rw (sym m, sym n) w.if-n-m.false) | else-n-ne0 w ↦ inl (sym n ∙ w.if-n-ne0.false) ])) c.in_range.ensures

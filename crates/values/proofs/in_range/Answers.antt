@@ -7,13 +7,12 @@ use Rattle.values.proofs.Word.{back, out, within, below_least, above_most, betwe
 use Rattle.values.proofs.in_range.Goals as goal
 
 pub returns-then-z-lt-INT_MIN : goal.returns-then-z-lt-INT_MIN
-returns-then-z-lt-INT_MIN c = let s = c in out s.args.z (below_least s.args.z (rw (back s.ranges.z) at c.if-z-lt-INT_MIN.true))
+returns-then-z-lt-INT_MIN c = out c.args.z (below_least c.args.z (rw (back c.ranges.z) at c.if-z-lt-INT_MIN.true))
 
 pub returns-then-z-gt-INT_MAX : goal.returns-then-z-gt-INT_MAX
-returns-then-z-gt-INT_MAX c = let s = c in out s.args.z (above_most s.args.z (rw (back s.ranges.z) at c.if-z-gt-INT_MAX.true))
+returns-then-z-gt-INT_MAX c = out c.args.z (above_most c.args.z (rw (back c.ranges.z) at c.if-z-gt-INT_MAX.true))
 
 pub returns : goal.returns
 returns c =
-    let s = c in
-    ap (λ (z : ℤ). Is (Int z)) (back s.ranges.z)
-    ∙ within s.args.z (between s.args.z (rw (back s.ranges.z) at c.if-z-lt-INT_MIN.false) (rw (back s.ranges.z) at c.if-z-gt-INT_MAX.false))
+    ap (λ (z : ℤ). Is (Int z)) (back c.ranges.z)
+    ∙ within c.args.z (between c.args.z (rw (back c.ranges.z) at c.if-z-lt-INT_MIN.false) (rw (back c.ranges.z) at c.if-z-gt-INT_MAX.false))

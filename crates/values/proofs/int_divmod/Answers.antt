@@ -12,57 +12,40 @@ returns-then-b-eq0 c = zero_divisor c.args.a c.ranges.b c.if-b-eq0.true
 
 pub nonzero_div-q : goal.nonzero_div-q
 nonzero_div-q c =
-    let s = c in
-    (positive _ c.if-b-eq0.false, rw (back s.ranges.a, back s.ranges.b) (quot_fits s.args.a s.args.b s.requires.0 s.requires.1))
+    (positive _ c.if-b-eq0.false, rw (back c.ranges.a, back c.ranges.b) (quot_fits c.args.a c.args.b c.requires.0 c.requires.1))
 
 pub nonzero_rem-r : goal.nonzero_rem-r
 nonzero_rem-r c = nonzero_div-q c
 
 pub overflow_sub-result : goal.overflow_sub-result
 overflow_sub-result c =
-    let s = c in
-    rw (back s.ranges.a, back s.ranges.b, back (quot_fits s.args.a s.args.b s.requires.0 s.requires.1)) (quot_less_fits s.args.a s.args.b
-    s.requires.0 s.requires.1)
+    rw (back c.ranges.a, back c.ranges.b, back (quot_fits c.args.a c.args.b c.requires.0 c.requires.1)) (quot_less_fits c.args.a c.args.b
+    c.requires.0 c.requires.1)
 
 pub overflow_add-result : goal.overflow_add-result
 overflow_add-result c =
-    let s = c in
-    rw (back s.ranges.a, back s.ranges.b, back (rem_fits s.args.a s.args.b s.requires.0 s.requires.1)) (rem_more_fits s.args.a s.args.b
-    s.requires.0 s.requires.1)
-
-test : (c : tie.Then2) → wrong (rem_z c.args.a c.args.b) c.args.b ≡ true
-test c =
-    let s = c in
-    let r = rem_fits s.args.a s.args.b s.requires.0 s.requires.1 in
-    rw (back s.ranges.a, back s.ranges.b, back r, zero_bits r) at c.if-r-b.true
-
-test_2 : (c : tie.Else2) → wrong (rem_z c.args.a c.args.b) c.args.b ≡ false
-test_2 c =
-    let s = c in
-    let r = rem_fits s.args.a s.args.b s.requires.0 s.requires.1 in
-    rw (back s.ranges.a, back s.ranges.b, back r, zero_bits r) at c.if-r-b.false
+    rw (back c.ranges.a, back c.ranges.b, back (rem_fits c.args.a c.args.b c.requires.0 c.requires.1)) (rem_more_fits c.args.a c.args.b
+    c.requires.0 c.requires.1)
 
 pub returns-then-r-b : goal.returns-then-r-b
 returns-then-r-b c =
-    let s = c in
-    let a = s.args.a in
-    let d = s.args.b in
-    let n = bits_up s.ranges.b c.if-b-eq0.false in
+    let a = c.args.a in
+    let d = c.args.b in
+    let n = bits_up c.ranges.b c.if-b-eq0.false in
     rw (
-      back s.ranges.a,
-      back s.ranges.b,
-      back (quot_fits a d s.requires.0 s.requires.1),
-      back (rem_fits a d s.requires.0 s.requires.1),
-      back (quot_less_fits a d s.requires.0 s.requires.1),
-      back (rem_more_fits a d s.requires.0 s.requires.1),
+      back c.ranges.a,
+      back c.ranges.b,
+      back (quot_fits a d c.requires.0 c.requires.1),
+      back (rem_fits a d c.requires.0 c.requires.1),
+      back (quot_less_fits a d c.requires.0 c.requires.1),
+      back (rem_more_fits a d c.requires.0 c.requires.1),
     )
-    (same_divmod a d _ _ n (turned a d n (test c)))
+    (same_divmod a d _ _ n (turned a d n (rw (back c.ranges.a, back c.ranges.b, back (rem_fits a d c.requires.0 c.requires.1), zero_bits (rem_fits a d c.requires.0 c.requires.1)) at c.if-r-b.true)))
 
 pub returns-else-r-b : goal.returns-else-r-b
 returns-else-r-b c =
-    let s = c in
-    let a = s.args.a in
-    let d = s.args.b in
-    let n = bits_up s.ranges.b c.if-b-eq0.false in
-    rw (back s.ranges.a, back s.ranges.b, back (quot_fits a d s.requires.0 s.requires.1), back (rem_fits a d s.requires.0 s.requires.1))
-    (same_divmod a d _ _ n (kept a d n (test_2 c)))
+    let a = c.args.a in
+    let d = c.args.b in
+    let n = bits_up c.ranges.b c.if-b-eq0.false in
+    rw (back c.ranges.a, back c.ranges.b, back (quot_fits a d c.requires.0 c.requires.1), back (rem_fits a d c.requires.0 c.requires.1))
+    (same_divmod a d _ _ n (kept a d n (rw (back c.ranges.a, back c.ranges.b, back (rem_fits a d c.requires.0 c.requires.1), zero_bits (rem_fits a d c.requires.0 c.requires.1)) at c.if-r-b.false)))

@@ -12,10 +12,8 @@ use Rattle.laws.specs.All.{many}
 use Rattle.laws.proofs.Many.{none_counted, counted_on}
 use Rattle.chunk.specs.Chunk.{chunk_count, op_at, is_phi, folds}
 use Rattle.chunk.specs.Check.{tally_of}
+use Rattle.chunk.proofs.tallied.Invariants.{folding_at}
 use Rattle.chunk.proofs.tallied.Goals as goal
-
-abbrev folding_at : List ℕ → ℕ → Bool
-folding_at w k = folds (op_at w k)
 
 module _ (w : List ℕ) (k o r : ℕ) (e : o ≡ op_at w k) where
   one_folds : (v : ℕ) (t : Bool) → v ≡ many (folding_at w) k → t ≡ folds o → r ≡ bool_byte t → v + r ≡ many (folding_at w) (k + 1)

@@ -1,5 +1,4 @@
 -- `code::breaks` meets its contract: an opcode that no rule names keeps those rules. Assumes nothing.
-use borrow.Author.Rules.{rules}
 use mathlib.Core.Path.{◌≡◌, refl}
 use mathlib.Core.Bool.{Bool, true, false, not, ◌&&◌, ◌||◌}
 use mathlib.Core.List.{List}

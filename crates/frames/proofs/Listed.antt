@@ -19,9 +19,9 @@ use Rattle.taken.proofs.Lists.{as_at, all_in}
 -- a member stands somewhere
 pub in_place : {r : ℕ} (l : List ℕ) → Memᴰ r l → (i : ℕ) × (i < length l) × (get_or l i 0 ≡ r)
 in_place [] m = absurd (Memᴰ.not-nil m)
-in_place {r} (x ∷ l) m = ⊎_elim
+in_place {r = r} (x ∷ l) m = ⊎_elim
     (λ e. (0, omega arith, sym e))
-    (λ m'. let (i, h, e) = in_place l m' in (suc i, omega arith, e)) (Memᴰ.cases_cons m)
+    (λ m'. let (i, h, e) = in_place {r = r} l m' in (suc i, omega arith, e)) (Memᴰ.cases_cons m)
 
 -- and what stands somewhere is a member
 pub at_place : (l : List ℕ) (i : ℕ) → i < length l → Memᴰ (get_or l i 0) l

@@ -61,4 +61,4 @@ returns-in-1 c = arm 1 _ c.in-1.is
 
 pub returns-in_default : goal.returns-in_default
 unfolding stack_ops
-returns-in_default c = rest _ c.in-6.rest
+returns-in_default c = rest _ c.in_default.in_default-own.rest

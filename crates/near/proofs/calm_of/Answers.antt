@@ -69,4 +69,4 @@ returns-in-10 c = calm_arm 15 _ (search rules) c.in-10.is
 
 pub returns-in_default : goal.returns-in_default
 unfolding calms
-returns-in_default c = calm_rest _ (search rules) c.in-98.rest
+returns-in_default c = calm_rest _ (search rules) c.in_default.in_default-own.rest

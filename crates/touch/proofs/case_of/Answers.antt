@@ -21,22 +21,29 @@ unfolding case_of
 rest = unnamed Plain cases
 
 pub returns-in-143 : goal.returns-in-143
+unfolding cases
 returns-in-143 c = arm 0 _ c.in-143.is
 
 pub returns-in-141 : goal.returns-in-141
+unfolding cases
 returns-in-141 c = arm 1 _ c.in-141.is
 
 pub returns-in-154 : goal.returns-in-154
+unfolding cases
 returns-in-154 c = arm 2 _ c.in-154.is
 
 pub returns-in-156 : goal.returns-in-156
+unfolding cases
 returns-in-156 c = arm 3 _ c.in-156.is
 
 pub returns-in-47 : goal.returns-in-47
+unfolding cases
 returns-in-47 c = arm 4 _ c.in-47.is
 
 pub returns-in-145 : goal.returns-in-145
+unfolding cases
 returns-in-145 c = arm 5 _ c.in-145.is
 
 pub returns-in_default : goal.returns-in_default
-returns-in_default c = rest _ c.in-143.rest
+unfolding cases
+returns-in_default c = rest _ c.in_default.in_default-own.rest

@@ -13,10 +13,10 @@ pub loop-j-preserved : goal.loop-j-preserved
 loop-j-preserved c = (
   omega arith,
   stored_more c.args.rows.now c.args.at
-      c.args.t4 c.loop-j.j c.loop-j.rows c.loop-j.changed
+      c.args.set c.loop-j.j c.loop-j.rows c.loop-j.changed
       (omega (arith, c.loop-j.invariant.1.long)) c.loop-j.invariant.1,
 )
 
 pub returns : goal.returns
-returns c = subst (λ (x : ℕ). WordsStored c.args.rows.now c.args.at x c.args.t4
+returns c = subst (λ (x : ℕ). WordsStored c.args.rows.now c.args.at x c.args.set
     c.loop-j.rows c.loop-j.changed) (omega arith) c.loop-j.invariant.1

@@ -4,7 +4,6 @@ use mathlib.Core.Bool.{Bool, true, false, not, ◌&&◌, ◌||◌}
 use mathlib.Core.List.{List}
 use Prim.Native.Nat.{ℕ, suc, ◌+◌, ◌-◌, ◌^◌, ◌≤◌, ◌<◌, zero-le}
 use native.Mathlib.Omega.{arith}
-use borrow.Author.Tests.{not-true, not-false}
 use lib.ListN.{length, replicate, length-replicate}
 use Rattle.laws.proofs.Walk.{first_le}
 use Rattle.code.specs.Ins.{ins_at, count}
@@ -134,19 +133,19 @@ module _ {w : List ℕ} {regs from start full lost lost₀ : ℕ} {rows₀ rows 
     pub whole_few : full + 1 < 2 ^ 32
     whole_few = omega (arith, full_few (flow regs w) from start full lost rows₀ g rows changed back k q l, p.few)
 
-    pub whole_found : not (changed && back) ≡ true → Found (flow regs w) from rows (full + 1) lost
-    whole_found e = full_found (flow regs w) from start full lost rows₀ g rows changed back k q l (not-true (changed && back) e)
+    pub whole_found : changed && back ≡ false → Found (flow regs w) from rows (full + 1) lost
+    whole_found e = full_found (flow regs w) from start full lost rows₀ g rows changed back k q l e
 
-    module _ (e : not (changed && back) ≡ false) where
+    module _ (e : changed && back ≡ true) where
       pub whole_again : Between w regs from start (full + 1) lost rows
       whole_again = record {
         few = p.few;
-        going = full_again (flow regs w) from start full lost rows₀ g rows changed back k q l (not-false (changed && back) e);
+        going = full_again (flow regs w) from start full lost rows₀ g rows changed back k q l e;
       }
 
       pub whole_less : to_go w regs from (full + 1) lost < to_go w regs from full lost₀
       unfolding to_go
-      whole_less = rw (← p.same) (full_less (flow regs w) from start full lost rows₀ g rows changed back k q l (not-false (changed && back) e))
+      whole_less = rw (← p.same) (full_less (flow regs w) from start full lost rows₀ g rows changed back k q l e)
 
 -- the opcode of accepted code is known
 pub known : {w : List ℕ} {regs from start full lost lost₀ : ℕ} {rows₀ rows : List ℕ} {changed back : Bool} {k : ℕ} → Turn w regs from start full lost lost₀

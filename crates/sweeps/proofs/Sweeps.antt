@@ -5,7 +5,7 @@ use mathlib.Core.List.Memᴰ
 use mathlib.Core.List.{List, [], ◌∷◌, ◌++◌}
 use Prim.Native.Nat.{ℕ, suc, ◌+◌, ◌-◌, ◌^◌, ◌≤◌, ◌<◌}
 use native.Mathlib.Omega.{arith}
-use borrow.Author.Tests.{not-true, not-false, le-ltb}
+use borrow.Author.Tests.{le-ltb}
 use lib.Bits.{bit_or}
 use lib.ListN.{length}
 use Rattle.code.specs.Ins.{ins_at, count}
@@ -102,18 +102,18 @@ module _ {all : Bool} {w : List ℕ} {regs : ℕ} {tries : List ℕ} {from start
     pub whole_few : full + 1 < 2 ^ 32
     whole_few = omega (arith, full_few (raising (mays all w) regs w tries) from start full lost rows₀ g rows changed back k q l, p.few)
 
-    pub whole_found : not (changed && back) ≡ true → Found (raising (mays all w) regs w tries) from rows (full + 1) lost
-    whole_found e = full_found (raising (mays all w) regs w tries) from start full lost rows₀ g rows changed back k q l (not-true (changed && back) e)
+    pub whole_found : changed && back ≡ false → Found (raising (mays all w) regs w tries) from rows (full + 1) lost
+    whole_found e = full_found (raising (mays all w) regs w tries) from start full lost rows₀ g rows changed back k q l e
 
-    module _ (e : not (changed && back) ≡ false) where
+    module _ (e : changed && back ≡ true) where
       pub whole_again : Between all w regs tries from start (full + 1) lost rows
       whole_again = record {
         few = p.few;
         going = full_again (raising (mays all w) regs w tries) from start full lost rows₀ g rows changed back k q l
-            (not-false (changed && back) e);
+            e;
       }
 
       pub whole_less : to_go all w regs tries from (full + 1) lost < to_go all w regs tries from full lost₀
       unfolding to_go
       whole_less = rw (← p.same) (full_less (raising (mays all w) regs w tries) from start full lost rows₀ g rows changed back k q l
-          (not-false (changed && back) e))
+          e)

@@ -1,9 +1,9 @@
 -- `lists::list_tries` meets its contract. Assumes nothing.
-use mathlib.Core.Logic.{⊎_elim}
 use borrow.Author.Rules.{rules}
 use Prim.Native.Nat.{◌-◌}
 use Rattle.lists.proofs.Handlers.{keeping_start, keeping_try, keeping_more, keeping_skip, keeping_long, keeping_end}
 use Rattle.lists.proofs.list_tries.Goals as goal
+use Rattle.lists.proofs.list_tries.Goals.{then-around, else-around}
 
 pub list_try-at-requires : goal.list_try-at-requires
 list_try-at-requires c = (
@@ -19,14 +19,12 @@ list_try-at-requires c = (
 
 pub loop-i-preserved : goal.loop-i-preserved
 loop-i-preserved c =
-    ⊎_elim
-    (λ w. rw (w.6, w.7, w.8) (keeping_more _ _ _ _ _ _ _ _ _ _ _ _ _ c.loop-i.invariant
-    c.loop-i-test.true
-    _ _ c.wide_of-s.ensures c.wide_of-h.ensures _ _ w.2.ensures _ w.5.ensures))
-    (λ w. rw (w.1, w.2, w.3) (keeping_skip _ _ _ _ _ _ _ _ _ _ _ _ _ c.loop-i.invariant
-    c.loop-i-test.true
-    _ _ c.wide_of-s.ensures c.wide_of-h.ensures _ c.around.ensures w.0.left))
-    c.if-around.branch
+    elim c.if-around.branch [
+      then-around w ↦ rw (w.out-is, w.all-is, w.at-is) (keeping_more _ _ _ _ _ _ _ _ _ _ _ _ _ c.loop-i.invariant c.loop-i-test.true
+        _ _ c.wide_of-s.ensures c.wide_of-h.ensures _ _ w.list_try-at.ensures _ w.join_try-more.ensures)
+    | else-around w ↦ rw (w.out-is, w.all-is, w.at-is) (keeping_skip _ _ _ _ _ _ _ _ _ _ _ _ _ c.loop-i.invariant c.loop-i-test.true
+        _ _ c.wide_of-s.ensures c.wide_of-h.ensures _ c.around.ensures w.if-around.false)
+    ]
 
 pub shape_of-out : goal.shape_of-out
 shape_of-out c = keeping_long _ _ _ _ _ _ _ _ _ _ _ _ _ c.loop-i.invariant

@@ -12,7 +12,7 @@ loop-k-init c = (search sweep_starts, search rules)
 pub loop-k-preserved : goal.loop-k-preserved
 loop-k-preserved c = (
   wide_step c.loop-k.invariant.0
-      c.step_of_lem.ensures c.loop-k-test.true
+      c.step_of-s.ensures c.loop-k-test.true
       c.put_wide-changed.ensures c.goes_before-back.ensures,
   search rules,
 )

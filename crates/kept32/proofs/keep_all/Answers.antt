@@ -43,26 +43,26 @@ count_all-total-requires c = ready 32 32 width _ _ _ c.args.rows.now
     c.args.offsets.now _
     c.requires _
     c.words_for-words.ensures _ _ _ _ c.find_rows-found.ensures
-    c.find_rows-found.auto.1.1.1.0 (λ j. omega (arith, c.slice_known-4-1.given j))
+    c.find_rows-found.auto.rows (λ j. omega (arith, c.slice_known-4-1.given j))
 
 pub shape_of-rows-then-list-total : goal.shape_of-rows-then-list-total
 shape_of-rows-then-list-total c = new_long 32 32 width _ _ _ c.args.rows.now c.args.offsets.now _
     c.requires _
     c.words_for-words.ensures _ _ _ _ c.find_rows-found.ensures
-    c.find_rows-found.auto.1.1.1.0
+    c.find_rows-found.auto.rows
 
 pub returns-then-list-total : goal.returns-then-list-total
 returns-then-list-total c = out_short 32 32 width _ _ _ c.args.rows.now c.args.offsets.now _
     c.requires _
     c.words_for-words.ensures _ _ _ _ c.find_rows-found.ensures
-    c.find_rows-found.auto.1.1.1.0
+    c.find_rows-found.auto.rows
     c.args.list.now _
     c.count_all-total.ensures.0 c.if-list-total.true
 
 pub each_call-requires : goal.each_call-requires
 each_call-requires c = (
   ready 32 32 width _ _ _ c.args.rows.now c.args.offsets.now _ c.requires _ c.words_for-words.ensures _ _ _ _
-      c.find_rows-found.ensures c.find_rows-found.auto.1.1.1.0 (λ j. omega (arith, c.slice_known-4-1.given j)),
+      c.find_rows-found.ensures c.find_rows-found.auto.rows (λ j. omega (arith, c.slice_known-4-1.given j)),
   accepted_offsets _ _ _ _ _ _ _
       c.requires,
   omega
@@ -73,15 +73,15 @@ each_call-requires c = (
 
 pub shape_of-rows : goal.shape_of-rows
 shape_of-rows c = new_long 32 32 width _ _ _ c.args.rows.now
-    c.args.offsets.now _ c.requires _ c.words_for-words.ensures _ _ _ _ c.find_rows-found.ensures c.find_rows-found.auto.1.1.1.0
+    c.args.offsets.now _ c.requires _ c.words_for-words.ensures _ _ _ _ c.find_rows-found.ensures c.find_rows-found.auto.rows
 
 pub shape_of-offsets : goal.shape_of-offsets
-shape_of-offsets c = c.each_call.auto.1.1.1.1.1.0
+shape_of-offsets c = c.each_call.auto.offsets
 
 pub shape_of-list : goal.shape_of-list
-shape_of-list c = c.each_call.auto.1.1.1.1.1.1.0
+shape_of-list c = c.each_call.auto.list
 
 pub returns : goal.returns
 returns c = out_told 32 32 width _ _ _ c.args.rows.now
-    c.args.offsets.now _ c.requires _ c.words_for-words.ensures _ _ _ _ c.find_rows-found.ensures c.find_rows-found.auto.1.1.1.0 c.args.list.now _ c.count_all-total.ensures.0 c.if-list-total.false _ _
+    c.args.offsets.now _ c.requires _ c.words_for-words.ensures _ _ _ _ c.find_rows-found.ensures c.find_rows-found.auto.rows c.args.list.now _ c.count_all-total.ensures.0 c.if-list-total.false _ _
     c.each_call.ensures

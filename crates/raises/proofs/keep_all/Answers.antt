@@ -75,10 +75,10 @@ shape_of-rows c = new_long _ _ _ c.args.rows.now
     c.args.all _ _ _ c.find_raising-found.ensures c.find_raising-found.auto.1.1.1.0
 
 pub shape_of-offsets : goal.shape_of-offsets
-shape_of-offsets c = c.each_call.auto.1.1.1.1.1.0
+shape_of-offsets c = c.each_call.auto.offsets
 
 pub shape_of-list : goal.shape_of-list
-shape_of-list c = c.each_call.auto.1.1.1.1.1.1.0
+shape_of-list c = c.each_call.auto.list
 
 pub returns : goal.returns
 returns c = out_told _ _ _ c.args.rows.now c.args.offsets.now _ c.requires _ c.words_for-words.ensures c.args.all _ _ _

@@ -13,7 +13,7 @@ loop-k-init c = (search sweep_starts, search rules)
 
 pub loop-k-preserved : goal.loop-k-preserved
 loop-k-preserved c = (
-  step c.loop-k.invariant.0 c.step_of_lem.ensures
+  step c.loop-k.invariant.0 c.step_of-s.ensures
       (search rules) c.ins_in-i.ensures c.put_raising-changed.ensures
       c.goes_before-back.ensures,
   search rules,

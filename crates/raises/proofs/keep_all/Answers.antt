@@ -32,7 +32,7 @@ pub count_all-total-requires : goal.count_all-total-requires
 count_all-total-requires c = ready _ _ _ c.args.rows.now
     c.args.offsets.now _
     c.requires _
-    c.words_for-words.ensures c.args.all _ _ _ c.find_raising-found.ensures c.find_raising-found.auto.1.1.1.0
+    c.words_for-words.ensures c.args.all _ _ _ c.find_raising-found.ensures c.find_raising-found.auto.rows
     (λ j. omega (arith, c.slice_known-4-1.given j))
 
 pub shape_of-rows-then-list-total : goal.shape_of-rows-then-list-total
@@ -41,7 +41,7 @@ shape_of-rows-then-list-total c = new_long _ _ _ c.args.rows.now
     c.requires _
     c.words_for-words.ensures
     c.args.all _ _ _
-    c.find_raising-found.ensures c.find_raising-found.auto.1.1.1.0
+    c.find_raising-found.ensures c.find_raising-found.auto.rows
 
 pub returns-then-list-total : goal.returns-then-list-total
 returns-then-list-total c = out_short _ _ _ c.args.rows.now
@@ -49,7 +49,7 @@ returns-then-list-total c = out_short _ _ _ c.args.rows.now
     c.requires _
     c.words_for-words.ensures
     c.args.all _ _ _
-    c.find_raising-found.ensures c.find_raising-found.auto.1.1.1.0
+    c.find_raising-found.ensures c.find_raising-found.auto.rows
     c.args.list.now _
     c.count_all-total.ensures.0 c.if-list-total.true
 
@@ -58,7 +58,7 @@ each_call-requires c = (
   ready _ _ _ c.args.rows.now c.args.offsets.now _ c.requires _ c.words_for-words.ensures
       c.args.all _ _ _
       c.find_raising-found.ensures
-      c.find_raising-found.auto.1.1.1.0
+      c.find_raising-found.auto.rows
       (λ j. omega (arith, c.slice_known-4-1.given j)),
   accepted_offsets _ _ _ _ _ _ _
       c.requires,
@@ -72,7 +72,7 @@ pub shape_of-rows : goal.shape_of-rows
 shape_of-rows c = new_long _ _ _ c.args.rows.now
     c.args.offsets.now _ c.requires _
     c.words_for-words.ensures
-    c.args.all _ _ _ c.find_raising-found.ensures c.find_raising-found.auto.1.1.1.0
+    c.args.all _ _ _ c.find_raising-found.ensures c.find_raising-found.auto.rows
 
 pub shape_of-offsets : goal.shape_of-offsets
 shape_of-offsets c = c.each_call.auto.offsets
@@ -83,6 +83,6 @@ shape_of-list c = c.each_call.auto.list
 pub returns : goal.returns
 returns c = out_told _ _ _ c.args.rows.now c.args.offsets.now _ c.requires _ c.words_for-words.ensures c.args.all _ _ _
     c.find_raising-found.ensures
-    c.find_raising-found.auto.1.1.1.0
+    c.find_raising-found.auto.rows
     c.args.list.now _ c.count_all-total.ensures.0
     c.if-list-total.false _ _ c.each_call.ensures

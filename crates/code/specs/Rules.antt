@@ -1,5 +1,5 @@
 -- The record rules, in document 01's order. Assumes nothing.
-use Rattle.std.specs.Prelude.{ℕ, ◌+◌, Bool, not, ◌&&◌, ◌||◌, List, leb, ltb, eqb}
+use Rattle.std.specs.Prelude.{ℕ, ◌+◌, Bool, not, ◌&&◌, ◌||◌, List, leb, eqb}
 use Rattle.ops.specs.Op.{last, PushRegs, UnpackR, ArgsR, WithEnter, WithExit}
 use Rattle.code.specs.Ins.{ins_at, is_call, wide}
 use Rattle.code.specs.declared.Ins.{Ins}

@@ -9,7 +9,6 @@ use lib.ListN.{length, drop}
 use Rattle.laws.specs.Table.{Held}
 use Rattle.code.specs.Ins.{count}
 use Rattle.refusals.specs.declared.Answer.{Answer}
-use Rattle.refusals.specs.declared.Refusal.{Refusal}
 use Rattle.flow.specs.Flow.{Flow}
 use Rattle.flow.proofs.Answer.{start_closed}
 use Rattle.steps.specs.Code.{flow}

@@ -11,7 +11,6 @@ use Rattle.refusals.specs.declared.Answer.{Answer}
 use Rattle.refusals.specs.declared.Checked.{Checked}
 use Rattle.refusals.specs.declared.Checked.TheVariants.{Count, No}
 use Rattle.code.specs.declared.Ins.{Ins}
-use Rattle.roles.specs.Kinds.{a, b, c}
 use Rattle.roles.specs.Sets.{from}
 use Rattle.touch.specs.Touch.{named, touch_of}
 use Rattle.touch.specs.Inner.{Touches}

@@ -4,7 +4,7 @@ use Rattle.area.specs.Area.{put_in}
 use Rattle.saver.specs.Saver.{Saver, saver, regs_of, in_use, enter_of}
 use Rattle.leaves.specs.Leaving.{Back, leave_of}
 use Rattle.saver.specs.declared.SaverAnswer.TheVariants.{Used}
-use Rattle.frames.specs.Frames.{Sound, CallEvent, enters, writes, leaves, left}
+use Rattle.frames.specs.Frames.{Sound, CallEvent, enters, writes, leaves}
 
 -- g, with the listed registers as they are in f
 unfoldable pub restored : ℕ → List ℕ → List ℕ → List ℕ → List ℕ

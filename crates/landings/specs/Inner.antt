@@ -1,7 +1,6 @@
 -- What only the inside of `landings` needs: contracts of inner functions and proofs cite it, no promise does. Assumes nothing.
 use Rattle.std.specs.Prelude.{ℕ, ◌+◌, ◌<◌, ◌≤◌, ◌≡◌, cond, List, ltb, length, get_or, set}
 use Rattle.laws.specs.All.{many}
-use Rattle.laws.specs.Each.{each}
 use Rattle.landings.specs.Landings.{jump_lands, handler_lands}
 
 -- one landing more on t; one beyond n is not counted

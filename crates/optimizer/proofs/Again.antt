@@ -11,7 +11,6 @@ use borrow.Author.Tests.{eqb-true, eqb-false, ltb-true, ltb-false, not-false}
 use Rattle.laws.proofs.Walk.{reaches}
 use Rattle.laws.specs.All.{every}
 use Rattle.laws.specs.Each.{each}
-use Rattle.laws.specs.Walk.{first}
 use Rattle.laws.proofs.Branch.{or_false}
 use Rattle.laws.proofs.Many.{many_few}
 use Rattle.refusals.specs.Answers.{asked}

@@ -34,7 +34,7 @@ use Rattle.saved.proofs.Exported.{by_call, left_is, played}
 use Rattle.answers.specs.Answers.{LeaveTold}
 use Rattle.exported.specs.Calls.{Lists}
 use Rattle.exported.specs.Told.{list_left}
-use Rattle.nested.specs.Machine.{Event, thrown, nested, undisturbed, Spares}
+use Rattle.nested.specs.Machine.{Event, nested, undisturbed, Spares}
 use Rattle.nested.specs.Raising.{raising, levels, mays, args_at, frame}
 use Rattle.nested.specs.Exposed.{exposed}
 use Rattle.nested.proofs.Exposed.{exposed_only, exposed_or}

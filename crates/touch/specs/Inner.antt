@@ -1,8 +1,7 @@
 -- What only the inside of `touch` needs: contracts of inner functions and proofs cite it, no promise does. Assumes nothing.
 use Rattle.std.specs.Prelude.{◌≡◌, ◌++◌}
 use Rattle.code.specs.declared.Ins.{Ins}
-use Rattle.roles.specs.Kinds.{a, b, c}
-use Rattle.roles.specs.Sets.{from, written, used_by, given_by}
+use Rattle.roles.specs.Sets.{from, used_by, given_by}
 use Rattle.touch.specs.declared.Touch.{Touch}
 use Rattle.touch.specs.Touch.{named, written_by}
 

@@ -1,6 +1,5 @@
 -- `area::put_back` meets its contract. Assumes nothing.
 use borrow.Author.Rules.{rules}
-use Prim.Native.Nat.{◌-◌}
 use Rattle.area.proofs.Calls.{backings}
 use Rattle.area.proofs.put_back.Goals as goal
 

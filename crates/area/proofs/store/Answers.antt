@@ -1,7 +1,6 @@
 -- `area::store` meets its contract. Assumes nothing.
 use borrow.Author.Rules.{rules}
 use native.Mathlib.Omega.{arith}
-use Prim.Native.Nat.{◌-◌}
 use Rattle.area.proofs.Calls.{storings}
 use Rattle.area.proofs.store.Goals as goal
 

@@ -1,6 +1,5 @@
 -- `blocks::bad_fill` meets its contract. Assumes nothing.
 use borrow.Author.Rules.{rules}
-use Prim.Native.Nat.{◌-◌}
 use Rattle.laws.proofs.Some.{somewhere}
 use Rattle.blocks.specs.Blocks.{bad_fill}
 use Rattle.blocks.proofs.bad_fill.Goals as goal

@@ -1,6 +1,5 @@
 -- `blocks::steps_of` meets its contract. Assumes nothing.
 use borrow.Author.Rules.{rules}
-use Prim.Native.Nat.{◌-◌}
 use Rattle.laws.proofs.Walk.{finds}
 use Rattle.blocks.specs.Blocks.{steps_of}
 use Rattle.blocks.proofs.steps_of.Goals as goal

@@ -1,6 +1,5 @@
 -- `blocks::weigh` meets its contract. Assumes nothing.
 use borrow.Author.Rules.{rules}
-use Prim.Native.Nat.{◌-◌}
 use native.Mathlib.Omega.{arith}
 use Rattle.blocks.proofs.Bytes.{weighings, weighing_product}
 use Rattle.blocks.proofs.weigh.Goals as goal

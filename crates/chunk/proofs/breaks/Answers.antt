@@ -1,5 +1,4 @@
 -- `chunk::breaks` meets its contract: the rules, by what an opcode is. Assumes nothing.
-use borrow.Author.Rules.{rules}
 use mathlib.Core.Path.{◌≡◌, refl, sym, ap, ◌∙◌}
 use mathlib.Core.Bool.{Bool, true, false, not, ◌&&◌, ◌||◌}
 use Prim.Native.Nat.{ℕ, zero, suc, ◌%◌, ◌/◌, ◌<◌}

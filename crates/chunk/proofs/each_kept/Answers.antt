@@ -1,6 +1,5 @@
 -- `chunk::each_kept` meets its contract. Assumes nothing.
 use borrow.Author.Rules.{rules}
-use Prim.Native.Nat.{◌-◌}
 use Rattle.laws.proofs.Every.{all}
 use Rattle.chunk.proofs.each_kept.Goals as goal
 

@@ -3,7 +3,7 @@ use borrow.Author.Rules.{rules}
 use mathlib.Core.Path.{◌≡◌}
 use mathlib.Core.Bool.{Bool, not}
 use mathlib.Core.List.{List}
-use Prim.Native.Nat.{ℕ, ◌-◌}
+use Prim.Native.Nat.{ℕ}
 use Rattle.chunk.specs.Chunk.{op_at, mark_at, chunk_rules, breaks_at}
 use Rattle.laws.proofs.Walk.{finds}
 use Rattle.chunk.proofs.first_bad.Goals as goal

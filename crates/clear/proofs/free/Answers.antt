@@ -1,6 +1,5 @@
 -- `clear::free` meets its contract. Assumes nothing.
 use borrow.Author.Rules.{rules}
-use Prim.Native.Nat.{◌-◌}
 use Rattle.laws.proofs.InPlace.{cleared_none, cleared_same}
 use Rattle.clear.proofs.Moving.{freeing_more, freeing_done}
 use Rattle.clear.proofs.free.Goals as goal

@@ -1,6 +1,5 @@
 -- `clear::keep` meets its contract. Assumes nothing.
 use borrow.Author.Rules.{rules}
-use Prim.Native.Nat.{◌-◌}
 use Rattle.clear.proofs.Moving.{going_none, going_skip, going_put, going_kinds, going_words, going_scratch, going_done}
 use Rattle.clear.proofs.keep.Goals as goal
 

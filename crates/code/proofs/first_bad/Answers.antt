@@ -1,6 +1,5 @@
 -- `code::first_bad` meets its contract: what is left to walk has the answer of the whole. Assumes nothing.
 use borrow.Author.Rules.{rules}
-use Prim.Native.Nat.{◌-◌}
 use Rattle.laws.proofs.Walk.{finds}
 use Rattle.code.proofs.first_bad.Goals as goal
 

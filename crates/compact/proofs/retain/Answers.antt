@@ -1,6 +1,5 @@
 -- `compact::retain` meets its contract. Assumes nothing.
 use borrow.Author.Rules.{rules}
-use Prim.Native.Nat.{◌-◌}
 use Rattle.compact.proofs.Moves.{kept_none, kept_skip, kept_move, kept_same, kept_behind, kept_count, kept_done}
 use Rattle.compact.proofs.retain.Goals as goal
 

@@ -1,6 +1,5 @@
 -- `day::clear` meets its contract. Assumes nothing.
 use borrow.Author.Rules.{rules}
-use Prim.Native.Nat.{◌-◌}
 use Rattle.laws.proofs.Table.{fills}
 use Rattle.day.proofs.clear.Goals as goal
 

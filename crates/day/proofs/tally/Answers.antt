@@ -1,6 +1,5 @@
 -- `day::tally` meets its contract. Assumes nothing.
 use borrow.Author.Rules.{rules}
-use Prim.Native.Nat.{◌-◌}
 use Rattle.day.proofs.Counts.{countings, counting_slot, counting_low, counting_in, counting_fits}
 use Rattle.day.proofs.tally.Goals as goal
 

@@ -1,5 +1,4 @@
 -- `exposes::expose` meets its contract. Assumes nothing.
-use Prim.Native.Nat.{◌-◌}
 use Rattle.exposes.proofs.Exposing.{expose_start, expose_skip, expose_put, expose_end}
 use Rattle.exposes.proofs.expose.Goals as goal
 

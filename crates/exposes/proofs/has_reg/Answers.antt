@@ -1,5 +1,4 @@
 -- `exposes::has_reg` meets its contract. Assumes nothing.
-use Prim.Native.Nat.{◌-◌}
 use Rattle.exposes.proofs.Exposing.{seek_start, seek_found, seek_more, seek_end}
 use Rattle.exposes.proofs.has_reg.Goals as goal
 

@@ -1,6 +1,5 @@
 -- `figures::body_figures` meets its contract. Assumes nothing.
 use borrow.Author.Rules.{rules}
-use Prim.Native.Nat.{◌-◌}
 use Rattle.figures.proofs.Calls.{body_start, body_end}
 use Rattle.figures.proofs.body_figures.Goals as goal
 

@@ -1,6 +1,5 @@
 -- `generators::walk_phis` meets its contract. Assumes nothing.
 use borrow.Author.Rules.{rules}
-use Prim.Native.Nat.{◌-◌}
 use Rattle.generators.proofs.Dying.{dies, walking}
 use Rattle.generators.proofs.walk_phis.Goals as goal
 

@@ -1,6 +1,5 @@
 -- `kept::each_call` meets its contract. Assumes nothing.
 use borrow.Author.Rules.{rules}
-use Prim.Native.Nat.{◌-◌}
 use Rattle.kept.proofs.Passes.{fillings}
 use Rattle.kept.proofs.each_call.Goals as goal
 

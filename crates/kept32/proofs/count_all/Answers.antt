@@ -1,6 +1,5 @@
 -- `kept32::count_all` meets its contract. Assumes nothing.
 use borrow.Author.Rules.{rules}
-use Prim.Native.Nat.{◌-◌}
 use Rattle.kept.proofs.Passes.{summings}
 use Rattle.kept32.proofs.count_all.Goals as goal
 

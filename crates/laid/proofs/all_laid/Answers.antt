@@ -1,6 +1,5 @@
 -- `laid::all_laid` meets its contract. Assumes nothing.
 use borrow.Author.Rules.{rules}
-use Prim.Native.Nat.{◌-◌}
 use Rattle.laws.proofs.Every.{all}
 use Rattle.laid.specs.Section.{laid}
 use Rattle.laid.proofs.all_laid.Goals as goal

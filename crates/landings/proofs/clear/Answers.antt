@@ -1,6 +1,5 @@
 -- `landings::clear` meets its contract. Assumes nothing.
 use borrow.Author.Rules.{rules}
-use Prim.Native.Nat.{◌-◌}
 use Rattle.landings.proofs.Filled.{zeroed_none, zeroed_more, zeroed_all}
 use Rattle.landings.proofs.clear.Goals as goal
 

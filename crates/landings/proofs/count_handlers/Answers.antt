@@ -1,6 +1,5 @@
 -- `landings::count_handlers` meets its contract. Assumes nothing.
 use borrow.Author.Rules.{rules}
-use Prim.Native.Nat.{◌-◌}
 use mathlib.Core.Path.{refl}
 use Rattle.landings.proofs.Filled.{handled_none, handled_all, handled_more, handle_fits}
 use Rattle.landings.proofs.count_handlers.Goals as goal

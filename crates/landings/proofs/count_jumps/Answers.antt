@@ -1,6 +1,5 @@
 -- `landings::count_jumps` meets its contract. Assumes nothing.
 use borrow.Author.Rules.{rules}
-use Prim.Native.Nat.{◌-◌}
 use Rattle.landings.proofs.Filled.{jumped_none, jumped_all, jumped_skip, jumped_more, jump_fits}
 use Rattle.landings.proofs.count_jumps.Goals as goal
 

@@ -1,6 +1,5 @@
 -- `lists::count_set` meets its contract. Assumes nothing.
 use borrow.Author.Rules.{rules}
-use Prim.Native.Nat.{◌-◌}
 use Rattle.lists.proofs.Walks.{countings}
 use Rattle.lists.proofs.count_set.Goals as goal
 

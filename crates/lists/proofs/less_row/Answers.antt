@@ -1,6 +1,5 @@
 -- `lists::less_row` meets its contract. Assumes nothing.
 use borrow.Author.Rules.{rules}
-use Prim.Native.Nat.{◌-◌}
 use Rattle.lists.proofs.Less.{lessings}
 use Rattle.lists.proofs.less_row.Goals as goal
 

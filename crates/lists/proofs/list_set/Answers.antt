@@ -1,6 +1,5 @@
 -- `lists::list_set` meets its contract. Assumes nothing.
 use borrow.Author.Rules.{rules}
-use Prim.Native.Nat.{◌-◌}
 use Rattle.lists.proofs.Walks.{listings}
 use Rattle.lists.proofs.list_set.Goals as goal
 

@@ -1,6 +1,5 @@
 -- `lists::list_tries` meets its contract. Assumes nothing.
 use borrow.Author.Rules.{rules}
-use Prim.Native.Nat.{◌-◌}
 use Rattle.lists.proofs.Handlers.{keeping_start, keeping_try, keeping_more, keeping_skip, keeping_long, keeping_end}
 use Rattle.lists.proofs.list_tries.Goals as goal
 use Rattle.lists.proofs.list_tries.Goals.{then-around, else-around}
@@ -20,10 +19,10 @@ list_try-at-requires c = (
 pub loop-i-preserved : goal.loop-i-preserved
 loop-i-preserved c =
     elim c.if-around.branch [
-      then-around w ↦ rw (w.out-is, w.all-is, w.at-is) (keeping_more _ _ _ _ _ _ _ _ _ _ _ _ _ c.loop-i.invariant c.loop-i-test.true
-        _ _ c.wide_of-s.ensures c.wide_of-h.ensures _ _ w.list_try-at.ensures _ w.join_try-more.ensures)
-    | else-around w ↦ rw (w.out-is, w.all-is, w.at-is) (keeping_skip _ _ _ _ _ _ _ _ _ _ _ _ _ c.loop-i.invariant c.loop-i-test.true
-        _ _ c.wide_of-s.ensures c.wide_of-h.ensures _ c.around.ensures w.if-around.false)
+      | then-around w ↦ rw (w.out-is, w.all-is, w.at-is) (keeping_more _ _ _ _ _ _ _ _ _ _ _ _ _ c.loop-i.invariant c.loop-i-test.true
+          _ _ c.wide_of-s.ensures c.wide_of-h.ensures _ _ w.list_try-at.ensures _ w.join_try-more.ensures)
+      | else-around w ↦ rw (w.out-is, w.all-is, w.at-is) (keeping_skip _ _ _ _ _ _ _ _ _ _ _ _ _ c.loop-i.invariant c.loop-i-test.true
+          _ _ c.wide_of-s.ensures c.wide_of-h.ensures _ c.around.ensures w.if-around.false)
     ]
 
 pub shape_of-out : goal.shape_of-out

@@ -1,6 +1,5 @@
 -- `lists32::join_tries` meets its contract. Assumes nothing.
 use borrow.Author.Rules.{rules}
-use Prim.Native.Nat.{◌-◌}
 use Rattle.lists.proofs.Handlers.{holding_start, holding_more, holding_skip, holding_end}
 use Rattle.lists32.proofs.join_tries.Goals as goal
 use Rattle.lists32.proofs.join_tries.Goals.{then-around, else-around}
@@ -8,10 +7,10 @@ use Rattle.lists32.proofs.join_tries.Goals.{then-around, else-around}
 pub loop-i-preserved : goal.loop-i-preserved
 loop-i-preserved c =
     elim c.if-around.branch [
-      then-around w ↦ rw w.all-is (holding_more _ _ _ _ _ _ _ _ _ c.loop-i.invariant c.loop-i-test.true
-        _ _ c.wide_of-s.ensures c.wide_of-h.ensures _ w.join_try-more.ensures)
-    | else-around w ↦ rw w.all-is (holding_skip _ _ _ _ _ _ _ _ _ c.loop-i.invariant c.loop-i-test.true
-        _ _ c.wide_of-s.ensures c.wide_of-h.ensures _ c.around.ensures w.if-around.false)
+      | then-around w ↦ rw w.all-is (holding_more _ _ _ _ _ _ _ _ _ c.loop-i.invariant c.loop-i-test.true
+          _ _ c.wide_of-s.ensures c.wide_of-h.ensures _ w.join_try-more.ensures)
+      | else-around w ↦ rw w.all-is (holding_skip _ _ _ _ _ _ _ _ _ c.loop-i.invariant c.loop-i-test.true
+          _ _ c.wide_of-s.ensures c.wide_of-h.ensures _ c.around.ensures w.if-around.false)
     ]
 
 pub returns : goal.returns

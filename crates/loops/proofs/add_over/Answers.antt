@@ -1,6 +1,5 @@
 -- `loops::add_over` meets its contract. Assumes nothing.
 use borrow.Author.Rules.{rules}
-use Prim.Native.Nat.{◌-◌}
 use native.Mathlib.Omega.{arith}
 use Rattle.loops.proofs.Adding.{in_out, keeps_length, fits_word, adds-up}
 use Rattle.loops.proofs.add_over.Goals as goal

@@ -1,6 +1,5 @@
 -- `loops::count_loops` meets its contract. Assumes nothing.
 use borrow.Author.Rules.{rules}
-use Prim.Native.Nat.{◌-◌}
 use Rattle.loops.proofs.Adding.{counts_up}
 use Rattle.loops.proofs.count_loops.Goals as goal
 

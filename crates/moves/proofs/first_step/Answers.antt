@@ -1,6 +1,5 @@
 -- `moves::first_step` meets its contract. Assumes nothing.
 use borrow.Author.Rules.{rules}
-use Prim.Native.Nat.{◌-◌}
 use Rattle.laws.proofs.Walk.{goes_on, stops, ends}
 use Rattle.moves.proofs.Moves.{first_start}
 use Rattle.moves.proofs.first_step.Goals as goal

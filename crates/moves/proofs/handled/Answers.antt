@@ -1,6 +1,5 @@
 -- `moves::handled` meets its contract. Assumes nothing.
 use borrow.Author.Rules.{rules}
-use Prim.Native.Nat.{◌-◌}
 use Rattle.moves.proofs.Moves.{handlings, handling_more}
 use Rattle.moves.proofs.handled.Goals as goal
 

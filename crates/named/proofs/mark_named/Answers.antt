@@ -1,6 +1,5 @@
 -- `named::mark_named` meets its contract. Assumes nothing.
 use borrow.Author.Rules.{rules}
-use Prim.Native.Nat.{◌-◌}
 use Rattle.named.proofs.Marking.{marking_none, marking_more, marking_same, marking_done}
 use Rattle.named.proofs.mark_named.Goals as goal
 

@@ -1,6 +1,5 @@
 -- `named::renumber` meets its contract. Assumes nothing.
 use borrow.Author.Rules.{rules}
-use Prim.Native.Nat.{◌-◌}
 use Rattle.named.proofs.Recoding.{recoding_none, recoding_more, recoding_same, recoding_done}
 use Rattle.named.proofs.renumber.Goals as goal
 

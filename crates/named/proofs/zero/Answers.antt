@@ -1,6 +1,5 @@
 -- `named::zero` meets its contract. Assumes nothing.
 use borrow.Author.Rules.{rules}
-use Prim.Native.Nat.{◌-◌}
 use Rattle.laws.proofs.Table.{fills}
 use Rattle.named.proofs.zero.Goals as goal
 

@@ -1,6 +1,5 @@
 -- `near::handlers_word` meets its contract. Assumes nothing.
 use borrow.Author.Rules.{rules}
-use Prim.Native.Nat.{◌-◌}
 use Rattle.near.proofs.Near.{joining_start, joining_more, joining_end}
 use Rattle.near.proofs.handlers_word.Goals as goal
 

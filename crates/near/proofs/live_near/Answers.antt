@@ -1,6 +1,5 @@
 -- `near::live_near` meets its contract: the inner loop is a sweep that has come down to k, the outer a run between two sweeps. Assumes nothing.
 use borrow.Author.Rules.{rules}
-use Prim.Native.Nat.{◌-◌}
 use Rattle.sweeps.proofs.Sweeps.{sweep_starts, near_long, whole_few, whole_found, whole_again, whole_less}
 use Rattle.near.proofs.Sweeps.{near_starts, near_reach, stretch_needs, stretch_less, stretch_on, left_few, left_again, left_less}
 use Rattle.near.proofs.live_near.Goals as goal

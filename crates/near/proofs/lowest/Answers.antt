@@ -1,6 +1,5 @@
 -- `near::lowest` meets its contract. Assumes nothing.
 use borrow.Author.Rules.{rules}
-use Prim.Native.Nat.{◌-◌}
 use Rattle.near.proofs.Near.{lowering_start, lowering_more, lowering_end}
 use Rattle.near.proofs.lowest.Goals as goal
 

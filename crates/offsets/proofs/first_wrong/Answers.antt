@@ -1,6 +1,5 @@
 -- `offsets::first_wrong` meets its contract. Assumes nothing.
 use borrow.Author.Rules.{rules}
-use Prim.Native.Nat.{◌-◌}
 use Rattle.laws.proofs.Walk.{finds}
 use Rattle.offsets.specs.Offsets.{first_wrong}
 use Rattle.offsets.proofs.first_wrong.Goals as goal

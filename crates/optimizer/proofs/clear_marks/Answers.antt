@@ -1,6 +1,5 @@
 -- `optimizer::clear_marks` meets its contract. Assumes nothing.
 use borrow.Author.Rules.{rules}
-use Prim.Native.Nat.{◌-◌}
 use Rattle.laws.proofs.InPlace.{cleared_none, cleared_more, cleared_same}
 use Rattle.positions.proofs.Moves.{cleared_whole}
 use Rattle.optimizer.proofs.Whole.{cleared}

@@ -1,6 +1,5 @@
 -- `outside::any_makes` meets its contract. Assumes nothing.
 use borrow.Author.Rules.{rules}
-use Prim.Native.Nat.{◌-◌}
 use Rattle.laws.proofs.Some.{somewhere}
 use Rattle.sections.proofs.There.{tested_there}
 use Rattle.outside.specs.Outside.{made}

@@ -1,6 +1,5 @@
 -- `params::params_in` meets its contract. Assumes nothing.
 use borrow.Author.Rules.{rules}
-use Prim.Native.Nat.{◌-◌}
 use Rattle.laws.proofs.Mask.{mask_none, mask_more, mask_done}
 use Rattle.params.specs.Masks.{params_written}
 use Rattle.params.proofs.params_in.Goals as goal

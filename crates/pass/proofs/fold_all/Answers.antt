@@ -1,6 +1,5 @@
 -- `pass::fold_all` meets its contract: after ip attempts the chunk is the definition's. Assumes nothing.
 use borrow.Author.Rules.{rules}
-use Prim.Native.Nat.{◌-◌}
 use Rattle.fold.proofs.Grown.{asked_none, asked_ready, asked_more, asked_all}
 use Rattle.pass.proofs.fold_all.Goals as goal
 

@@ -1,6 +1,5 @@
 -- `phi_pass::all_alive` meets its contract. Assumes nothing.
 use borrow.Author.Rules.{rules}
-use Prim.Native.Nat.{◌-◌}
 use Rattle.laws.proofs.Every.{all}
 use Rattle.phi_pass.proofs.all_alive.Goals as goal
 

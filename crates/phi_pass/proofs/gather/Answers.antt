@@ -1,6 +1,5 @@
 -- `phi_pass::gather` meets its contract. Assumes nothing.
 use borrow.Author.Rules.{rules}
-use Prim.Native.Nat.{◌-◌}
 use Rattle.phi_pass.proofs.Pairs.{none_left, in_map, in_sources, gathered_none, gathered_dead, gathered_skip, gathered_put, gathered_few}
 use Rattle.phi_pass.proofs.Pairs.{gathered_whole, gathered_all}
 use Rattle.phi_pass.proofs.gather.Goals as goal

@@ -1,6 +1,5 @@
 -- `phi_pass::index_phis` meets its contract. Assumes nothing.
 use borrow.Author.Rules.{rules}
-use Prim.Native.Nat.{◌-◌}
 use Rattle.phi_pass.proofs.Pairs.{indexed_none, indexed_more, indexed_few, indexed_same, indexed_count, indexed_whole}
 use Rattle.phi_pass.proofs.index_phis.Goals as goal
 

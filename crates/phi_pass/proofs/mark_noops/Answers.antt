@@ -1,6 +1,5 @@
 -- `phi_pass::mark_noops` meets its contract. Assumes nothing.
 use borrow.Author.Rules.{rules}
-use Prim.Native.Nat.{◌-◌}
 use Rattle.phi_pass.proofs.Pairs.{none_marked, marked_none, marked_more, marked_same, marked_whole}
 use Rattle.phi_pass.proofs.mark_noops.Goals as goal
 

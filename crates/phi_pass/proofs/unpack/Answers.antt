@@ -2,7 +2,6 @@
 use borrow.Author.Rules.{rules}
 use native.Mathlib.Omega.{arith}
 use lib.ListN.{length-set}
-use Prim.Native.Nat.{◌-◌}
 use Rattle.phi_pass.proofs.Pairs.{spread_none, spread_on, spread_same, spread_whole}
 use Rattle.phi_pass.proofs.unpack.Goals as goal
 

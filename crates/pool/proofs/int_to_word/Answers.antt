@@ -1,9 +1,6 @@
 -- `pool::int_to_word` meets its contract: -1 - i is the complement. Assumes nothing.
 use native.Mathlib.Omega.{arith}
-use mathlib.Core.Path.{◌≡◌}
-use mathlib.Core.Bool.{true, false}
-use lib.IntN.{pos, negsuc, ◌-ℤ◌}
-use lib.Signed.{lt_z}
+use lib.IntN.{negsuc, ◌-ℤ◌}
 use Rattle.values.proofs.Word.{back, not_fits, not_up, abs_fits, up}
 use Rattle.pool.proofs.Words.{neg_word, pos_word}
 use Rattle.pool.proofs.int_to_word.Goals as goal

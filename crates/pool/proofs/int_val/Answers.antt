@@ -1,10 +1,7 @@
 -- `pool::int_val` meets its contract: low words are ints, high ones their complements. Assumes nothing.
 use native.Mathlib.Omega.{arith}
-use mathlib.Core.Path.{◌≡◌}
 use Prim.Native.Nat.{◌-◌}
-use lib.IntN.{pos, negsuc, ◌-ℤ◌}
-use mir.Syntax.{w64}
-use mir.Val.{SFits, to_z}
+use lib.IntN.{pos}
 use Rattle.values.proofs.Word.{back, within, not_pos, not_fits}
 use Rattle.pool.proofs.Words.{low_word, high_val, mid_val}
 use Rattle.pool.proofs.int_val.Goals as goal

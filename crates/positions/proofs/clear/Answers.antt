@@ -1,6 +1,5 @@
 -- `positions::clear` meets its contract. Assumes nothing.
 use borrow.Author.Rules.{rules}
-use Prim.Native.Nat.{◌-◌}
 use Rattle.laws.proofs.InPlace.{cleared_none, cleared_more, cleared_same}
 use Rattle.positions.proofs.Moves.{cleared_whole}
 use Rattle.positions.proofs.clear.Goals as goal

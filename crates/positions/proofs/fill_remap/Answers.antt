@@ -1,6 +1,5 @@
 -- `positions::fill_remap` meets its contract. Assumes nothing.
 use borrow.Author.Rules.{rules}
-use Prim.Native.Nat.{◌-◌}
 use Rattle.positions.proofs.Moves.{counted_none, counted_more, counted_few, counted_same, counted_whole, remap_of_lem}
 use Rattle.positions.proofs.fill_remap.Goals as goal
 

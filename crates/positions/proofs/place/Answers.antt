@@ -1,6 +1,5 @@
 -- `positions::place` meets its contract, pair by pair. Assumes nothing.
 use borrow.Author.Rules.{rules}
-use Prim.Native.Nat.{◌-◌}
 use Rattle.positions.proofs.Moves.{placed_none, placed_more, placed_same, placed_whole}
 use Rattle.positions.proofs.place.Goals as goal
 

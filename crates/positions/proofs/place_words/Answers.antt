@@ -1,6 +1,5 @@
 -- `positions::place_words` meets its contract, word by word. Assumes nothing.
 use borrow.Author.Rules.{rules}
-use Prim.Native.Nat.{◌-◌}
 use Rattle.positions.proofs.Moves.{moving_none, moving_more, moving_same, moving_whole}
 use Rattle.positions.proofs.place_words.Goals as goal
 

@@ -1,6 +1,6 @@
 -- `pushes::stores_from` meets its contract: what is left begins where the whole does. Assumes nothing.
 use mathlib.Core.Path.{◌≡◌}
-use Prim.Native.Nat.{◌-◌, ◌≤◌}
+use Prim.Native.Nat.{◌≤◌}
 use Rattle.pushes.specs.Pushes.{stores_from}
 use Rattle.pushes.proofs.stores_from.Given as goal
 

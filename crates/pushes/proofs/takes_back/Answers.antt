@@ -1,6 +1,5 @@
 -- `pushes::takes_back` meets its contract: each store passed takes its value back. Assumes nothing.
 use borrow.Author.Rules.{rules}
-use Prim.Native.Nat.{◌-◌}
 use Rattle.laws.proofs.Every.{all}
 use Rattle.pushes.specs.Pushes.{takes_back}
 use Rattle.pushes.proofs.takes_back.Goals as goal

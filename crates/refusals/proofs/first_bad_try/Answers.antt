@@ -1,6 +1,5 @@
 -- `refusals::first_bad_try` meets its contract: what is left to walk has the answer of the whole. Assumes nothing.
 use borrow.Author.Rules.{rules}
-use Prim.Native.Nat.{◌-◌}
 use Rattle.refusals.specs.Stages.{first_bad_try}
 use Rattle.laws.proofs.Walk.{finds}
 use Rattle.refusals.proofs.first_bad_try.Goals as goal

@@ -1,6 +1,5 @@
 -- `routes::live_word` meets its contract: the inner loop is a sweep that has come down to k, the outer a run between two sweeps. Assumes nothing.
 use borrow.Author.Rules.{rules}
-use Prim.Native.Nat.{◌-◌}
 use Rattle.rows.proofs.Sweeps.{word_starts, sweep_starts, known, calm_turn, word_step, left_few, left_again, left_less, whole_few}
 use Rattle.rows.proofs.Sweeps.{whole_found, whole_again, whole_less}
 use Rattle.routes.proofs.live_word.Goals as goal

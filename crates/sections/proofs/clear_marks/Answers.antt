@@ -1,6 +1,5 @@
 -- `sections::clear_marks` meets its contract: so many are clear, the rest as lent. Assumes nothing.
 use borrow.Author.Rules.{rules}
-use Prim.Native.Nat.{◌-◌}
 use Rattle.laws.proofs.Table.{fills}
 use Rattle.sections.proofs.clear_marks.Goals as goal
 

@@ -1,7 +1,6 @@
 -- `sets::join_row` meets its contract. Assumes nothing.
 use borrow.Author.Rules.{rules}
 use Rattle.sets.proofs.Words.{joins}
-use Prim.Native.Nat.{◌-◌}
 use Rattle.sets.proofs.join_row.Goals as goal
 
 pub loop-j-init : goal.loop-j-init

@@ -1,5 +1,5 @@
 -- `sets::store_row` meets its contract. Assumes nothing.
-use Prim.Native.Nat.{◌-◌, ℕ, zero-le}
+use Prim.Native.Nat.{ℕ, zero-le}
 use Rattle.flow.specs.Inner.{WordsStored}
 use Rattle.flow.proofs.Fill.{stored_none, stored_more}
 use native.Mathlib.Omega.{arith}

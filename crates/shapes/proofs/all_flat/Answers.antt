@@ -1,6 +1,5 @@
 -- `shapes::all_flat` meets its contract. Assumes nothing.
 use borrow.Author.Rules.{rules}
-use Prim.Native.Nat.{◌-◌}
 use Rattle.laws.proofs.Every.{all}
 use Rattle.shapes.specs.Shape.{flat}
 use Rattle.shapes.proofs.all_flat.Goals as goal

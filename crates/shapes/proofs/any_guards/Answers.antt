@@ -1,6 +1,5 @@
 -- `shapes::any_guards` meets its contract. Assumes nothing.
 use borrow.Author.Rules.{rules}
-use Prim.Native.Nat.{◌-◌}
 use Rattle.laws.proofs.Some.{somewhere}
 use Rattle.shapes.specs.Shape.{guarded}
 use Rattle.sections.proofs.There.{tested_there}

@@ -1,6 +1,5 @@
 -- `surveys::land_jumps` meets its contract. Assumes nothing.
 use borrow.Author.Rules.{rules}
-use Prim.Native.Nat.{◌-◌}
 use Rattle.surveys.proofs.Landing.{landing}
 use Rattle.surveys.proofs.land_jumps.Goals as goal
 

@@ -1,6 +1,5 @@
 -- `taken::before` meets its contract. Assumes nothing.
 use borrow.Author.Rules.{rules}
-use Prim.Native.Nat.{◌-◌}
 use Rattle.taken.proofs.Lists.{before_none, before_yes, before_on, before_no}
 use Rattle.taken.proofs.before.Goals as goal
 

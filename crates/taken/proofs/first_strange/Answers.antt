@@ -1,6 +1,5 @@
 -- `taken::first_strange` meets its contract. Assumes nothing.
 use borrow.Author.Rules.{rules}
-use Prim.Native.Nat.{◌-◌}
 use Rattle.laws.proofs.Walk.{finds}
 use Rattle.taken.specs.Lists.{first_strange}
 use Rattle.taken.proofs.first_strange.Goals as goal

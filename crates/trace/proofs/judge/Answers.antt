@@ -1,6 +1,5 @@
 -- `trace::judge` meets its contract. Assumes nothing.
 use borrow.Author.Rules.{rules}
-use Prim.Native.Nat.{◌-◌}
 use Rattle.trace.proofs.Calls.{judgings}
 use Rattle.trace.proofs.judge.Goals as goal
 

@@ -1,9 +1,7 @@
 -- `values::checked_mul` meets its contract: past the test the product fits 64 bits. Assumes nothing.
-use mathlib.Core.Path.{◌≡◌, ◌∙◌, ap, sym}
+use mathlib.Core.Path.{◌∙◌, ap, sym}
 use mathlib.Core.Logic.{inl, inr}
 use lib.IntN.{nat_abs, ◌*ℤ◌}
-use mir.Syntax.{w64}
-use mir.Val.{SFits}
 use Rattle.values.specs.Folds.{ints}
 use Rattle.values.proofs.Word.{back, positive, out, product_out, product_fits}
 use Rattle.values.proofs.Arms.{mul_arm}

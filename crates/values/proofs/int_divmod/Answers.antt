@@ -1,9 +1,6 @@
 -- `values::int_divmod` meets its contract: the quotient toward 0, turned where what is left has the wrong sign, satisfies the law of floor division. Assumes
 -- nothing.
-use mathlib.Core.Path.{◌≡◌}
-use mathlib.Core.Bool.{true, false}
-use lib.Signed.{rem_z}
-use Rattle.values.proofs.Division.{wrong, kept, turned}
+use Rattle.values.proofs.Division.{kept, turned}
 use Rattle.values.proofs.Word.{back, positive, zero_bits, bits_up, zero_divisor, same_divmod, quot_fits, rem_fits, quot_less_fits, rem_more_fits}
 use Rattle.values.proofs.int_divmod.Goals as goal
 

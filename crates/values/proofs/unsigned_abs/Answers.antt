@@ -1,8 +1,5 @@
 -- `values::unsigned_abs` meets its contract: -1 - a is the complement, one nearer to 0. Assumes nothing.
-use mathlib.Core.Path.{◌≡◌}
-use mathlib.Core.Bool.{true}
-use lib.IntN.{pos, negsuc, ◌-ℤ◌}
-use lib.Signed.{lt_z}
+use lib.IntN.{negsuc, ◌-ℤ◌}
 use Rattle.values.proofs.Word.{back, not_fits, not_up, not_size, abs_fits, up}
 use Rattle.values.proofs.unsigned_abs.Goals as goal
 

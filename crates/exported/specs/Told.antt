@@ -5,7 +5,7 @@ use Rattle.code.specs.Ins.{ins_at, count}
 use Rattle.refusals.specs.declared.Answer.{Answer}
 use Rattle.code.specs.declared.Ins.{Ins}
 use Rattle.roles.specs.Sets.{from, used_by, given_by}
-use Rattle.touch.specs.Touch.{named as fieldsNamed, written_by}
+use Rattle.touch.specs.Touch.{named as fields_named, written_by}
 use Rattle.flow.specs.Flow.{Least, Closed}
 use Rattle.flow.specs.Sweep.{row, backs, start_of}
 use Rattle.flow.specs.Demand.{Keeps, Lost, Once}
@@ -32,7 +32,7 @@ use Rattle.exported.specs.Calls.{Lists, FoldCall, ClearCall}
 
 -- the registers that three bits name: 0 a, 1 b, 2 c
 abbrev pub fields_of : ℕ → Ins → List ℕ
-fields_of m i = fieldsNamed (2 * m) i.a i.b i.c
+fields_of m i = fields_named (2 * m) i.a i.b i.c
 
 -- the answer names what the instruction uses, gives up and writes; the run from b on is given up and written
 pub record TouchedHolds (i : Ins) (r : Answer) : Type 0 where

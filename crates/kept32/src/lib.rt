@@ -6,7 +6,7 @@ ghost use Rattle.code.specs.Ins.{count};
 ghost use Rattle.flow.specs.Set.{minus};
 ghost use Rattle.flow.specs.Sweep.{row};
 ghost use Rattle.flow.specs.Inner.{Listing, Holds};
-ghost use Rattle.flow.specs.Kept.{kept as keptOf};
+ghost use Rattle.flow.specs.Kept.{kept as kept_of};
 ghost use Rattle.kept.specs.Level.{resume_of, result_of, level_of, kept_at};
 ghost use Rattle.kept.specs.Lists.{lists_to};
 ghost use Rattle.kept.specs.Inner.{rows_by, LevelsRoom, Filled};
@@ -56,7 +56,7 @@ fn count_level(
     k: usize,
 ) -> usize
     requires { LevelsRoom 32 32 regs code.now words rows.now × (k < count code.now) }
-    ensures { (result ≡ length (keptOf regs (row (rows_by 32 words code.now rows.now))
+    ensures { (result ≡ length (kept_of regs (row (rows_by 32 words code.now rows.now))
         (level_of regs code.now tries.now k))) × (result ≤ 1024) }
 {
     let main = main_row(code, regs, rows, words, k);
@@ -76,8 +76,8 @@ fn keep_level(
     m: usize,
 ) -> usize
     requires { LevelsRoom 32 32 regs code.now words rows.now × (k < count code.now)
-        × (m + length (keptOf regs (row (rows_by 32 words code.now rows.now)) (level_of regs code.now tries.now k)) ≤ length out.old) }
-    ensures { Listing (keptOf regs (row (rows_by 32 words code.now rows.now)) (level_of regs code.now tries.now
+        × (m + length (kept_of regs (row (rows_by 32 words code.now rows.now)) (level_of regs code.now tries.now k)) ≤ length out.old) }
+    ensures { Listing (kept_of regs (row (rows_by 32 words code.now rows.now)) (level_of regs code.now tries.now
         k)) out.old m out.new result }
 {
     let main = main_row(code, regs, rows, words, k);

@@ -44,7 +44,7 @@ use Rattle.fold.specs.Pass.{const_load, put, landed, applied, try_fold, folded, 
 use Rattle.positions.specs.Remap.{remap_of, mapped}
 use Rattle.compact.specs.Tables.{moved_operand, left, compacted}
 use Rattle.positions.specs.Moved.{placed}
-use Rattle.phi_pass.specs.Phi.{paired, noop, phi_mark_at, marked as phisMarked, pairs_left, indexed}
+use Rattle.phi_pass.specs.Phi.{paired, noop, phi_mark_at, marked as phis_marked, pairs_left, indexed}
 use Rattle.finish.specs.Finish.{sources_after, renewed, finished}
 use Rattle.optimizer.specs.Fold.{fold_pass, constant_fold, joined_buffers, fold_lent, rejoined, fold_call}
 use Rattle.marked.specs.Marked.{K, rows_k, code4, code5, code6, room, Marked}
@@ -55,7 +55,7 @@ unfolding set.minus flow.joined row_at sweep below tally value rows_of first pag
     check_of rules first_bad_try try_kept global_answer global_of traced traced_by says_at sets_it passes_by writes fold_binop fold_neg ints floats divmod quotient
     remainder shifted in_range floor_div floor_mod down_div down_mod shift_up div of_int eq neg of_bits to_bits fold_call rejoined fold_lent handles_any barred
     joined_buffers constant_fold fold_pass finished renewed sources_after ready_of tables_of rooms_of tally_of chunk_check_of chunk_rules folds every many each some
-    remap_of mapped moved_operand left compacted placed paired noop phi_mark_at phisMarked pairs_left indexed fold_all folded try_fold applied landed put const_load
+    remap_of mapped moved_operand left compacted placed paired noop phi_mark_at phis_marked pairs_left indexed fold_all folded try_fold applied landed put const_load
     plan_at plan_for kind_of plan.operator_page try_fold_binop try_fold_unary fold_unary prev_live plan.operand_of blocked lands skips_into lands_any const_to_val to_val
     find_or_push_const find_or_push
 marked =

@@ -19,7 +19,7 @@ use Rattle.fold.specs.Plan.{Chunk}
 use Rattle.positions.specs.Remap.{alive, live}
 use Rattle.compact.specs.Tables.{moved_operand, words_of, left_at, left, compacted}
 use Rattle.compact.proofs.Left.{left_long}
-use Rattle.phi_pass.specs.Phi.{paired, noop, phi_mark_at as phiMark, marked, pair_left, pairs_left, indexed}
+use Rattle.phi_pass.specs.Phi.{paired, noop, phi_mark_at as phi_mark, marked, pair_left, pairs_left, indexed}
 use Rattle.laws.proofs.Counting.{many_ext, zeros_at}
 use Rattle.clear.proofs.Alike.{Loads, Alike}
 use Rattle.finish.specs.Finish.{Tables, tables, sources_after, renewed, finished}
@@ -214,14 +214,14 @@ module _ {limit : ℕ} {s t : Chunk} (a : Alike limit s t) where
             unnamed true n = absurd (false≢true (sym (a.free i n) ∙ e))
             unnamed false n = n
 
-    mark_same : (i : ℕ) → phiMark w map sources dead i ≡ phiMark v map sources dead i
-    unfolding phiMark
+    mark_same : (i : ℕ) → phi_mark w map sources dead i ≡ phi_mark v map sources dead i
+    unfolding phi_mark
     mark_same i = rw (noop_same i)
 
     marked_same : marked w map sources dead ≡ marked v map sources dead
     unfolding marked
     marked_same =
-        each_ext (λ i. phiMark w map sources dead i ∷ []) (λ i. phiMark v map sources dead i ∷ []) (length dead) (λ i h. ap (λ (x : ℕ). x ∷ []) (mark_same i))
+        each_ext (λ i. phi_mark w map sources dead i ∷ []) (λ i. phi_mark v map sources dead i ∷ []) (length dead) (λ i h. ap (λ (x : ℕ). x ∷ []) (mark_same i))
 
     pairs_same : pairs_left w map sources dead ≡ pairs_left v map sources dead
     unfolding pairs_left paired

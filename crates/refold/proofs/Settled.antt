@@ -22,7 +22,7 @@ use Rattle.positions.specs.Remap.{alive, live, remap_of}
 use Rattle.compact.specs.Tables.{words_of, left_at, left, compacted}
 use Rattle.compact.proofs.Left.{left_long}
 use Rattle.positions.specs.Moved.{pair_at, placed}
-use Rattle.phi_pass.specs.Phi.{paired, left_source, right_source, phi_mark_at as phiMark, marked, pair_left, pairs_left, indexed}
+use Rattle.phi_pass.specs.Phi.{paired, left_source, right_source, phi_mark_at as phi_mark, marked, pair_left, pairs_left, indexed}
 use Rattle.phi_pass.proofs.Pairs.{marked_length, dead_stays}
 use Rattle.laws.proofs.Counting.{many_ext, every_at}
 use Rattle.finish.specs.Finish.{Tables, tables, sources_after, map_of, sources_of, renewed, finished}
@@ -86,8 +86,8 @@ alive_marked w map sources dead k e = go (ltb k (length dead)) refl (alive dead 
     go false l t q = alive_past dead k (ltb-false k (length dead) l)
     go true l true q = q
     go true l false q =
-        let x : get_or dead k 0 ≡ phiMark w map sources dead k = dead_stays w map sources k dead (eqb-false (get_or dead k 0) 0 q) in
-        let y : get_or (each (λ i. phiMark w map sources dead i ∷ []) (length dead)) k 0 ≡ phiMark w map sources dead k = each_at (phiMark w map sources dead)
+        let x : get_or dead k 0 ≡ phi_mark w map sources dead k = dead_stays w map sources k dead (eqb-false (get_or dead k 0) 0 q) in
+        let y : get_or (each (λ i. phi_mark w map sources dead i ∷ []) (length dead)) k 0 ≡ phi_mark w map sources dead k = each_at (phi_mark w map sources dead)
         (length dead) k (ltb-true k (length dead) l) in
         let z : get_or (marked w map sources dead) k 0 ≡ get_or dead k 0 = y ∙ sym x in
         sym (ap (λ (v : ℕ). eqb v 0) z) ∙ e

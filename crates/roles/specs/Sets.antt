@@ -46,8 +46,8 @@ from r zero = []
 from r (suc m) = r ∷ from (suc r) m
 
 -- m registers from r on if x is not 0, else nothing: WithEnter's b, b + 1 and WithExit's b to b + 4
-abbrev pub inARow : ℕ → ℕ → ℕ → List ℕ
-inARow x r m = cond (eqb x 0) [] (from r m)
+abbrev pub in_a_row : ℕ → ℕ → ℕ → List ℕ
+in_a_row x r m = cond (eqb x 0) [] (from r m)
 
 -- used: WithEnter with x = 2 uses c, WithJudge with x = 1 uses a, ForIterR with x = 0 uses b
 abbrev pub used : Case → Ins → List ℕ
@@ -63,8 +63,8 @@ used Plain i = read_by i
 abbrev pub given : Case → Ins → List ℕ
 given Store i = i.a ∷ []
 given Unpack i = unpacked i
-given Enter i = inARow i.x i.b 2
-given Exit i = inARow i.x i.b 5
+given Enter i = in_a_row i.x i.b 2
+given Exit i = in_a_row i.x i.b 5
 given Judge i = []
 given Step i = []
 given Plain i = dest_by i
@@ -73,8 +73,8 @@ given Plain i = dest_by i
 abbrev pub written : Case → Ins → List ℕ
 written Store i = only (eqb i.x 0) i.a
 written Unpack i = unpacked i
-written Enter i = inARow i.x i.b 2
-written Exit i = inARow i.x i.b 5
+written Enter i = in_a_row i.x i.b 2
+written Exit i = in_a_row i.x i.b 5
 written Judge i = []
 written Step i = only (eqb i.x 0) i.b
 written Plain i = dest_by i

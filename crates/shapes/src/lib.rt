@@ -3,7 +3,7 @@
 
 ghost use Rattle.std.specs.Prelude.{◌≡◌, ◌<◌, length};
 ghost use Rattle.code.specs.Inner.{Whole};
-ghost use Rattle.shapes.specs.Shape.{flat_here, flat_at, flat as flatAll, guards, guarded as guardedAny};
+ghost use Rattle.shapes.specs.Shape.{flat_here, flat_at, flat as flat_all, guards, guarded as guarded_any};
 ghost use Rattle.shapes.specs.Answers.{flat_answer, guarded_answer};
 
 use code::Ins;
@@ -51,7 +51,7 @@ fn flat_at(code: &[u16], k: usize) -> bool
 // `flat` in accepted code.
 fn all_flat(code: &[u16]) -> bool
     requires { Whole code.now }
-    ensures { result ≡ flatAll code.now }
+    ensures { result ≡ flat_all code.now }
 {
     let n = code.len() / 6;
     let mut k = 0;
@@ -75,7 +75,7 @@ fn guards(i: Ins) -> bool
 // `guarded` in accepted code.
 fn any_guards(code: &[u16]) -> bool
     requires { Whole code.now }
-    ensures { result ≡ guardedAny code.now }
+    ensures { result ≡ guarded_any code.now }
 {
     let n = code.len() / 6;
     let mut k = 0;

@@ -7,7 +7,7 @@ ghost use Rattle.code.specs.Inner.{Whole, Valid};
 ghost use Rattle.roles.specs.Kinds.{kinds_of};
 ghost use Rattle.roles.specs.Roles.{role_table};
 ghost use Rattle.steps.specs.Level.{is_level, first_level};
-ghost use Rattle.steps.specs.Code.{store_of, over_pending, past_store, idle as idleAt};
+ghost use Rattle.steps.specs.Code.{store_of, over_pending, past_store, idle as idle_at};
 ghost use Rattle.steps.specs.Inner.{Goes, TouchesAt, goes_before, StepAt, calm_of, calm_step, turn_step, word_of};
 
 use code::Ins;
@@ -152,7 +152,7 @@ fn less(k: usize, d: usize) -> usize
 // Whether the instruction at k, whose opcode is o, pushes or restores a pending value.
 fn idle(code: &[u16], k: usize, o: u16) -> bool
     requires { Whole code.now × (k < count code.now) × (o ≡ (ins_at code.now k).op) }
-    ensures { result ≡ idleAt code.now k }
+    ensures { result ≡ idle_at code.now k }
 {
     if o == PushRegs {
         return over_pending(code, k + 1);

@@ -2,14 +2,14 @@
 #![tactic(auto)]
 
 ghost use Rattle.std.specs.Prelude.{◌≡◌};
-ghost use Rattle.nested.specs.Raising.{stranded as strandedOf};
+ghost use Rattle.nested.specs.Raising.{stranded as stranded_of};
 
 use code::Ins;
 use ops::*;
 
 // Whether a call at a marked instruction goes on where the instruction by itself does not lead, or gives up more than its result.
 pub fn stranded(i: Ins) -> bool
-    ensures { result ≡ strandedOf i }
+    ensures { result ≡ stranded_of i }
 {
     let o = i.op;
     let dunder = i.marks / 2 % 2 == 1;

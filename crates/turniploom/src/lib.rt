@@ -16,7 +16,7 @@ ghost use Rattle.loops.specs.Answers.{LoopsAround};
 ghost use Rattle.unread.specs.Answers.{DeadPhi};
 ghost use Rattle.generators.specs.Answers.{GenTold};
 ghost use Rattle.needed.specs.Answers.{NeededTold};
-ghost use Rattle.answers.specs.Answers.{kept_told as keptAnswered, KeptTold, FoldTold, MadeTold, EnterTold, LeaveTold, ReplayTold};
+ghost use Rattle.answers.specs.Answers.{kept_told as kept_answered, KeptTold, FoldTold, MadeTold, EnterTold, LeaveTold, ReplayTold};
 ghost use Rattle.optimizer.specs.Fold.{buffers};
 ghost use Rattle.clear.specs.Clear.{pool_buffers as clearable, ClearTold};
 ghost use Rattle.levels.specs.Answers.{level_answer};
@@ -31,7 +31,7 @@ use refusals::{Answer, Checked};
 
 // The list's length and the two sweep counts.
 fn kept_told(k: KeptAnswer) -> Answer
-    ensures { result ≡ keptAnswered k }
+    ensures { result ≡ kept_answered k }
 {
     match k {
         KeptAnswer::Is(n, full, abandoned) => refusals::tell(

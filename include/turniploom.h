@@ -1,4 +1,4 @@
-/* The proved calls of turniploom, for C. Link with libturniploom.a, which `rt staticlib turniploom` makes.
+/* The proved calls of turniploom, for C. Link with libturniploom.a, which `.ci/archive` makes.
  *
  * A slice is a pointer and a length in elements, an array whose length is fixed a pointer. No call asks anything of its input but
  * that each pointer has as many elements as its length says (a length of 0 may come with any pointer that is not null), that buffers

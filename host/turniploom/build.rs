@@ -39,7 +39,7 @@ fn main() {
     println!("cargo::rustc-link-lib=static=turniploom");
 }
 
-/// The archive that TURNIPLOOM_LIB names by its whole path. Else the repository's own, made by `rt staticlib` if it is not there; and for
+/// The archive that TURNIPLOOM_LIB names by its whole path. Else the repository's own, made by `.ci/archive` if it is not there; and for
 /// a copy of this crate by itself, the one beside its Cargo.toml.
 fn archive() -> PathBuf {
     if let Some(named) = env::var_os("TURNIPLOOM_LIB").filter(|v| !v.is_empty()).map(PathBuf::from) {
@@ -55,9 +55,9 @@ fn archive() -> PathBuf {
     if path.is_file() { return path }
     let place = root.map_or("the repository of turniploom, and copy it there".into(), |r| r.display().to_string());
     refuse(&format!(
-        "no archive of the proved calls at {} ({}). Two ways to get one: run `rt staticlib turniploom` in {place}; \
+        "no archive of the proved calls at {} ({}). Two ways to get one: run `.ci/archive` in {place}; \
          or set TURNIPLOOM_LIB to the whole path of one",
-        path.display(), made.err().unwrap_or("rt staticlib made none".into()),
+        path.display(), made.err().unwrap_or(".ci/archive made none".into()),
     ))
 }
 
@@ -112,10 +112,11 @@ fn fraction(prime: u32, power: u32) -> u32 {
 
 /// Has the archive made, or says in a line why that failed.
 fn make(root: &Path) -> Result<(), String> {
-    let made = Command::new("rt").args(["staticlib", "turniploom"]).current_dir(root).output().map_err(|e| format!("rt can't be run: {e}"))?;
+    Command::new("rt").arg("version").output().map_err(|e| format!("rt can't be run: {e}"))?;
+    let made = Command::new(root.join(".ci/archive")).output().map_err(|e| format!(".ci/archive can't be run: {e}"))?;
     if made.status.success() { return Ok(()) }
     let said = String::from_utf8_lossy(&[made.stdout, made.stderr].concat()).into_owned();
-    Err(format!("rt staticlib turniploom failed: {}", said.lines().last().unwrap_or_default()))
+    Err(format!(".ci/archive failed: {}", said.lines().last().unwrap_or_default()))
 }
 
 /// The symbols that an archive's index lists: the first member, `/` with offsets of 4 bytes or `/SYM64/` with 8.

@@ -94,8 +94,7 @@ fn a_package() {
 fn what_can_not_be_installed() {
     let to = folder("not-installed");
     let refused = |names: &[(&str, &Path)]| { let out = install(&[], names); assert_eq!(out.status.code(), Some(2)); said(&out) };
-    assert!(refused(&[("DESTDIR", &to), ("TURNIPLOOM_LIB", Path::new("/gone.a"))]).starts_with("install: there is no archive at /gone.a: run `rt \
-        staticlib turniploom`"));
+    assert!(refused(&[("DESTDIR", &to), ("TURNIPLOOM_LIB", Path::new("/gone.a"))]).starts_with("install: there is no archive at /gone.a: run `.ci/archive`"));
     assert!(refused(&[("DESTDIR", &to), ("TURNIPLOOM_LIB", Path::new("some.a"))]).contains("a relative path"));
     let other = to.join("other.a");
     fs::write(&other, "another").unwrap();

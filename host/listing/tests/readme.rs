@@ -104,7 +104,7 @@ fn its_pictures_are_of_the_page_as_it_is() {
 fn the_map_has_every_crate() {
     let map = fs::read_to_string(root().join("docs/ARCHITECTURE.md")).unwrap();
     for line in fs::read_to_string(root().join("crates.txt")).unwrap().lines().filter(|l| !l.starts_with('#') && l.contains(':')) {
-        let name = line.split(':').next().unwrap();
+        let name = line.split([':', ' ']).next().unwrap();
         assert!(map.lines().any(|l| l.starts_with('|') && l.contains(&format!("`{name}`"))), "docs/ARCHITECTURE.md does not name the crate {name}");
     }
 }

@@ -84,7 +84,7 @@ fn without_archive_and_rt_the_build_names_the_path_and_two_ways() {
         let says = refused(&root, &inside, lib);
         let looked = root.join("target/staticlib/libturniploom.a");
         assert!(says.contains(&format!("no archive of the proved calls at {} (rt can't be run", looked.display())), "{says}");
-        assert!(says.contains(&format!("run `rt staticlib turniploom` in {}; or set TURNIPLOOM_LIB to the whole path of one", root.display())), "{says}");
+        assert!(says.contains(&format!("run `.ci/archive` in {}; or set TURNIPLOOM_LIB to the whole path of one", root.display())), "{says}");
     }
 }
 

@@ -8,7 +8,7 @@ fn text(path: &str) -> String { fs::read_to_string(Path::new(env!("CARGO_MANIFES
 /// The lines of the table, opcode 0 first: the bits for x of 0 to 4, and what the comment beside them names.
 fn table() -> Vec<([u8; 5], String)> {
     let text = text("crates/roles/specs/Roles.antt");
-    let lines = text.split_once("roleTable =\n").expect("the table").1.lines();
+    let lines = text.split_once("role_table =\n").expect("the table").1.lines();
     lines.map(|l| {
         let (bits, name) = l.split_once("--").unwrap_or((l, ""));
         let bits: Vec<u8> = bits.split('∷').filter_map(|b| b.trim().parse().ok()).collect();

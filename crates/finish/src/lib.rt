@@ -25,9 +25,9 @@ fn renew_sources(
     remap: &mut [u32],
     left: Left,
 ) -> usize
-    requires code_len { (length code.now ≡ stride * length dead.now) × (length dead.now ≤ length remap.old)
+    requires room { (length code.now ≡ stride * length dead.now) × (length dead.now ≤ length remap.old)
         × (2 * many (is_phi code.now) (length dead.now) ≤ length phi_sources.old) }
-    requires map_in_bounds { (left.map ≤ length phi_map.now) × (left.sources ≤ length phi_sources.old) }
+    requires left_within { (left.map ≤ length phi_map.now) × (left.sources ≤ length phi_sources.old) }
     ensures { (result ≡ length (sources_left code.now (take left.map phi_map.now)
         (take left.sources phi_sources.old) dead.now)) × (phi_sources.new
         ≡ sources_after code.now (take left.map phi_map.now) (take left.sources phi_sources.old) dead.now

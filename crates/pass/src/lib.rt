@@ -25,8 +25,8 @@ pub fn fold_all(
     landings: &[u64],
     strict: bool,
 ) -> usize
-    requires pass_room { PassRoom (chunk code.old dead.old kinds.old words.old constants) }
-    requires code_in_bounds { chunk_count code.old ≤ length landings.now }
+    requires room { PassRoom (chunk code.old dead.old kinds.old words.old constants) }
+    requires landings_within { chunk_count code.old ≤ length landings.now }
     ensures { chunk code.new dead.new kinds.new words.new result ≡ fold_all (by_table strict landings.now)
         (chunk code.old dead.old kinds.old words.old constants) }
 {

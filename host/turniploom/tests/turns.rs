@@ -1,4 +1,4 @@
-//! How far `needed` walks: each way out of an instruction to another once at most, so at most as many turns as instructions and jumps (`few-turns`,
+//! How far `needed` walks: each way out of an instruction to another once at most, so at most as many turns as instructions and jumps (`few_turns`,
 //! crates/seek/proofs/Within.antt). Instructions of the archive are counted by callgrind, where valgrind is at hand.
 
 use std::{env, fs, process::Command};

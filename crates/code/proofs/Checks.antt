@@ -12,8 +12,8 @@ use Rattle.code.specs.Rules.{rule_at}
 use Rattle.code.specs.Check.{uneven, first_bad, check_of}
 use Rattle.code.specs.Inner.{Valid}
 use Rattle.refusals.specs.declared.Refusal.TheVariants.{Length, Record}
-use Rattle.refusals.specs.declared.Checked.{Checked}
-use Rattle.refusals.specs.declared.Checked.TheVariants.{Count, No}
+use Rattle.refusals.specs.Stages.{Checked}
+use Rattle.std.specs.declared.result.Result.TheVariants.{Ok, Err}
 use Rattle.laws.proofs.Branch.{or_false}
 use Rattle.laws.proofs.Walk.{none_passed}
 
@@ -25,11 +25,11 @@ module _ (w : List ℕ) (even : uneven w ≡ false) where
   few = ltb-false _ _ (or_false (not (eqb (length w % 6) 0)) _ even).1
 
 module _ (w : List ℕ) (k : ℕ) (found : k ≡ first_bad w) (even : uneven w ≡ false) where
-  pub bad_record : k < count w → No (Record k) ≡ check_of w
+  pub bad_record : k < count w → Err (Record k) ≡ check_of w
   unfolding check_of
   bad_record h = rw (even, ← found, lt-ltb k (count w) h)
 
-  pub accepted : count w ≤ k → Count (count w) ≡ check_of w
+  pub accepted : count w ≤ k → Ok (count w) ≡ check_of w
   unfolding check_of
   accepted h = rw (even, ← found, le-ltb k (count w) h)
 
@@ -43,28 +43,28 @@ module _ (w : List ℕ) (k : ℕ) (found : k ≡ first_bad w) (even : uneven w �
 
 -- what a caller learns of `check`
 module _ (w : List ℕ) (n : ℕ) where
-  cases : (u : Bool) → uneven w ≡ u → (b : Bool) → ltb (first_bad w) (count w) ≡ b → Count n ≡ check_of w → (n ≡ count w) × Valid w
+  cases : (u : Bool) → uneven w ≡ u → (b : Bool) → ltb (first_bad w) (count w) ≡ b → Ok n ≡ check_of w → (n ≡ count w) × Valid w
   unfolding check_of
   cases true e b f h =
-      let z : Count n ≡ No (Length (length w)) = rw e at h in
+      let z : Ok n ≡ Err (Length (length w)) = rw e at h in
       let y : ◌≡◌ {A = ℕ} 0 1 = cc in
       absurd (omega arith)
   cases false e true f h =
-      let z : Count n ≡ No (Record (first_bad w)) = rw (e, f) at h in
+      let z : Ok n ≡ Err (Record (first_bad w)) = rw (e, f) at h in
       let y : ◌≡◌ {A = ℕ} 0 1 = cc in
       absurd (omega arith)
   cases false e false f h =
-      let z : Count n ≡ Count (count w) = rw (e, f) at h in
+      let z : Ok n ≡ Ok (count w) = rw (e, f) at h in
       (cc, valid w (first_bad w) refl e (ltb-false _ _ f))
 
-  pub counted : Count n ≡ check_of w → n ≡ count w
+  pub counted : Ok n ≡ check_of w → n ≡ count w
   counted h = (cases (uneven w) refl (ltb (first_bad w) (count w)) refl h).0
 
-  pub checked : Count n ≡ check_of w → Valid w
+  pub checked : Ok n ≡ check_of w → Valid w
   checked h = (cases (uneven w) refl (ltb (first_bad w) (count w)) refl h).1
 
 -- the same at a `match` on what `check` answered, v
-module _ (w : List ℕ) (n : ℕ) (v : Checked) (e : v ≡ check_of w) (t : v ≡ Count n) where
+module _ (w : List ℕ) (n : ℕ) (v : Checked) (e : v ≡ check_of w) (t : v ≡ Ok n) where
   pub whole_of : length w % 6 ≡ 0
   whole_of = (checked w n (sym t ∙ e)).whole
 

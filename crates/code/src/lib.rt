@@ -5,13 +5,13 @@ ghost use Rattle.std.specs.Prelude.{◌≡◌, not, ◌+◌, ◌*◌, ◌<◌, l
 ghost use Rattle.code.specs.Ins.{ins_at, count, is_call};
 ghost use Rattle.code.specs.Rules.{rules, rule_at};
 ghost use Rattle.code.specs.Inner.{has_rule, Whole};
-ghost use Rattle.code.specs.Check.{first_bad, check_of};
+ghost use Rattle.code.specs.Check.{first_bad, check_of, instruction_of};
 
 use ops::*;
-use refusals::{Checked, Refusal};
+use refusals::Refusal;
 
 // One instruction: six words of lent code.
-#[derive(Clone, Copy)]
+#[derive(Clone, Copy, Default)]
 pub struct Ins {
     pub op: u16,
     pub marks: u16,
@@ -45,25 +45,20 @@ pub fn ins_at(code: &[u16], k: usize) -> Ins
     if k < code.len() / 6 {
         ins_in(code, k)
     } else {
-        Ins {
-            op: 0,
-            marks: 0,
-            a: 0,
-            b: 0,
-            c: 0,
-            x: 0,
-        }
+        Ins::default()
     }
 }
 
 // One of the four calls.
+#[inline(always)]
 pub fn is_call(o: u16) -> bool
     ensures { result ≡ is_call o }
 {
-    (o == CallGlobalR) | (o == CallR) | (o == CallMethodR) | (o == CallSpreadR)
+    matches!(o, CallGlobalR | CallR | CallMethodR | CallSpreadR)
 }
 
 // The record rules for i at k, before an instruction with opcode next.
+#[tactic(auto, unfolding(crate::specs::Rules::rules))]
 fn keeps_rules(i: Ins, k: usize, next: u16) -> bool
     ensures { result ≡ rules i k next }
 {
@@ -71,8 +66,7 @@ fn keeps_rules(i: Ins, k: usize, next: u16) -> bool
     let x = i.x;
     let b = i.b;
     let wide = i.marks % 2 == 1;
-    let call = (o == CallGlobalR) | (o == CallR) | (o == CallMethodR) | (o == CallSpreadR);
-    let marks = (i.marks <= 7) & (!wide | call);
+    let marks = (i.marks <= 7) & (!wide | is_call(o));
     let push = (o != PushRegs) | (x <= 3);
     let unpack = (o != UnpackR) | (1 <= x);
     let args = (o != ArgsR) | (k != 0);
@@ -86,8 +80,7 @@ fn keeps_rules(i: Ins, k: usize, next: u16) -> bool
 fn has_rule(o: u16) -> bool
     ensures { result ≡ has_rule o }
 {
-    let call = (o == CallGlobalR) | (o == CallR) | (o == CallMethodR) | (o == CallSpreadR);
-    call | (o == PushRegs) | (o == UnpackR) | (o == ArgsR) | (o == WithEnter) | (o == WithExit)
+    is_call(o) | matches!(o, PushRegs | UnpackR | ArgsR | WithEnter | WithExit)
 }
 
 // Whether the instruction at k breaks a record rule. Most opcodes have no rule of their own: of these the instruction alone is read.
@@ -106,34 +99,42 @@ fn breaks(code: &[u16], k: usize) -> bool
 }
 
 // The first instruction that breaks a record rule, else how many there are.
+#[tactic(auto, using(laws::proofs::Walk::finds))]
 fn first_bad(code: &[u16]) -> usize
     requires { Whole code.now }
     ensures { result ≡ first_bad code.now }
 {
     let n = code.len() / 6;
-    let mut k = 0;
-    while k < n {
+    for k in 0..n {
         if breaks(code, k) {
             return k;
         }
-        k += 1;
     }
-    k
+    n
 }
 
 // Refusals 1 and 2: the test of a whole code.
-pub fn check(code: &[u16]) -> Checked
+pub fn check(code: &[u16]) -> Result<usize, Refusal>
     ensures { result ≡ check_of code.now }
 {
     let len = code.len();
     let n = len / 6;
     let uneven = (len % 6 != 0) | (65535 < n);
     if uneven {
-        return Checked::No(Refusal::Length(len));
+        return Err(Refusal::Length(len));
     }
     let k = first_bad(code);
     if k < n {
-        return Checked::No(Refusal::Record(k));
+        return Err(Refusal::Record(k));
     }
-    Checked::Count(n)
+    Ok(n)
+}
+
+// The instruction at a position: refusals 1, 2, 6.
+#[tactic(auto, using(refusals::proofs::Stages::onward, refusals::proofs::Answers::passed))]
+pub fn instruction(code: &[u16], at: usize) -> Result<Ins, Refusal>
+    ensures { result ≡ instruction_of code.now at }
+{
+    refusals::inside(check(code), at)?;
+    Ok(ins_at(code, at))
 }

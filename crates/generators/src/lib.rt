@@ -2,6 +2,7 @@
 #![tactic(auto)]
 
 ghost use Rattle.std.specs.Prelude.{◌≡◌, ◌+◌, ◌/◌, length};
+ghost use Rattle.refusals.specs.Answers.{answered};
 ghost use Rattle.paths.specs.Search.{SearchSettles};
 ghost use Rattle.phi_paths.specs.Inner.{PhiRoom};
 ghost use Rattle.generators.specs.Generator.{PhisDead, GenPure};
@@ -9,22 +10,16 @@ ghost use Rattle.generators.specs.Inner.{Clear};
 ghost use Rattle.generators.specs.Answers.{GenTold};
 
 use ops::*;
-use refusals::{Answer, Checked};
+use refusals::{Answer, Refusal};
 
 // `gen_pure`: refusals 1, 2, 5.
-pub fn gen_pure(code: &[u16], seen: &mut [u8], todo: &mut [u32]) -> Answer
-    ensures { GenTold code.now seen.old todo.old result seen.new todo.new }
+pub fn gen_pure(code: &[u16], seen: &mut [u8], todo: &mut [u32]) -> Result<Answer, Refusal>
+    ensures { GenTold code.now seen.old todo.old (answered result) seen.new todo.new }
 {
     let m = code.len() / 6 + 1;
-    match refusals::room(
-        refusals::room(code::check(code), 1, seen.len(), m),
-        2,
-        todo.len(),
-        m,
-    ) {
-        Checked::No(q) => refusals::refused(q),
-        Checked::Count(_) => refusals::tell(generates(code, seen, todo) as u64, 0, 0, 0),
-    }
+    let v = refusals::room(code::check(code), 1, seen.len(), m);
+    refusals::room(v, 2, todo.len(), m)?;
+    Ok(refusals::tell(u64::from(generates(code, seen, todo)), 0, 0, 0))
 }
 
 // Whether every Phi is dead; both buffers are clear, and stay so.
@@ -34,18 +29,14 @@ fn walk_phis(code: &[u16], seen: &mut [u8], todo: &mut [u32]) -> bool
         todo.old result seen.new todo.new }
 {
     let n = code.len() / 6;
-    let mut k = 0;
-    while k < n {
+    for k in 0..n {
         let i = code::ins_at(code, k);
         if i.op != Phi {
-            k += 1;
             continue;
         }
-        if unread::dead(code, k, i.a, seen, todo) {
-            k += 1;
-            continue;
+        if !unread::dead(code, k, i.a, seen, todo) {
+            return false;
         }
-        return false;
     }
     true
 }

@@ -1,24 +1,24 @@
 // Whether code may be laid as a section (block.rs: `pure`, `laid`).
 #![tactic(auto)]
 
-ghost use Rattle.std.specs.Prelude.{◌≡◌, ◌-◌, ◌<◌, length};
+ghost use Rattle.std.specs.Prelude.{◌≡◌, ◌<◌, length};
+ghost use Rattle.refusals.specs.Answers.{answered};
 ghost use Rattle.code.specs.Inner.{Whole};
-ghost use Rattle.roles.specs.Roles.{role_table};
 ghost use Rattle.laid.specs.Section.{stack_work, jump_fits, plain_fits, yield_fits, fits, laid_at, laid};
 ghost use Rattle.laid.specs.Answers.{pure_answer};
 
 use code::Ins;
 use ops::*;
-use refusals::{Answer, Checked};
+use refusals::{Answer, Refusal};
+use roles::Roles;
 
 // `pure`: refusals 1, 2.
-pub fn pure(code: &[u16]) -> Answer
-    ensures { result ≡ pure_answer code.now }
+#[tactic(auto, using(refusals::proofs::Answers::telling), unfolding(crate::specs::Answers::pure_answer))]
+pub fn pure(code: &[u16]) -> Result<Answer, Refusal>
+    ensures { answered result ≡ pure_answer code.now }
 {
-    match code::check(code) {
-        Checked::No(r) => refusals::refused(r),
-        Checked::Count(_) => refusals::tell(all_laid(code, false) as u64, 0, 0, 0),
-    }
+    code::check(code)?;
+    Ok(refusals::tell(all_laid(code, false).into(), 0, 0, 0))
 }
 
 // `stack_work`, even numbers and then odd ones.
@@ -143,17 +143,19 @@ fn stack_work(o: u16) -> bool
 }
 
 // Whether a jump from k to t may stand.
+#[tactic(auto, unfolding(crate::specs::Section::jump_fits))]
 fn jump_fits(i: Ins, t: Ins, k: usize, n: usize) -> bool
     ensures { result ≡ jump_fits i t k n }
 {
-    let a = i.a as usize;
+    let a = usize::from(i.a);
     let jump = i.op == Jump;
     let back = jump & (i.x == 0) & (a <= k);
-    let skip = !jump & (t.op == ForIterR) & (t.x == 0) & (k < t.a as usize);
+    let skip = !jump & (t.op == ForIterR) & (t.x == 0) & (k < usize::from(t.a));
     (k < a) & (a <= n) | back | skip
 }
 
 // Whether an instruction with a role, but no jump, may stand.
+#[tactic(auto, unfolding(crate::specs::Section::plain_fits))]
 fn plain_fits(i: Ins, prev: Ins, s: Ins) -> bool
     ensures { result ≡ plain_fits i prev s }
 {
@@ -168,18 +170,20 @@ fn plain_fits(i: Ins, prev: Ins, s: Ins) -> bool
 }
 
 // Whether a generator's body may hold i.
+#[tactic(auto, unfolding(crate::specs::Section::yield_fits))]
 fn yield_fits(i: Ins, next: Ins) -> bool
     ensures { result ≡ yield_fits i next }
 {
     let o = i.op;
     let popped = next.op == PopTop;
-    let spreads = (o == BeginArgs) | (o == UnpackArgs) | (o == CallSpread);
+    let spreads = matches!(o, BeginArgs | UnpackArgs | CallSpread);
     (o == Yield) & ((i.x == 1) | popped) | spreads | (o == LoadYieldFrom) & popped
 }
 
 // Whether i may stand at k of n.
+#[tactic(auto, unfolding(crate::specs::Section::fits))]
 fn fits(
-    roles: &[u8; 1280],
+    roles: &Roles,
     i: Ins,
     prev: Ins,
     next: Ins,
@@ -189,7 +193,6 @@ fn fits(
     n: usize,
     yields: bool,
 ) -> bool
-    requires { roles.now ≡ role_table }
     ensures { result ≡ fits i prev next s t k n yields }
 {
     if roles::is_jump_in(roles, i) {
@@ -203,44 +206,33 @@ fn fits(
     work | yields & yielded
 }
 
-// The position before k, or 0.
-fn before(k: usize) -> usize
-    ensures { result ≡ k - 1 }
-{
-    if k == 0 {
-        return 0;
-    }
-    k - 1
-}
-
 // Whether the instruction at k may stand in a section; `yields` allows what only a generator's body holds.
-fn laid_at(roles: &[u8; 1280], code: &[u16], yields: bool, k: usize) -> bool
-    requires { (roles.now ≡ role_table) × Whole code.now × (k < length code.now) }
+#[tactic(auto, unfolding(crate::specs::Section::laid_at))]
+fn laid_at(roles: &Roles, code: &[u16], yields: bool, k: usize) -> bool
+    requires { Whole code.now × (k < length code.now) }
     ensures { result ≡ laid_at code.now yields k }
 {
     let i = code::ins_at(code, k);
     let wide = i.marks % 2 == 1;
-    let prev = code::ins_at(code, before(k));
+    let prev = code::ins_at(code, k.saturating_sub(1));
     let next = code::ins_at(code, k + 1);
-    let s = code::ins_at(code, k + 1 + wide as usize);
-    let t = code::ins_at(code, i.a as usize);
+    let s = code::ins_at(code, k + 1 + usize::from(wide));
+    let t = code::ins_at(code, usize::from(i.a));
     fits(roles, i, prev, next, s, t, k, code.len() / 6, yields)
 }
 
 // `laid`.
+#[tactic(auto, using(laws::proofs::Every::all), unfolding(crate::specs::Section::laid))]
 pub fn all_laid(code: &[u16], yields: bool) -> bool
     requires { Whole code.now }
     ensures { result ≡ laid code.now yields }
 {
     let roles = roles::table();
     let n = code.len() / 6;
-    let mut k = 0;
-    while k < n {
-        let fine = laid_at(&roles, code, yields, k);
-        if !fine {
+    for k in 0..n {
+        if !laid_at(&roles, code, yields, k) {
             return false;
         }
-        k += 1;
     }
     true
 }

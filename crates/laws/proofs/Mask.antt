@@ -30,11 +30,20 @@ module _ (f : ℕ → Bool) where
   mask_below (suc r) = rw (pow-suc 2 r) (below_cases (mask f r) (2 ^ r) (f r) (mask_below r))
 
   -- a word of 64 bits with bit r put in
-  pub mask_more : (m v r n : ℕ) (b : Bool) → m ≡ mask f r → b ≡ f r → r < n → n ≤ 64 → v ≡ (1 * 2 ^ r) % 2 ^ 64 * bool_byte b → bit_or m v ≡ mask f (r + 1)
+  pub mask_more : (m v r : ℕ) (b : Bool) → m ≡ mask f r → b ≡ f r → r < 64 → v ≡ bool_byte b → bit_or m ((v * 2 ^ r) % 2 ^ 64) ≡ mask f (r + 1)
   unfolding mask
-  mask_more m v r n b e g h l i =
-      let z : (1 * 2 ^ r) % 2 ^ 64 ≡ 1 * 2 ^ r = shl_exact 1 r 64 (omega arith) (omega arith) in
-      rw (add-one, e, ← g) (or_cases (mask f r) v r b (mask_below r) (rw z at i))
+  mask_more m v r b e g h i =
+      let q : v ≤ 1 = rw i (bit b) in
+      let z : (v * 2 ^ r) % 2 ^ 64 ≡ v * 2 ^ r = shl_exact 1 r 64 (omega arith) (omega arith) in
+      rw (add-one, z, e, ← g) (or_cases (mask f r) (v * 2 ^ r) r b (mask_below r) (by b i))
+    where
+      bit : (b : Bool) → bool_byte b ≤ 1
+      bit true = omega arith
+      bit false = omega arith
+
+      by : (b : Bool) → v ≡ bool_byte b → v * 2 ^ r ≡ 1 * 2 ^ r * bool_byte b
+      by true i = rw i (omega arith)
+      by false i = rw i (omega arith)
 
   pub mask_done : (m r n k : ℕ) → n ≤ r → r ≤ n → n ≡ k → m ≡ mask f r → m ≡ mask f k
   mask_done m r n k h l e g = let q : r ≡ k = omega arith in rw q at g

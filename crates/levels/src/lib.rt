@@ -6,16 +6,17 @@ ghost use Rattle.code.specs.Ins.{count};
 ghost use Rattle.code.specs.Inner.{Valid};
 ghost use Rattle.levels.specs.Answers.{level_told, level_answer};
 
-use refusals::{Answer, Checked};
+use refusals::Answer;
 
 // The level at a position: refusals 1, 2, 6.
+#[tactic(auto, using(crate::proofs::Accepted::accepted), unfolding(crate::specs::Answers::level_answer))]
 pub fn level(code: &[u16], at: usize) -> Answer
     ensures { result ≡ level_answer code.now at }
 {
-    match refusals::inside(code::check(code), at) {
-        Checked::No(r) => refusals::refused(r),
-        Checked::Count(_) => level_in(code, at),
+    if let Err(r) = refusals::inside(code::check(code), at) {
+        return Answer::from(r);
     }
+    level_in(code, at)
 }
 
 // The same in code that is not refused.

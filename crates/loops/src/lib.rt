@@ -3,25 +3,22 @@
 
 ghost use Rattle.std.specs.Prelude.{◌≡◌, ◌+◌, ◌/◌, ◌<◌, ◌≤◌, length};
 ghost use Rattle.laws.specs.Table.{filled_to};
+ghost use Rattle.refusals.specs.Answers.{answered};
 ghost use Rattle.code.specs.Inner.{Whole};
 ghost use Rattle.loops.specs.Answers.{LoopsAround};
 ghost use Rattle.loops.specs.Loops.{next_step, leaves_at, end_of, depth};
 ghost use Rattle.loops.specs.Inner.{Added, CanGrow, Space, Zeroed, Counted};
 
 use ops::*;
-use refusals::{Answer, Checked};
+use refusals::{Answer, Refusal};
 
 // `loops_around`: refusals 1, 2, 5.
-pub fn loops_around(code: &[u16], out: &mut [u32]) -> Answer
-    ensures { LoopsAround code.now out.old result out.new }
+pub fn loops_around(code: &[u16], out: &mut [u32]) -> Result<Answer, Refusal>
+    ensures { LoopsAround code.now out.old (answered result) out.new }
 {
-    match refusals::room(code::check(code), 1, out.len(), code.len() / 6 + 1) {
-        Checked::No(r) => refusals::refused(r),
-        Checked::Count(_) => {
-            fill_loops(code, out);
-            refusals::tell(0, 0, 0, 0)
-        }
-    }
+    refusals::room(code::check(code), 1, out.len(), code.len() / 6 + 1)?;
+    fill_loops(code, out);
+    Ok(refusals::tell(0, 0, 0, 0))
 }
 
 // The first step of a `for` from g on, else n.
@@ -30,18 +27,17 @@ fn next_step(code: &[u16], g: usize) -> usize
     ensures { result ≡ next_step code.now g }
 {
     let n = code.len() / 6;
-    let mut k = g;
-    while k < n {
+    for k in g..n {
         let i = code::ins_at(code, k);
         if (i.op == ForIterR) | (i.op == ForIter) {
             return k;
         }
-        k += 1;
     }
-    k
+    n
 }
 
 // Where the loop ends that the step at f leaves.
+#[tactic(auto, unfolding(crate::specs::Loops::leaves_at))]
 fn leaves_at(code: &[u16], f: usize) -> usize
     requires { Whole code.now }
     ensures { (result ≡ leaves_at code.now f) × (result ≤ length code.now / 6) }
@@ -51,7 +47,7 @@ fn leaves_at(code: &[u16], f: usize) -> usize
         return 0;
     }
     let i = code::ins_at(code, f);
-    refusals::least(i.a as usize, n)
+    usize::from(i.a).min(n)
 }
 
 // Where the loop of the GetIter at g ends, else 0.
@@ -71,10 +67,8 @@ fn add_over(out: &mut [u32], a: usize, b: usize, m: usize)
     requires { CanGrow m a b out.old }
     ensures { Added m a b out.old out.new }
 {
-    let mut p = a;
-    while p < b {
+    for p in a..b {
         out[p] += 1;
-        p += 1;
     }
 }
 
@@ -84,11 +78,9 @@ fn count_loops(code: &[u16], out: &mut [u32])
     ensures { Counted code.now out.old out.new }
 {
     let n = code.len() / 6;
-    let mut g = 0;
-    while g < n {
+    for g in 0..n {
         let e = end_of(code, g);
         add_over(out, g + 1, e, n + 1);
-        g += 1;
     }
 }
 

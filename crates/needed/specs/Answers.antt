@@ -4,8 +4,8 @@ use Rattle.code.specs.Ins.{count}
 use Rattle.refusals.specs.Stages.{and_then, registers_of}
 use Rattle.code.specs.Check.{check_of}
 use Rattle.refusals.specs.declared.Answer.{Answer}
-use Rattle.refusals.specs.declared.Checked.{Checked}
-use Rattle.refusals.specs.declared.Checked.TheVariants.{Count, No}
+use Rattle.refusals.specs.Stages.{Checked}
+use Rattle.std.specs.declared.result.Result.TheVariants.{Ok, Err}
 use Rattle.refusals.specs.declared.Refusal.TheVariants.{Position}
 use Rattle.unread.specs.Answers.{room_both, Tells}
 use Rattle.steps.specs.Code.{flow}
@@ -13,7 +13,7 @@ use Rattle.needed.specs.Path.{Needs}
 
 -- 6: position beyond n
 abbrev pub upto_of : Checked → ℕ → Checked
-upto_of v k = and_then v (λ n. cond (ltb n k) (No (Position k)) (Count n))
+upto_of v k = and_then v (λ n. cond (ltb n k) (Err (Position k)) (Ok n))
 
 -- 1, 2, 3, 6, 5
 abbrev pub NeededTold : List ℕ → ℕ → ℕ → ℕ → List ℕ → List ℕ → Answer → List ℕ → List ℕ → Type 0

@@ -5,10 +5,11 @@ ghost use Rattle.std.specs.Prelude.{◌≡◌, ◌+◌, ◌/◌, ◌≤◌, leng
 ghost use Rattle.steps.specs.Code.{flow};
 ghost use Rattle.needed.specs.Path.{Needs};
 ghost use Rattle.needed.specs.Answers.{upto_of, NeededTold};
+ghost use Rattle.refusals.specs.Answers.{answered};
 ghost use Rattle.paths.specs.Search.{SearchSettles};
 ghost use Rattle.seek.specs.Inner.{AskedRoom};
 
-use refusals::{Answer, Checked, Refusal};
+use refusals::{Answer, Refusal};
 
 // Whether register r is needed at a position, n allowed: refusals 1, 2, 3, 6, 5.
 pub fn needed(
@@ -18,30 +19,25 @@ pub fn needed(
     r: u16,
     seen: &mut [u8],
     todo: &mut [u32],
-) -> Answer
-    ensures { NeededTold code.now regs at r seen.old todo.old result seen.new todo.new }
+) -> Result<Answer, Refusal>
+    ensures { NeededTold code.now regs at r seen.old todo.old (answered result) seen.new todo.new }
 {
     let m = code.len() / 6 + 1;
     let v = up_to(refusals::registers(code::check(code), regs), at);
-    match refusals::room(refusals::room(v, 1, seen.len(), m), 2, todo.len(), m) {
-        Checked::No(q) => refusals::refused(q),
-        Checked::Count(_) => refusals::tell(asks(code, regs, at, r, seen, todo) as u64, 0, 0, 0),
-    }
+    let marks = refusals::room(v, 1, seen.len(), m);
+    refusals::room(marks, 2, todo.len(), m)?;
+    Ok(refusals::tell(u64::from(asks(code, regs, at, r, seen, todo)), 0, 0, 0))
 }
 
 // Refusal 6 for a position beyond n.
-fn up_to(v: Checked, at: usize) -> Checked
+fn up_to(v: Result<usize, Refusal>, at: usize) -> Result<usize, Refusal>
     ensures { result ≡ upto_of v at }
 {
-    match v {
-        Checked::No(r) => Checked::No(r),
-        Checked::Count(n) => {
-            if n < at {
-                return Checked::No(Refusal::Position(at));
-            }
-            Checked::Count(n)
-        }
+    let n = v?;
+    if n < at {
+        return Err(Refusal::Position(at));
     }
+    Ok(n)
 }
 
 // The same in accepted code.
@@ -50,11 +46,10 @@ fn asks(code: &[u16], regs: usize, k: usize, r: u16, seen: &mut [u8], todo: &mut
     ensures { SearchSettles (Needs (flow regs code.now) r k) (length code.now / 6 + 1) seen.old todo.old result
         seen.new todo.new }
 {
-    let roles = roles::table();
     let words = code.len() / 6 + 1;
     sections::clear_marks(seen, words);
-    let found = seek::search(&roles, code, r, k, seen, todo);
+    let found = seek::search(code, r, k, seen, todo);
     sections::clear_marks(seen, words);
     sections::clear_words(todo, words);
-    found & ((r as usize) < regs)
+    found & (usize::from(r) < regs)
 }

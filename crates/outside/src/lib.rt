@@ -9,36 +9,38 @@ use code::Ins;
 use ops::*;
 
 // Whether i makes a function.
+#[tactic(auto, unfolding(crate::specs::Outside::makes))]
 fn makes(i: Ins) -> bool
     ensures { result ≡ makes i }
 {
-    (i.op == MakeFunction) | (i.op == MakeCoroutine)
+    matches!(i.op, MakeFunction | MakeCoroutine)
 }
 
 // Whether some instruction makes a function.
+#[tactic(auto, using(laws::proofs::Some::somewhere, sections::proofs::There::tested_there), unfolding(crate::specs::Outside::made))]
 pub fn any_makes(code: &[u16]) -> bool
     requires { Whole code.now }
     ensures { result ≡ made code.now }
 {
     let n = code.len() / 6;
-    let mut k = 0;
-    while k < n {
+    for k in 0..n {
         if makes(code::ins_at(code, k)) {
             return true;
         }
-        k += 1;
     }
     false
 }
 
 // Whether i opens a `try` or a `with`.
+#[tactic(auto, unfolding(crate::specs::Outside::opens))]
 fn opens(i: Ins) -> bool
     ensures { result ≡ opens i }
 {
-    (i.op == SetupExcept) | (i.op == SetupFinally)
+    matches!(i.op, SetupExcept | SetupFinally)
 }
 
 // Whether i closes a `try` or a `with`.
+#[tactic(auto, unfolding(crate::specs::Outside::closes))]
 fn closes(i: Ins) -> bool
     ensures { result ≡ closes i }
 {
@@ -46,10 +48,11 @@ fn closes(i: Ins) -> bool
 }
 
 // Whether i returns.
+#[tactic(auto, unfolding(crate::specs::Outside::returns_from))]
 fn leaves(i: Ins) -> bool
     ensures { result ≡ returns_from i }
 {
-    (i.op == ReturnR) | (i.op == ReturnValue)
+    matches!(i.op, ReturnR | ReturnValue)
 }
 
 // `returns_outside`, with what is opened and what is closed counted apart: the Rust's depth goes below 0.
@@ -60,17 +63,15 @@ pub fn returns_outside(code: &[u16]) -> bool
     let n = code.len() / 6;
     let mut opened: usize = 0;
     let mut closed: usize = 0;
-    let mut k = 0;
-    while k < n {
+    for k in 0..n {
         let i = code::ins_at(code, k);
         let leaves = leaves(i);
         let pushed = sections::returns_at(code, k);
         if (opened != closed) & (leaves | pushed) {
             return false;
         }
-        opened += opens(i) as usize;
-        closed += closes(i) as usize;
-        k += 1;
+        opened += usize::from(opens(i));
+        closed += usize::from(closes(i));
     }
     true
 }

@@ -5,14 +5,8 @@ ghost use Rattle.std.specs.Prelude.{◌≡◌, ◌+◌, ◌<◌, length};
 ghost use mir.Val.{bool_byte};
 ghost use Rattle.paths.specs.Inner.{pushed};
 
-// A waiting position.
-pub fn wide(x: u32) -> usize
-    ensures { result ≡ x }
-{
-    x as usize
-}
-
 // The waiting stack's height with `at` on it, where `yes`.
+#[tactic(auto, unfolding(crate::specs::Inner::pushed))]
 fn push(todo: &mut [u32], top: usize, at: u32, yes: bool) -> usize
     requires { top < length todo.old }
     ensures { (result ≡ top + bool_byte yes) × (todo.new ≡ pushed todo.old top at yes) }

@@ -4,17 +4,17 @@
 ghost use Rattle.std.specs.Prelude.{◌≡◌, ℕ, ◌+◌, ◌/◌, ◌<◌, length, get_or};
 ghost use mir.Val.{bool_byte};
 ghost use Rattle.roles.specs.Kinds.{is_jump};
-ghost use Rattle.roles.specs.Roles.{role_table};
 ghost use Rattle.paths.specs.Inner.{pushed, Searched};
 ghost use Rattle.phi_paths.specs.Read.{phi_reads, stops, goes_on, Read};
 ghost use Rattle.phi_paths.specs.Inner.{PhiRoom};
 
 use code::Ins;
 use ops::*;
+use roles::Roles;
 
 // Whether i reads r.
-fn reads(roles: &[u8; 1280], i: Ins, r: u16) -> bool
-    requires { roles.now ≡ role_table }
+#[tactic(auto, unfolding(crate::specs::Read::phi_reads))]
+fn reads(roles: &Roles, i: Ins, r: u16) -> bool
     ensures { result ≡ phi_reads i r }
 {
     let k = roles::kinds_in(roles, i);
@@ -28,8 +28,8 @@ fn reads(roles: &[u8; 1280], i: Ins, r: u16) -> bool
 }
 
 // Whether a path stops at i: r is written, or the code is left.
-fn stops(roles: &[u8; 1280], i: Ins, r: u16) -> bool
-    requires { roles.now ≡ role_table }
+#[tactic(auto, unfolding(crate::specs::Read::stops, crate::specs::Read::phi_writes))]
+fn stops(roles: &Roles, i: Ins, r: u16) -> bool
     ensures { result ≡ stops i r }
 {
     let k = roles::kinds_in(roles, i);
@@ -43,25 +43,25 @@ fn stops(roles: &[u8; 1280], i: Ins, r: u16) -> bool
 }
 
 // The waiting stack's height with what comes after j on it, by its instruction.
-fn follow(roles: &[u8; 1280], todo: &mut [u32], top: usize, j: usize, i: Ins) -> usize
-    requires { (roles.now ≡ role_table) × (top + 1 < length todo.old) × (j < 65535) }
+fn follow(roles: &Roles, todo: &mut [u32], top: usize, j: usize, i: Ins) -> usize
+    requires { (top + 1 < length todo.old) × (j < 65535) }
     ensures { (result ≡ top + bool_byte (goes_on i) + bool_byte (is_jump i))
         × (todo.new ≡ pushed (pushed todo.old top (j + 1) (goes_on i)) (top + bool_byte (goes_on i)) i.a (is_jump i)) }
 {
     let to = roles::is_jump_in(roles, i);
-    paths::follow(todo, top, (j + 1) as u32, i.op != Jump, i.a as u32, to)
+    paths::follow(todo, top, (j + 1) as u32, i.op != Jump, u32::from(i.a), to)
 }
 
 // Whether a path from `start` reads r; no mark is set at entry.
 pub fn search(
-    roles: &[u8; 1280],
+    roles: &Roles,
     code: &[u16],
     r: u16,
     start: u32,
     seen: &mut [u8],
     todo: &mut [u32],
 ) -> bool
-    requires { (roles.now ≡ role_table) × PhiRoom code.now seen.old todo.old × ((j : ℕ) → j < length code.now / 6 → get_or seen.old j 0 ≡ 0) }
+    requires { PhiRoom code.now seen.old todo.old × ((j : ℕ) → j < length code.now / 6 → get_or seen.old j 0 ≡ 0) }
     ensures { Searched (Read code.now r start) (length code.now / 6)
         seen.old todo.old result seen.new todo.new }
 {
@@ -70,7 +70,7 @@ pub fn search(
     let mut top = 1;
     while 0 < top {
         top -= 1;
-        let j = paths::wide(todo[top]);
+        let j = todo[top] as usize;
         if n <= j {
             continue;
         }

@@ -1,4 +1,4 @@
--- Laws of the tests that follow the first: each says what a Count has passed. Assumes nothing.
+-- Laws of the tests that follow the first: each says what a Ok has passed. Assumes nothing.
 use mathlib.Core.Path.{◌≡◌, refl, sym}
 use mathlib.Core.Bool.{Bool, true, false, cond}
 use mathlib.Core.List.{List}
@@ -8,63 +8,63 @@ use lib.Dec.{ltb}
 use borrow.Author.Tests.{ltb-true, ltb-false}
 use Rattle.refusals.specs.Stages.{and_then, pairs, first_bad_try, registers_of, tried_of, inside_of, room_of}
 use Rattle.refusals.specs.declared.Refusal.{Refusal}
-use Rattle.refusals.specs.declared.Checked.{Checked}
-use Rattle.refusals.specs.declared.Checked.TheVariants.{Count, No}
+use Rattle.refusals.specs.Stages.{Checked}
+use Rattle.std.specs.declared.result.Result.TheVariants.{Ok, Err}
 
 -- a refusal is no count
-never : {A : Type 0} (n : ℕ) (r : Refusal) → Count n ≡ No r → A
+never : {A : Type 0} (n : ℕ) (r : Refusal) → ◌≡◌ {A = Checked} (Ok n) (Err r) → A
 never n r e = let z : ◌≡◌ {A = ℕ} 0 1 = cc in absurd (omega arith)
 
 -- a test that refuses where it is true has been false, and one that refuses where it is false has been true
-kept : (b : Bool) (n m : ℕ) (r : Refusal) → Count n ≡ cond b (No r) (Count m) → (b ≡ false) × (Count n ≡ Count m)
+kept : (b : Bool) (n m : ℕ) (r : Refusal) → ◌≡◌ {A = Checked} (Ok n) (cond b (Err r) (Ok m)) → (b ≡ false) × (◌≡◌ {A = Checked} (Ok n) (Ok m))
 kept true n m r e = never n r e
 kept false n m r e = (refl, e)
 
-met : (b : Bool) (n m : ℕ) (r : Refusal) → Count n ≡ cond b (Count m) (No r) → (b ≡ true) × (Count n ≡ Count m)
+met : (b : Bool) (n m : ℕ) (r : Refusal) → ◌≡◌ {A = Checked} (Ok n) (cond b (Ok m) (Err r)) → (b ≡ true) × (◌≡◌ {A = Checked} (Ok n) (Ok m))
 met true n m r e = (refl, e)
 met false n m r e = never n r e
 
 module _ (n : ℕ) where
-  pub regs_before : (v : Checked) (regs : ℕ) → Count n ≡ registers_of v regs → v ≡ Count n
-  regs_before (No r) regs e = never n r e
-  regs_before (Count m) regs e = sym (kept (ltb 1024 regs) n m _ e).1
+  pub regs_before : (v : Checked) (regs : ℕ) → Ok n ≡ registers_of v regs → v ≡ Ok n
+  regs_before (Err r) regs e = never n r e
+  regs_before (Ok m) regs e = sym (kept (ltb 1024 regs) n m _ e).1
 
-  pub regs_few : (v : Checked) (regs : ℕ) → Count n ≡ registers_of v regs → regs ≤ 1024
-  regs_few (No r) regs e = never n r e
-  regs_few (Count m) regs e = ltb-false _ _ (kept (ltb 1024 regs) n m _ e).0
+  pub regs_few : (v : Checked) (regs : ℕ) → Ok n ≡ registers_of v regs → regs ≤ 1024
+  regs_few (Err r) regs e = never n r e
+  regs_few (Ok m) regs e = ltb-false _ _ (kept (ltb 1024 regs) n m _ e).0
 
-  pub tries_before : (v : Checked) (t : List ℕ) → Count n ≡ tried_of v t → v ≡ Count n
-  tries_before (No r) t e = never n r e
-  tries_before (Count m) t e = sym (kept (ltb (first_bad_try t m) (pairs t)) n m _ e).1
+  pub tries_before : (v : Checked) (t : List ℕ) → Ok n ≡ tried_of v t → v ≡ Ok n
+  tries_before (Err r) t e = never n r e
+  tries_before (Ok m) t e = sym (kept (ltb (first_bad_try t m) (pairs t)) n m _ e).1
 
-  pub at_before : (v : Checked) (k : ℕ) → Count n ≡ inside_of v k → v ≡ Count n
-  at_before (No r) k e = never n r e
-  at_before (Count m) k e = sym (met (ltb k m) n m _ e).1
+  pub at_before : (v : Checked) (k : ℕ) → Ok n ≡ inside_of v k → v ≡ Ok n
+  at_before (Err r) k e = never n r e
+  at_before (Ok m) k e = sym (met (ltb k m) n m _ e).1
 
-  pub at_inside : (v : Checked) (k : ℕ) → Count n ≡ inside_of v k → k < n
-  at_inside (No r) k e = never n r e
-  at_inside (Count m) k e =
+  pub at_inside : (v : Checked) (k : ℕ) → Ok n ≡ inside_of v k → k < n
+  at_inside (Err r) k e = never n r e
+  at_inside (Ok m) k e =
       let q = met (ltb k m) n m _ e in
       let s : n ≡ m = same m q.1 in
       rw s (ltb-true _ _ q.0)
     where
-      same : (m : ℕ) → Count n ≡ Count m → n ≡ m
+      same : (m : ℕ) → ◌≡◌ {A = Checked} (Ok n) (Ok m) → n ≡ m
       same m e = cc
 
-  pub room_before : (v : Checked) (b have needed : ℕ) → Count n ≡ room_of v b have needed → v ≡ Count n
-  room_before (No r) b have needed e = never n r e
-  room_before (Count m) b have needed e = sym (kept (ltb have needed) n m _ e).1
+  pub room_before : (v : Checked) (b have needed : ℕ) → Ok n ≡ room_of v b have needed → v ≡ Ok n
+  room_before (Err r) b have needed e = never n r e
+  room_before (Ok m) b have needed e = sym (kept (ltb have needed) n m _ e).1
 
-  pub room_there : (v : Checked) (b have needed : ℕ) → Count n ≡ room_of v b have needed → needed ≤ have
-  room_there (No r) b have needed e = never n r e
-  room_there (Count m) b have needed e = ltb-false _ _ (kept (ltb have needed) n m _ e).0
+  pub room_there : (v : Checked) (b have needed : ℕ) → Ok n ≡ room_of v b have needed → needed ≤ have
+  room_there (Err r) b have needed e = never n r e
+  room_there (Ok m) b have needed e = ltb-false _ _ (kept (ltb have needed) n m _ e).0
 
 -- the test's own code: a refusal is passed on, a count is tested
 module _ (v : Checked) (f : ℕ → Checked) where
-  pub passed_on : (r : Refusal) → v ≡ No r → No r ≡ and_then v f
+  pub passed_on : (r : Refusal) → v ≡ Err r → Err r ≡ and_then v f
   passed_on r e = rw e
 
-  pub tested : (n : ℕ) (t : Checked) → v ≡ Count n → t ≡ f n → t ≡ and_then v f
+  pub tested : (n : ℕ) (t : Checked) → v ≡ Ok n → t ≡ f n → t ≡ and_then v f
   tested n t e h = rw e h
 
 pub ruleset stage = (passed_on, tested)

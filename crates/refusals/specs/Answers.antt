@@ -1,8 +1,9 @@
 -- What a public call answers, and refusals by the numbers of document 01. Assumes nothing.
 use Rattle.std.specs.Prelude.{ℕ}
 use Rattle.refusals.specs.declared.Answer.{Answer}
-use Rattle.refusals.specs.declared.Checked.{Checked}
-use Rattle.refusals.specs.declared.Checked.TheVariants.{Count, No}
+use Rattle.refusals.specs.Stages.{Checked}
+use Rattle.std.specs.declared.result.Result.{Result}
+use Rattle.std.specs.declared.result.Result.TheVariants.{Ok, Err}
 use Rattle.refusals.specs.declared.Refusal.{Refusal}
 use Rattle.refusals.specs.declared.Refusal.TheVariants.{Length, Record, Registers, Try, Short, Position, Table}
 
@@ -10,8 +11,8 @@ use Rattle.refusals.specs.declared.Refusal.TheVariants.{Length, Record, Register
 module _ {A : Type 0} where
   -- what the tests found: a refusal goes to `refuse`, and without one the value is the answer
   abbrev pub asked : Checked → (Refusal → A) → A → A
-  asked (No r) refuse value = refuse r
-  asked (Count n) refuse value = value
+  asked (Err r) refuse value = refuse r
+  asked (Ok n) refuse value = value
 
 -- 0 and four values
 abbrev pub answer_of : ℕ → ℕ → ℕ → ℕ → Answer
@@ -30,3 +31,8 @@ refused_of (Try i) = refusal_of 4 i 0
 refused_of (Short b n) = refusal_of 5 b n
 refused_of (Position k) = refusal_of 6 k 0
 refused_of (Table t) = refusal_of 7 t 0
+
+-- what a call tells, or its refusal
+abbrev pub answered : Result Answer Refusal → Answer
+answered (Ok a) = a
+answered (Err r) = refused_of r

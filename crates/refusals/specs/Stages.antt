@@ -2,17 +2,22 @@
 use Rattle.std.specs.Prelude.{ℕ, ◌+◌, ◌*◌, ◌/◌, min, Bool, cond, not, ◌&&◌, List, leb, ltb, get_or, length}
 use Rattle.laws.specs.Walk.{first}
 use Rattle.refusals.specs.declared.Refusal.TheVariants.{Registers, Try, Short, Position}
-use Rattle.refusals.specs.declared.Checked.{Checked}
-use Rattle.refusals.specs.declared.Checked.TheVariants.{Count, No}
+use Rattle.refusals.specs.declared.Refusal.{Refusal}
+use Rattle.std.specs.declared.result.Result.{Result}
+use Rattle.std.specs.declared.result.Result.TheVariants.{Ok, Err}
+
+-- what the tests of a call's input find: how many instructions there are, or the refusal
+abbrev pub Checked : Type 0
+Checked = Result ℕ Refusal
 
 -- a later test, of n instructions
 abbrev pub and_then : Checked → (ℕ → Checked) → Checked
-and_then (No r) test = No r
-and_then (Count n) test = test n
+and_then (Err r) test = Err r
+and_then (Ok n) test = test n
 
 -- 3: registers above 1,024
 abbrev pub registers_of : Checked → ℕ → Checked
-registers_of v regs = and_then v (λ n. cond (ltb 1024 regs) (No (Registers regs)) (Count n))
+registers_of v regs = and_then v (λ n. cond (ltb 1024 regs) (Err (Registers regs)) (Ok n))
 
 -- the pairs, an odd last word counted as one
 abbrev pub pairs : List ℕ → ℕ
@@ -28,12 +33,12 @@ first_bad_try t n = first (λ i. not (try_kept t n i)) 0 (pairs t)
 
 -- 4: a try breaks its rule
 abbrev pub tried_of : Checked → List ℕ → Checked
-tried_of v t = and_then v (λ n. cond (ltb (first_bad_try t n) (pairs t)) (No (Try (first_bad_try t n))) (Count n))
+tried_of v t = and_then v (λ n. cond (ltb (first_bad_try t n) (pairs t)) (Err (Try (first_bad_try t n))) (Ok n))
 
 -- 6: position at n or beyond
 abbrev pub inside_of : Checked → ℕ → Checked
-inside_of v k = and_then v (λ n. cond (ltb k n) (Count n) (No (Position k)))
+inside_of v k = and_then v (λ n. cond (ltb k n) (Ok n) (Err (Position k)))
 
 -- 5: a lent buffer is too short
 abbrev pub room_of : Checked → ℕ → ℕ → ℕ → Checked
-room_of v b have needed = and_then v (λ n. cond (ltb have needed) (No (Short b needed)) (Count n))
+room_of v b have needed = and_then v (λ n. cond (ltb have needed) (Err (Short b needed)) (Ok n))

@@ -3,7 +3,7 @@
 
 ghost use Rattle.std.specs.Prelude.{◌≡◌, not, ◌*◌, ◌<◌, min, length};
 ghost use Rattle.refusals.specs.Stages.{try_kept, first_bad_try, registers_of, tried_of, inside_of, room_of};
-ghost use Rattle.refusals.specs.Answers.{refusal_of, refused_of, answer_of};
+ghost use Rattle.refusals.specs.Answers.{refusal_of, refused_of, answered, answer_of};
 
 // Why a call is refused, with what is returned beside the number.
 #[derive(Clone, Copy)]
@@ -15,13 +15,6 @@ pub enum Refusal {
     Short { buffer: u8, needed: usize },
     Position(usize),
     Table(u8),
-}
-
-// What the tests of a call's input find: how many instructions there are, or the refusal.
-#[derive(Clone, Copy)]
-pub enum Checked {
-    Count(usize),
-    No(Refusal),
 }
 
 // What an exported call answers: 0 and its values, or a refusal's number and what it also returns.
@@ -36,35 +29,25 @@ pub struct Answer {
 }
 
 // Refusal 3.
-pub fn registers(v: Checked, regs: usize) -> Checked
+pub fn registers(v: Result<usize, Refusal>, regs: usize) -> Result<usize, Refusal>
     ensures { result ≡ registers_of v regs }
 {
-    match v {
-        Checked::No(r) => Checked::No(r),
-        Checked::Count(n) => {
-            if 1024 < regs {
-                return Checked::No(Refusal::Registers(regs));
-            }
-            Checked::Count(n)
-        }
+    let n = v?;
+    if 1024 < regs {
+        return Err(Refusal::Registers(regs));
     }
-}
-
-// A word as a number.
-fn wide_of(x: u32) -> usize
-    ensures { result ≡ x }
-{
-    x as usize
+    Ok(n)
 }
 
 // The smaller number.
 pub fn least(a: usize, b: usize) -> usize
     ensures { result ≡ min a b }
 {
-    if a < b { a } else { b }
+    a.min(b)
 }
 
 // Whether pair i of the tries breaks its rule.
+#[tactic(auto, unfolding(crate::specs::Stages::try_kept))]
 fn breaks_try(tries: &[u32], n: usize, i: usize) -> bool
     requires { 2 * i < length tries.now }
     ensures { result ≡ not (try_kept tries.now n i) }
@@ -73,69 +56,61 @@ fn breaks_try(tries: &[u32], n: usize, i: usize) -> bool
     if tries.len() <= at + 1 {
         return true;
     }
-    let kept = wide_of(tries[at]) <= least(wide_of(tries[at + 1]), n);
+    let kept = tries[at] as usize <= n.min(tries[at + 1] as usize);
     !kept
 }
 
 // The first pair that breaks its rule, else how many there are.
+#[tactic(auto, using(laws::proofs::Walk::finds), unfolding(crate::specs::Stages::first_bad_try))]
 fn first_bad_try(tries: &[u32], n: usize) -> usize
     ensures { result ≡ first_bad_try tries.now n }
 {
     let m = (tries.len() + 1) / 2;
-    let mut i = 0;
-    while i < m {
+    for i in 0..m {
         if breaks_try(tries, n, i) {
             return i;
         }
-        i += 1;
     }
-    i
+    m
 }
 
 // Refusal 4.
-pub fn tried(v: Checked, tries: &[u32]) -> Checked
+pub fn tried(v: Result<usize, Refusal>, tries: &[u32]) -> Result<usize, Refusal>
     ensures { result ≡ tried_of v tries.now }
 {
-    match v {
-        Checked::No(r) => Checked::No(r),
-        Checked::Count(n) => {
-            let i = first_bad_try(tries, n);
-            if i < (tries.len() + 1) / 2 {
-                return Checked::No(Refusal::Try(i));
-            }
-            Checked::Count(n)
-        }
+    let n = v?;
+    let i = first_bad_try(tries, n);
+    if i < (tries.len() + 1) / 2 {
+        return Err(Refusal::Try(i));
     }
+    Ok(n)
 }
 
 // Refusal 6.
-pub fn inside(v: Checked, at: usize) -> Checked
+pub fn inside(v: Result<usize, Refusal>, at: usize) -> Result<usize, Refusal>
     ensures { result ≡ inside_of v at }
 {
-    match v {
-        Checked::No(r) => Checked::No(r),
-        Checked::Count(n) => {
-            if at < n {
-                return Checked::Count(n);
-            }
-            Checked::No(Refusal::Position(at))
-        }
+    let n = v?;
+    if at < n {
+        return Ok(n);
     }
+    Err(Refusal::Position(at))
 }
 
 // Refusal 5 for one buffer.
-pub fn room(v: Checked, buffer: u8, have: usize, needed: usize) -> Checked
+pub fn room(
+    v: Result<usize, Refusal>,
+    buffer: u8,
+    have: usize,
+    needed: usize,
+) -> Result<usize, Refusal>
     ensures { result ≡ room_of v buffer have needed }
 {
-    match v {
-        Checked::No(r) => Checked::No(r),
-        Checked::Count(n) => {
-            if have < needed {
-                return Checked::No(Refusal::Short { buffer, needed });
-            }
-            Checked::Count(n)
-        }
+    let n = v?;
+    if have < needed {
+        return Err(Refusal::Short { buffer, needed });
     }
+    Ok(n)
 }
 
 // An answer's four values.
@@ -152,7 +127,7 @@ pub fn tell(first: u64, second: u64, third: u64, fourth: u64) -> Answer
 }
 
 // A number and two values.
-fn refuse(refusal: u8, first: u64, second: u64) -> Answer
+pub fn refuse(refusal: u8, first: u64, second: u64) -> Answer
     ensures { result ≡ refusal_of refusal first second }
 {
     Answer {
@@ -164,17 +139,31 @@ fn refuse(refusal: u8, first: u64, second: u64) -> Answer
     }
 }
 
-// A refusal by document 01's number and values.
-pub fn refused(r: Refusal) -> Answer
-    ensures { result ≡ refused_of r }
-{
-    match r {
-        Refusal::Length(n) => refuse(1, n as u64, 0),
-        Refusal::Record(k) => refuse(2, k as u64, 0),
-        Refusal::Registers(n) => refuse(3, n as u64, 0),
-        Refusal::Try(k) => refuse(4, k as u64, 0),
-        Refusal::Short { buffer, needed } => refuse(5, buffer as u64, needed as u64),
-        Refusal::Position(k) => refuse(6, k as u64, 0),
-        Refusal::Table(t) => refuse(7, t as u64, 0),
+// A refusal by its number and values.
+impl From<Refusal> for Answer {
+    ghost from_gives = { λ r a. a ≡ refused_of r };
+
+    fn from(r: Refusal) -> Answer {
+        match r {
+            Refusal::Length(n) => refuse(1, n as u64, 0),
+            Refusal::Record(k) => refuse(2, k as u64, 0),
+            Refusal::Registers(n) => refuse(3, n as u64, 0),
+            Refusal::Try(k) => refuse(4, k as u64, 0),
+            Refusal::Short { buffer, needed } => refuse(5, buffer as u64, needed as u64),
+            Refusal::Position(k) => refuse(6, k as u64, 0),
+            Refusal::Table(t) => refuse(7, t as u64, 0),
+        }
+    }
+}
+
+// What a call tells, or its refusal.
+impl From<Result<Answer, Refusal>> for Answer {
+    ghost from_gives = { λ v a. a ≡ answered v };
+
+    fn from(v: Result<Answer, Refusal>) -> Answer {
+        match v {
+            Ok(a) => a,
+            Err(r) => Answer::from(r),
+        }
     }
 }

@@ -4,37 +4,25 @@
 ghost use Rattle.std.specs.Prelude.{◌≡◌, ℕ, ◌+◌, ◌/◌, ◌<◌, ◌≤◌, length, get_or};
 ghost use mir.Val.{bool_byte};
 ghost use Rattle.laws.specs.Page.{among};
-ghost use Rattle.roles.specs.Roles.{role_table};
-ghost use Rattle.steps.specs.Step.{named};
 ghost use Rattle.steps.specs.Inner.{used_of, given_of};
 ghost use Rattle.paths.specs.Inner.{pushed, Searched};
 ghost use Rattle.seek.specs.Inner.{on_to, over_to, Asked, AskedRoom};
 
 use steps::Step;
 
-// Whether r stands in a field that a mask names.
-fn names(mask: u8, a: u16, b: u16, c: u16, r: u16) -> bool
-    ensures { result ≡ among r (named mask a b c) }
-{
-    (mask / 2 % 2 == 1) & (r == a) | (mask / 4 % 2 == 1) & (r == b) | (mask / 8 % 2 == 1) & (r == c)
-}
-
 // Whether a step uses r.
 fn uses(s: Step, r: u16) -> bool
     ensures { result ≡ among r (used_of s) }
 {
-    names(s.used, s.a, s.b, s.c, r)
+    touch::names(s.used, s.a, s.b, s.c, r)
 }
 
 // Whether a step gives r up.
+#[tactic(auto, using(touch::proofs::Written::among_append))]
 fn gives(s: Step, r: u16) -> bool
     ensures { result ≡ among r (given_of s) }
 {
-    let named = names(s.given, s.a, s.b, s.c, r);
-    let b = s.b as usize;
-    let run = s.run as usize;
-    let at = r as usize;
-    named | (b <= at) & (at < b + run)
+    touch::names(s.given, s.a, s.b, s.c, r) | touch::in_run(s.b, s.run, r)
 }
 
 // The waiting stack's height with the instructions on it that come after j, by its step.
@@ -56,16 +44,8 @@ fn follow(todo: &mut [u32], top: usize, j: usize, s: Step, n: usize) -> usize
 }
 
 // Whether a path from `start` uses r before it gives it up; no mark is set at entry. Only positions of the code wait, and each is looked at once at most.
-pub fn search(
-    roles: &[u8; 1280],
-    code: &[u16],
-    r: u16,
-    start: usize,
-    seen: &mut [u8],
-    todo: &mut [u32],
-) -> bool
-    requires { (roles.now ≡ role_table)
-        × AskedRoom code.now seen.old todo.old
+pub fn search(code: &[u16], r: u16, start: usize, seen: &mut [u8], todo: &mut [u32]) -> bool
+    requires { AskedRoom code.now seen.old todo.old
         × ((j : ℕ) → j < length code.now / 6 → get_or seen.old j 0 ≡ 0) }
     ensures { Searched (Asked code.now r start) (length code.now / 6)
         seen.old todo.old result seen.new todo.new }
@@ -78,12 +58,12 @@ pub fn search(
     let mut top = 1;
     while 0 < top {
         top -= 1;
-        let j = paths::wide(todo[top]);
+        let j = todo[top] as usize;
         if seen[j] != 0 {
             continue;
         }
         seen[j] = 1;
-        let s = steps::step_in(roles, code, n, j);
+        let s = steps::step_of(code, n, j);
         if uses(s, r) {
             return true;
         }

@@ -2,45 +2,46 @@
 #![tactic(auto)]
 
 ghost use Rattle.std.specs.Prelude.{◌≡◌, ◌<◌, length};
+ghost use Rattle.refusals.specs.Answers.{answered};
 ghost use Rattle.code.specs.Inner.{Whole};
 ghost use Rattle.shapes.specs.Shape.{flat_here, flat_at, flat as flat_all, guards, guarded as guarded_any};
 ghost use Rattle.shapes.specs.Answers.{flat_answer, guarded_answer};
 
 use code::Ins;
 use ops::*;
-use refusals::{Answer, Checked};
+use refusals::{Answer, Refusal};
 
 // `flat`: refusals 1, 2.
-pub fn flat(code: &[u16]) -> Answer
-    ensures { result ≡ flat_answer code.now }
+#[tactic(auto, using(refusals::proofs::Answers::telling), unfolding(crate::specs::Answers::flat_answer))]
+pub fn flat(code: &[u16]) -> Result<Answer, Refusal>
+    ensures { answered result ≡ flat_answer code.now }
 {
-    match code::check(code) {
-        Checked::No(r) => refusals::refused(r),
-        Checked::Count(_) => refusals::tell(all_flat(code) as u64, 0, 0, 0),
-    }
+    code::check(code)?;
+    Ok(refusals::tell(all_flat(code).into(), 0, 0, 0))
 }
 
 // `guarded`: refusals 1, 2.
-pub fn guarded(code: &[u16]) -> Answer
-    ensures { result ≡ guarded_answer code.now }
+#[tactic(auto, using(refusals::proofs::Answers::telling), unfolding(crate::specs::Answers::guarded_answer))]
+pub fn guarded(code: &[u16]) -> Result<Answer, Refusal>
+    ensures { answered result ≡ guarded_answer code.now }
 {
-    match code::check(code) {
-        Checked::No(r) => refusals::refused(r),
-        Checked::Count(_) => refusals::tell(any_guards(code) as u64, 0, 0, 0),
-    }
+    code::check(code)?;
+    Ok(refusals::tell(any_guards(code).into(), 0, 0, 0))
 }
 
 // Whether nothing of i stays on the stack, but for the value that a PushRegs hands the Raise right after it.
+#[tactic(auto, unfolding(crate::specs::Shape::flat_here))]
 fn flat_here(i: Ins, next: Ins) -> bool
     ensures { result ≡ flat_here i next }
 {
     let o = i.op;
     let push = o == PushRegs;
     let register = i.marks / 4 % 2 == 1;
-    push & (next.op == Raise) | !push & ((o == Jump) | (o == Raise) | register)
+    push & (next.op == Raise) | !push & (matches!(o, Jump | Raise) | register)
 }
 
 // Whether the instruction at k leaves nothing on the stack, but for the value that a Raise right after it takes.
+#[tactic(auto, unfolding(crate::specs::Shape::flat_at))]
 fn flat_at(code: &[u16], k: usize) -> bool
     requires { Whole code.now × (k < length code.now) }
     ensures { result ≡ flat_at code.now k }
@@ -49,41 +50,39 @@ fn flat_at(code: &[u16], k: usize) -> bool
 }
 
 // `flat` in accepted code.
+#[tactic(auto, using(laws::proofs::Every::all), unfolding(crate::specs::Shape::flat))]
 fn all_flat(code: &[u16]) -> bool
     requires { Whole code.now }
     ensures { result ≡ flat_all code.now }
 {
     let n = code.len() / 6;
-    let mut k = 0;
-    while k < n {
-        let fine = flat_at(code, k);
-        if !fine {
+    for k in 0..n {
+        if !flat_at(code, k) {
             return false;
         }
-        k += 1;
     }
     true
 }
 
 // Whether i begins a `try` or a `with`.
+#[tactic(auto, unfolding(crate::specs::Shape::guards))]
 fn guards(i: Ins) -> bool
     ensures { result ≡ guards i }
 {
-    (i.op == SetupExcept) | (i.op == SetupFinally) | (i.op == WithEnter)
+    matches!(i.op, SetupExcept | SetupFinally | WithEnter)
 }
 
 // `guarded` in accepted code.
+#[tactic(auto, using(laws::proofs::Some::somewhere, sections::proofs::There::tested_there), unfolding(crate::specs::Shape::guarded))]
 fn any_guards(code: &[u16]) -> bool
     requires { Whole code.now }
     ensures { result ≡ guarded_any code.now }
 {
     let n = code.len() / 6;
-    let mut k = 0;
-    while k < n {
+    for k in 0..n {
         if guards(code::ins_at(code, k)) {
             return true;
         }
-        k += 1;
     }
     false
 }

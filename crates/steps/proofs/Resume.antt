@@ -48,17 +48,18 @@ module _ (w : List ℕ) (k : ℕ) where
       result_else : (c : Bool) → b ≡ c → result_at w k ≡ cond c (cond (ltb (store_of w k) (count w)) (ins_at w (store_of w k)).a no_register) (ins_at w k).a
       result_else c h = result_by i.op op_is ∙ rw (ne_eqb i.op JumpIfFalseR t, ne_eqb i.op Call u, ← is, h)
 
-      pub goes_on : b ≡ false → Goes w k (k + 1) i.a
-      goes_on h = record { resumes = sym (resume_else false h); results = ap (λ (j : Ins). j.a) e ∙ sym (result_else false h) }
+      pub goes_on : b ≡ false → (r : ℕ) → r ≡ i.a → Goes w k (k + 1) r
+      goes_on h r f = record { resumes = sym (resume_else false h); results = f ∙ ap (λ (j : Ins). j.a) e ∙ sym (result_else false h) }
 
       module _ (s : ℕ) (at : s ≡ store_of w k) (h : b ≡ true) where
         pub goes_past : count w ≤ s → Goes w k s no_register
         goes_past l = record { resumes = at ∙ sym (resume_else true h); results = sym (result_else true h ∙ rw (← at, le-ltb s (count w) l)) }
 
-        pub goes_store : s < count w → (j : Ins) → j ≡ ins_at w s → Goes w k s j.a
-        goes_store l j q = record {
+        pub goes_store : s < count w → (j : Ins) → j ≡ ins_at w s → (r : ℕ) → r ≡ j.a → Goes w k s r
+        goes_store l j q r f = record {
           resumes = at ∙ sym (resume_else true h);
-          results = ap (λ (x : Ins). x.a) q
+          results = f
+              ∙ ap (λ (x : Ins). x.a) q
               ∙ sym (result_else true h ∙ rw (← at, lt-ltb s (count w) l));
         }
 

@@ -5,7 +5,6 @@ ghost use Rattle.std.specs.Prelude.{◌≡◌, ◌+◌, ◌-◌, ◌*◌, ◌/�
 ghost use Rattle.code.specs.Ins.{ins_at, count};
 ghost use Rattle.code.specs.Inner.{Whole, Valid};
 ghost use Rattle.roles.specs.Kinds.{kinds_of};
-ghost use Rattle.roles.specs.Roles.{role_table};
 ghost use Rattle.steps.specs.Level.{is_level, first_level};
 ghost use Rattle.steps.specs.Code.{store_of, over_pending, past_store, idle as idle_at};
 ghost use Rattle.steps.specs.Inner.{Goes, TouchesAt, goes_before, StepAt, calm_of, calm_step, turn_step, word_of};
@@ -39,32 +38,31 @@ pub struct Step {
 }
 
 // `level_at`.
+#[tactic(auto, unfolding(crate::specs::Level::is_level))]
 pub fn level_at(i: Ins) -> bool
     ensures { result ≡ is_level i }
 {
-    let o = i.op;
     let dunder = i.marks / 2 % 2 == 1;
-    let call = (o == CallGlobalR) | (o == CallR) | (o == CallMethodR) | (o == CallSpreadR);
-    call | (o == JumpIfFalseR) | (o == GetAttrR) | (o == Call) | dunder
+    code::is_call(i.op) | matches!(i.op, JumpIfFalseR | GetAttrR | Call) | dunder
 }
 
 // The first level, else how many instructions there are.
+#[tactic(auto, using(laws::proofs::Walk::finds), unfolding(crate::specs::Level::first_level))]
 pub fn first_level(code: &[u16]) -> usize
     requires { Whole code.now }
     ensures { result ≡ first_level code.now }
 {
     let n = code.len() / 6;
-    let mut k = 0;
-    while k < n {
+    for k in 0..n {
         if level_at(code::ins_at(code, k)) {
             return k;
         }
-        k += 1;
     }
-    k
+    n
 }
 
 // The place of a call's store.
+#[tactic(auto, using(crate::proofs::Follows::wide_store, crate::proofs::Follows::next_store))]
 pub fn store_of(code: &[u16], c: usize) -> usize
     requires { Whole code.now × (c < count code.now) }
     ensures { result ≡ store_of code.now c }
@@ -101,7 +99,7 @@ pub fn after(code: &[u16], k: usize) -> Onward
             let t = code::ins_at(code, s);
             return Onward {
                 at: s,
-                result: t.a as usize,
+                result: usize::from(t.a),
             };
         }
         return Onward {
@@ -111,11 +109,12 @@ pub fn after(code: &[u16], k: usize) -> Onward
     }
     Onward {
         at: k + 1,
-        result: i.a as usize,
+        result: usize::from(i.a),
     }
 }
 
 // Whether there is a call over a pending value at c.
+#[tactic(auto, using(crate::proofs::Follows::none_before, crate::proofs::Follows::no_call, crate::proofs::Follows::one_before))]
 fn over_pending(code: &[u16], c: usize) -> bool
     requires { Whole code.now }
     ensures { result ≡ over_pending code.now c }
@@ -132,6 +131,7 @@ fn over_pending(code: &[u16], c: usize) -> bool
 }
 
 // Whether k is right after the store of such a call at c.
+#[tactic(auto, using(crate::proofs::Follows::store_le, crate::proofs::Follows::past_is, crate::proofs::Follows::not_past))]
 fn past_store(code: &[u16], c: usize, k: usize) -> bool
     requires { Whole code.now × (c < count code.now) }
     ensures { result ≡ past_store code.now c k }
@@ -142,14 +142,8 @@ fn past_store(code: &[u16], c: usize, k: usize) -> bool
     false
 }
 
-// k - d, at least 0.
-fn less(k: usize, d: usize) -> usize
-    ensures { result ≡ k - d }
-{
-    if k < d { 0 } else { k - d }
-}
-
 // Whether the instruction at k, whose opcode is o, pushes or restores a pending value.
+#[tactic(auto, using(crate::proofs::Follows::pending))]
 fn idle(code: &[u16], k: usize, o: u16) -> bool
     requires { Whole code.now × (k < count code.now) × (o ≡ (ins_at code.now k).op) }
     ensures { result ≡ idle_at code.now k }
@@ -157,24 +151,20 @@ fn idle(code: &[u16], k: usize, o: u16) -> bool
     if o == PushRegs {
         return over_pending(code, k + 1);
     }
-    if (o == StoreTopR) | (o == PopTop) {
-        return past_store(code, less(k, 2), k) | past_store(code, less(k, 3), k);
+    if matches!(o, StoreTopR | PopTop) {
+        return past_store(code, k.saturating_sub(2), k) | past_store(code, k.saturating_sub(3), k);
     }
     false
 }
 
 // What the instruction i at k touches; where it pushes or restores a pending value, nothing.
+#[tactic(auto, using(crate::proofs::Touched::as_touched))]
 fn touch_at(code: &[u16], k: usize, i: Ins, kind: u8) -> Touch
     requires { Whole code.now × (k < count code.now) × (i ≡ ins_at code.now k) × (kind ≡ kinds_of i) }
     ensures { TouchesAt code.now k result }
 {
     if idle(code, k, i.op) {
-        return Touch {
-            used: 0,
-            given: 0,
-            written: 0,
-            run: 0,
-        };
+        return touch::NOTHING;
     }
     touch::touch_of(i, kind)
 }
@@ -240,18 +230,12 @@ fn word_of(o: u16) -> u64
     }
 }
 
-// The bits before the byte of an x: 4 and more have one byte.
-fn bits_before(x: u16) -> u64
-    ensures { result ≡ 8 * min x 4 }
-{
-    if x < 4 { 8 * (x as u64) } else { 32 }
-}
-
-// `kinds` of an instruction, by the word of its opcode; beside it Raise, which has no role where its a is not 0.
+// `kinds` of an instruction, by the word of its opcode, where 4 and more have one byte; beside it Raise, which has no role where its a is not 0.
+#[tactic(auto, using(crate::proofs::Worded::word_raised, crate::proofs::Worded::word_other))]
 fn kinds_by(i: Ins) -> u8
     ensures { result ≡ kinds_of i }
 {
-    let k = (word_of(i.op) >> bits_before(i.x)) % 256;
+    let k = (word_of(i.op) >> (8 * u64::from(i.x.min(4)))) % 256;
     if (i.op == Raise) & (i.a != 0) {
         return roles::NONE;
     }
@@ -259,6 +243,7 @@ fn kinds_by(i: Ins) -> u8
 }
 
 // The step at k, in code of n instructions.
+#[tactic(auto, using(crate::proofs::Follows::step_is))]
 pub fn step_of(code: &[u16], n: usize, k: usize) -> Step
     requires { Whole code.now × (n ≡ count code.now) × (k < n) }
     ensures { StepAt code.now k result }
@@ -276,7 +261,7 @@ pub fn step_of(code: &[u16], n: usize, k: usize) -> Step
         run: t.run,
         on: (o != ReturnR) & (o != Jump),
         to: kind / 16 % 4 == 1,
-        target: refusals::least(i.a as usize, n),
+        target: usize::from(i.a).min(n),
     }
 }
 
@@ -310,7 +295,7 @@ fn turn(i: Ins, m: u8, n: usize) -> Step
         run: 0,
         on: m / 32 % 2 != 1,
         to: m / 16 % 2 == 1,
-        target: refusals::least(i.a as usize, n),
+        target: usize::from(i.a).min(n),
     }
 }
 
@@ -330,13 +315,4 @@ pub fn goes_before(s: Step, p: usize) -> bool
     ensures { result ≡ goes_before s p }
 {
     s.to & (s.target < p)
-}
-
-// The same for one who has the table of roles at hand: asked by way of `step_of`, since with two callers `touch_at` would no longer stand in place in the
-// sweeps.
-pub fn step_in(roles: &[u8; 1280], code: &[u16], n: usize, k: usize) -> Step
-    requires { (roles.now ≡ role_table) × Whole code.now × (n ≡ count code.now) × (k < n) }
-    ensures { StepAt code.now k result }
-{
-    step_of(code, n, k)
 }

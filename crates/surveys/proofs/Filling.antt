@@ -6,20 +6,20 @@ use Rattle.laws.specs.Table.{filled_to}
 use Rattle.refusals.specs.Answers.{answer_of, refused_of}
 use Rattle.refusals.specs.declared.Answer.{Answer}
 use Rattle.refusals.specs.declared.Refusal.{Refusal}
-use Rattle.refusals.specs.declared.Checked.{Checked}
-use Rattle.refusals.specs.declared.Checked.TheVariants.{Count, No}
+use Rattle.refusals.specs.Stages.{Checked}
+use Rattle.std.specs.declared.result.Result.TheVariants.{Ok, Err}
 use Rattle.refusals.proofs.Answers.{refused, told}
 use Rattle.surveys.specs.Answers.{Fills}
 
 module _ (v s : Checked) (e : v ≡ s) (m : ℕ) (f : ℕ → ℕ) (out : List ℕ) (r : Answer) where
-  pub not_filled : (q : Refusal) → v ≡ No q → r ≡ refused_of q → Fills s m f out r out
+  pub not_filled : (q : Refusal) → v ≡ Err q → r ≡ refused_of q → Fills s m f out r out
   not_filled q h z =
       record {
         answer = refused v s e refused_of (answer_of 0 0 0 0) q r h z;
         words = refused v s e (λ _. out) (filled_to f m out) q out h refl;
       }
 
-  pub all_filled : (n : ℕ) (out' : List ℕ) → v ≡ Count n → out' ≡ filled_to f m out → r ≡ answer_of 0 0 0 0 → Fills s m f out r out'
+  pub all_filled : (n : ℕ) (out' : List ℕ) → v ≡ Ok n → out' ≡ filled_to f m out → r ≡ answer_of 0 0 0 0 → Fills s m f out r out'
   all_filled n out' h g z =
       record {
         answer = told v s e refused_of (answer_of 0 0 0 0) n r h z;

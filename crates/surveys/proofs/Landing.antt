@@ -116,9 +116,9 @@ more_tries : (t : List ℕ) (k q : ℕ) → q ≡ handler_of t k → (p : ℕ) �
 unfolding handled handled_at hits
 more_tries t k q e p = some_more (handled_at t p) k ∙ rw e
 
-pub next_jump : (n : ℕ) (w out₀ out out' : List ℕ) (m k : ℕ) (i : Ins) (y : Bool) → Landing n (jumped w) out₀ out m k → k < m → i ≡ ins_at w k → y ≡ is_jump i
-    → Lands n (hits y i.a) out out' → Landing n (jumped w) out₀ out' m (k + 1)
-next_jump n w out₀ out out' m k i y s h e f l = turns n (jumped w) out₀ out m k s y i.a out' h l (more_jumps w k i y e f)
+pub next_jump : (n : ℕ) (w out₀ out out' : List ℕ) (m k a : ℕ) (i : Ins) (y : Bool) → Landing n (jumped w) out₀ out m k → k < m → i ≡ ins_at w k
+    → y ≡ is_jump i → a ≡ i.a → Lands n (hits y a) out out' → Landing n (jumped w) out₀ out' m (k + 1)
+next_jump n w out₀ out out' m k a i y s h e f g l = turns n (jumped w) out₀ out m k s y i.a out' h (rw g at l) (more_jumps w k i y e f)
 
 pub next_try : (n : ℕ) (t out₀ out out' : List ℕ) (m k q : ℕ) → Landing n (handled t) out₀ out m k → k < m → q ≡ handler_of t k
     → Lands n (hits true q) out out' → Landing n (handled t) out₀ out' m (k + 1)

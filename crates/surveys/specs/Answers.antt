@@ -7,7 +7,7 @@ use Rattle.code.specs.Check.{check_of}
 use Rattle.refusals.specs.Stages.{tried_of, room_of}
 use Rattle.refusals.specs.Answers.{asked, answer_of, refused_of}
 use Rattle.refusals.specs.declared.Answer.{Answer}
-use Rattle.refusals.specs.declared.Checked.{Checked}
+use Rattle.refusals.specs.Stages.{Checked}
 use Rattle.surveys.specs.Targets.{target}
 
 -- a call that fills m entries: refused and nothing touched; or no value, entry p is f p, and the words past them stay

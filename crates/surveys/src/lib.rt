@@ -3,29 +3,22 @@
 
 ghost use Rattle.std.specs.Prelude.{◌≡◌, ◌+◌, ◌*◌, ◌/◌, ◌<◌, ◌≤◌, length};
 ghost use Rattle.laws.specs.Table.{filled_to};
+ghost use Rattle.refusals.specs.Answers.{answered};
 ghost use Rattle.code.specs.Inner.{Whole};
 ghost use Rattle.surveys.specs.Answers.{target_mark, Targets};
 ghost use Rattle.surveys.specs.Targets.{hits, handler_of, jumped, handled};
 ghost use Rattle.surveys.specs.Inner.{Lands};
 
-use refusals::{Answer, Checked};
+use refusals::{Answer, Refusal};
 
 // `targets`: refusals 1, 2, 4, 5.
-pub fn targets(code: &[u16], tries: &[u32], out: &mut [u8]) -> Answer
-    ensures { Targets code.now tries.now out.old result out.new }
+pub fn targets(code: &[u16], tries: &[u32], out: &mut [u8]) -> Result<Answer, Refusal>
+    ensures { Targets code.now tries.now out.old (answered result) out.new }
 {
-    match refusals::room(
-        refusals::tried(code::check(code), tries),
-        1,
-        out.len(),
-        code.len() / 6 + 1,
-    ) {
-        Checked::No(r) => refusals::refused(r),
-        Checked::Count(_) => {
-            fill_targets(code, tries, out);
-            refusals::tell(0, 0, 0, 0)
-        }
-    }
+    let v = refusals::tried(code::check(code), tries);
+    refusals::room(v, 1, out.len(), code.len() / 6 + 1)?;
+    fill_targets(code, tries, out);
+    Ok(refusals::tell(0, 0, 0, 0))
 }
 
 // A mark at q, unless that is past n.
@@ -46,28 +39,20 @@ fn land_jumps(code: &[u16], out: &mut [u8])
 {
     let roles = roles::table();
     let n = code.len() / 6;
-    let mut k = 0;
-    while k < n {
+    for k in 0..n {
         let i = code::ins_at(code, k);
-        land(out, n, roles::is_jump_in(&roles, i), i.a as usize);
-        k += 1;
+        land(out, n, roles::is_jump_in(&roles, i), usize::from(i.a));
     }
 }
 
-// A word of the tries as a position.
-fn wide(x: u32) -> usize
-    ensures { result ≡ x }
-{
-    x as usize
-}
-
 // The h of try i.
+#[tactic(auto, unfolding(crate::specs::Targets::handler_of))]
 fn handler(tries: &[u32], i: usize) -> usize
     requires { 2 * i + 1 < length tries.now }
     ensures { result ≡ handler_of tries.now i }
 {
     let at = 2 * i + 1;
-    wide(tries[at])
+    tries[at] as usize
 }
 
 // The marks of the handlers.
@@ -76,10 +61,8 @@ fn land_tries(tries: &[u32], n: usize, out: &mut [u8])
     ensures { Lands n (handled tries.now (length tries.now / 2)) out.old out.new }
 {
     let m = tries.len() / 2;
-    let mut i = 0;
-    while i < m {
+    for i in 0..m {
         land(out, n, true, handler(tries, i));
-        i += 1;
     }
 }
 

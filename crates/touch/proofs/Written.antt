@@ -2,12 +2,12 @@
 use mathlib.Core.Path.{◌≡◌, refl, ap, ap₂, ◌∙◌}
 use mathlib.Core.Bool.{Bool, true, false, ◌&&◌, ◌||◌}
 use mathlib.Core.List.{List, [], ◌∷◌, ◌++◌}
-use Prim.Native.Nat.{ℕ, ◌+◌}
-use lib.Dec.{eqb, leb, ltb}
+use Prim.Native.Nat.{ℕ}
+use lib.Dec.{eqb}
 use Rattle.laws.specs.Page.{among}
 use Rattle.roles.specs.Sets.{only, from, writes}
 use Rattle.roles.specs.Kinds.{a, b, c, has}
-use Rattle.touch.proofs.Sets.{among_only, among_from}
+use Rattle.touch.proofs.Sets.{among_only}
 use Rattle.touch.proofs.Cases.{touches}
 use Rattle.code.specs.declared.Ins.{Ins}
 use Rattle.touch.specs.Touch.{named, touch_of, written_by}
@@ -29,11 +29,9 @@ among_named m r x y z =
     ∙ among_append r (only (has a m) x ++ only (has b m) y) (only (has c m) z)
 
 -- the test of `writes_of`: a field that the mask names, or one of the run
-pub written_is : (i : Ins) (r : ℕ) (t : Touch) → t ≡ touch_of i → (x : Bool)
-    → x ≡ has a t.written && eqb r i.a || has b t.written && eqb r i.b || has c t.written && eqb r i.c
-    → x || leb i.b r && ltb r (i.b + t.run) ≡ writes i r
+pub written_is : (i : Ins) (r : ℕ) (t : Touch) (x y : Bool) → t ≡ touch_of i → x ≡ among r (named t.written i.a i.b i.c) → y ≡ among r (from i.b t.run)
+    → x || y ≡ writes i r
 unfolding writes written_by
-written_is i r t h x e =
-    ap₂ (λ (p q : Bool). p || q) (e ∙ among_named t.written r i.a i.b i.c) (among_from r i.b t.run)
-    ∙ among_append r (named t.written i.a i.b i.c) (from i.b t.run)
+written_is i r t x y h e f =
+    ap₂ (λ (p q : Bool). p || q) e f ∙ among_append r (named t.written i.a i.b i.c) (from i.b t.run)
     ∙ ap (λ (z : Touch). among r (named z.written i.a i.b i.c ++ from i.b z.run)) h ∙ ap (among r) (touches i).written

@@ -3,13 +3,13 @@
 
 ghost use Rattle.std.specs.Prelude.{◌≡◌, cond};
 ghost use Rattle.roles.specs.Kinds.{first_of, abc, kinds_of};
-ghost use Rattle.roles.specs.Roles.{role_table};
-ghost use Rattle.roles.specs.Sets.{case_of, writes};
-ghost use Rattle.touch.specs.Touch.{plain_of, touch_of};
+ghost use Rattle.laws.specs.Page.{among};
+ghost use Rattle.roles.specs.Sets.{case_of, from, writes};
+ghost use Rattle.touch.specs.Touch.{named, plain_of, touch_of};
 
 use code::Ins;
 use ops::*;
-use roles::{A, B, C, Case, NONE};
+use roles::{A, B, C, Case, NONE, Roles};
 
 // The fields a and b, as a mask.
 const AB: u8 = A + B;
@@ -18,19 +18,15 @@ const AB: u8 = A + B;
 const ABC: u8 = A + B + C;
 
 // The first n of a, b, c.
-fn first_abc(n: usize) -> u8
+fn first_abc(n: u16) -> u8
     ensures { result ≡ first_of abc n }
 {
-    if n == 0 {
-        return 0;
+    match n {
+        0 => 0,
+        1 => A,
+        2 => AB,
+        _ => ABC,
     }
-    if n == 1 {
-        return A;
-    }
-    if n == 2 {
-        return AB;
-    }
-    ABC
 }
 
 // Which of the cases an opcode is.
@@ -57,6 +53,14 @@ pub struct Touch {
     pub run: u8,
 }
 
+// No field and no register.
+pub const NOTHING: Touch = Touch {
+    used: 0,
+    given: 0,
+    written: 0,
+    run: 0,
+};
+
 // A mask, if.
 fn when(t: bool, mask: u8) -> u8
     ensures { result ≡ cond t mask 0 }
@@ -65,16 +69,12 @@ fn when(t: bool, mask: u8) -> u8
 }
 
 // What `kinds` tells.
+#[tactic(auto, unfolding(crate::specs::Touch::plain_of))]
 fn plain(kind: u8) -> Touch
     ensures { result ≡ plain_of kind }
 {
     if kind / NONE % 2 == 1 {
-        return Touch {
-            used: 0,
-            given: 0,
-            written: 0,
-            run: 0,
-        };
+        return NOTHING;
     }
     Touch {
         used: kind / 2 % 8 * 2,
@@ -85,6 +85,7 @@ fn plain(kind: u8) -> Touch
 }
 
 // The three sets of an instruction.
+#[tactic(auto, using(crate::proofs::Cases::arms))]
 pub fn touch_of(i: Ins, kind: u8) -> Touch
     requires { kind ≡ kinds_of i }
     ensures { result ≡ touch_of i }
@@ -92,70 +93,73 @@ pub fn touch_of(i: Ins, kind: u8) -> Touch
     let x = i.x;
     match case_of(i.op) {
         Case::Store => Touch {
-            used: 0,
             given: A,
             written: when(x == 0, A),
-            run: 0,
+            ..NOTHING
         },
         Case::Unpack => {
-            let m = first_abc(x as usize);
+            let m = first_abc(x);
             Touch {
-                used: 0,
                 given: m,
                 written: m,
-                run: 0,
+                ..NOTHING
             }
         }
         Case::Enter => Touch {
             used: when(x == 2, C),
-            given: 0,
-            written: 0,
             run: when(x != 0, 2),
+            ..NOTHING
         },
         Case::Exit => Touch {
-            used: 0,
-            given: 0,
-            written: 0,
             run: when(x != 0, 5),
+            ..NOTHING
         },
         Case::Judge => Touch {
             used: when(x == 1, A),
-            given: 0,
-            written: 0,
-            run: 0,
+            ..NOTHING
         },
         Case::Step => {
             let m = when(x == 0, B);
             Touch {
                 used: m,
-                given: 0,
                 written: m,
-                run: 0,
+                ..NOTHING
             }
         }
         Case::Plain => plain(kind),
     }
 }
 
+// Whether r stands in a field that a mask names.
+#[inline(always)]
+#[tactic(auto, using(crate::proofs::Written::among_named))]
+pub fn names(mask: u8, a: u16, b: u16, c: u16, r: u16) -> bool
+    ensures { result ≡ among r (named mask a b c) }
+{
+    (mask / A % 2 == 1) & (r == a) | (mask / B % 2 == 1) & (r == b) | (mask / C % 2 == 1) & (r == c)
+}
+
+// Whether r is one of so many registers from b on.
+#[inline(always)]
+#[tactic(auto, using(crate::proofs::Sets::among_from))]
+pub fn in_run(b: u16, run: u8, r: u16) -> bool
+    ensures { result ≡ among r (from b run) }
+{
+    (b <= r) & (usize::from(r) < usize::from(b) + usize::from(run))
+}
+
 // `writes` of an instruction whose `kinds` is known.
+#[tactic(auto, using(crate::proofs::Written::written_is))]
 pub fn writes_by(i: Ins, kind: u8, r: u16) -> bool
     requires { kind ≡ kinds_of i }
     ensures { result ≡ writes i r }
 {
     let t = touch_of(i, kind);
-    let m = t.written;
-    let named = (m / 2 % 2 == 1) & (r == i.a)
-        | (m / 4 % 2 == 1) & (r == i.b)
-        | (m / 8 % 2 == 1) & (r == i.c);
-    let b = i.b as usize;
-    let run = t.run as usize;
-    let at = r as usize;
-    named | (b <= at) & (at < b + run)
+    names(t.written, i.a, i.b, i.c, r) | in_run(i.b, t.run, r)
 }
 
 // `writes` of an instruction.
-pub fn writes_in(roles: &[u8; 1280], i: Ins, r: u16) -> bool
-    requires { roles.now ≡ role_table }
+pub fn writes_in(roles: &Roles, i: Ins, r: u16) -> bool
     ensures { result ≡ writes i r }
 {
     writes_by(i, roles::kinds_in(roles, i), r)

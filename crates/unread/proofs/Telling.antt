@@ -11,8 +11,8 @@ use Rattle.code.specs.Inner.{Valid}
 use Rattle.refusals.specs.Answers.{answer_of, refused_of}
 use Rattle.refusals.specs.declared.Answer.{Answer}
 use Rattle.refusals.specs.declared.Refusal.{Refusal}
-use Rattle.refusals.specs.declared.Checked.{Checked}
-use Rattle.refusals.specs.declared.Checked.TheVariants.{Count, No}
+use Rattle.refusals.specs.Stages.{Checked}
+use Rattle.std.specs.declared.result.Result.TheVariants.{Ok, Err}
 use Rattle.code.proofs.Checks.{valid_of}
 use Rattle.sections.proofs.Rooms.{before_inside, within, before_room, roomy}
 use Rattle.paths.specs.Search.{Says, SearchSettles}
@@ -20,20 +20,20 @@ use Rattle.phi_paths.specs.Inner.{PhiRoom}
 use Rattle.unread.specs.Answers.{Tells}
 
 module _ (v s : Checked) (e : v ≡ s) (P : Type 0) (m : ℕ) (seen todo : List ℕ) (r : Answer) where
-  pub tells_no : (q : Refusal) → v ≡ No q → r ≡ refused_of q → Tells s P m seen todo r seen todo
+  pub tells_no : (q : Refusal) → v ≡ Err q → r ≡ refused_of q → Tells s P m seen todo r seen todo
   tells_no q h z = rw (sym e ∙ h) (z, refl, refl)
 
-  pub tells : (n : ℕ) (b : Bool) (seen' todo' : List ℕ) → v ≡ Count n → SearchSettles P m seen todo b seen' todo' → r ≡ answer_of (bool_byte b) 0 0 0
+  pub tells : (n x : ℕ) (b : Bool) (seen' todo' : List ℕ) → v ≡ Ok n → SearchSettles P m seen todo b seen' todo' → x ≡ bool_byte b → r ≡ answer_of x 0 0 0
       → Tells s P m seen todo r seen' todo'
-  tells n b seen' todo' h d z = rw (sym e ∙ h) (b, z, d)
+  tells n x b seen' todo' h d y z = rw (sym e ∙ h) (b, rw y at z, d)
 
 -- where the tests end in a count, there is room for a search, and the position is in the code
 module _ (w seen todo : List ℕ) (n : ℕ) (t u v : Checked) (g : u ≡ room_of t 1 (length seen) (length w / 6 + 1))
-    (h : v ≡ room_of u 2 (length todo) (length w / 6 + 1)) (c : v ≡ Count n) where
-  marks_passed : u ≡ Count n
+    (h : v ≡ room_of u 2 (length todo) (length w / 6 + 1)) (c : v ≡ Ok n) where
+  marks_passed : u ≡ Ok n
   marks_passed = before_room n 2 (length todo) (length w / 6 + 1) u v h c
 
-  code_passed : t ≡ Count n
+  code_passed : t ≡ Ok n
   code_passed = before_room n 1 (length seen) (length w / 6 + 1) t u g marks_passed
 
   room : Valid w → PhiRoom w seen todo
@@ -66,6 +66,6 @@ says_once P false false x y = refl
 -- any two results that a contract of this form allows are equal, with every lent word
 pub one_answer : (v : Checked) (P : Type 0) (m : ℕ) (seen todo : List ℕ) (r r' : Answer) (a a' b b' : List ℕ) → Tells v P m seen todo r a b
     → Tells v P m seen todo r' a' b' → (r ≡ r') × (a ≡ a') × (b ≡ b')
-one_answer (No q) P m seen todo r r' a a' b b' x y = (x.0 ∙ sym y.0, x.1 ∙ sym y.1, x.2 ∙ sym y.2)
-one_answer (Count n) P m seen todo r r' a a' b b' (c, x, s) (d, y, t) =
+one_answer (Err q) P m seen todo r r' a a' b b' x y = (x.0 ∙ sym y.0, x.1 ∙ sym y.1, x.2 ∙ sym y.2)
+one_answer (Ok n) P m seen todo r r' a a' b b' (c, x, s) (d, y, t) =
     (x ∙ ap (λ (z : Bool). answer_of (bool_byte z) 0 0 0) (says_once P c d s.says t.says) ∙ sym y, s.marks ∙ sym t.marks, s.waiting ∙ sym t.waiting)

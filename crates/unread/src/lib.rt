@@ -2,27 +2,28 @@
 #![tactic(auto)]
 
 ghost use Rattle.std.specs.Prelude.{◌≡◌, ◌+◌, ◌/◌, ◌<◌, length};
+ghost use Rattle.refusals.specs.Answers.{answered};
 ghost use Rattle.paths.specs.Search.{SearchSettles};
 ghost use Rattle.phi_paths.specs.Inner.{PhiRoom};
 ghost use Rattle.unread.specs.Phi.{Dead};
 ghost use Rattle.unread.specs.Answers.{DeadPhi};
 
-use refusals::{Answer, Checked};
+use refusals::{Answer, Refusal};
 
 // `dead_phi`: refusals 1, 2, 6, 5.
-pub fn dead_phi(code: &[u16], at: usize, r: u16, seen: &mut [u8], todo: &mut [u32]) -> Answer
-    ensures { DeadPhi code.now at r seen.old todo.old result seen.new todo.new }
+pub fn dead_phi(
+    code: &[u16],
+    at: usize,
+    r: u16,
+    seen: &mut [u8],
+    todo: &mut [u32],
+) -> Result<Answer, Refusal>
+    ensures { DeadPhi code.now at r seen.old todo.old (answered result) seen.new todo.new }
 {
     let m = code.len() / 6 + 1;
-    match refusals::room(
-        refusals::room(refusals::inside(code::check(code), at), 1, seen.len(), m),
-        2,
-        todo.len(),
-        m,
-    ) {
-        Checked::No(q) => refusals::refused(q),
-        Checked::Count(_) => refusals::tell(dead(code, at, r, seen, todo) as u64, 0, 0, 0),
-    }
+    let v = refusals::room(refusals::inside(code::check(code), at), 1, seen.len(), m);
+    refusals::room(v, 2, todo.len(), m)?;
+    Ok(refusals::tell(u64::from(dead(code, at, r, seen, todo)), 0, 0, 0))
 }
 
 // `dead_phi` in accepted code.

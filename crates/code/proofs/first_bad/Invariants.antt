@@ -9,6 +9,3 @@ use Rattle.code.proofs.first_bad.Given as goal
 
 abbrev pub invariant-loop-k : goal.invariant-loop-k
 invariant-loop-k l = (l.k ≤ l.n) × (first (λ j. not (rule_at l.code j)) l.k (l.n - l.k) ≡ first_bad l.code)
-
-abbrev pub decreases-loop-k : goal.decreases-loop-k
-decreases-loop-k l = l.n - l.k

@@ -8,12 +8,10 @@ use Rattle.code.specs.Ins.{ins_at}
 use Rattle.code.specs.declared.Ins.{Ins}
 use Rattle.code.proofs.ins_at.Goals as goal
 
-abbrev zeros : Ins
-zeros = record { op = 0; marks = 0; a = 0; b = 0; c = 0; x = 0 }
-
-past : (w : List ℕ) (k : ℕ) → length w % 6 ≡ 0 → length w / 6 ≤ k → zeros ≡ ins_at w k
-past w k whole h =
-    let out : (i : ℕ) → length w ≤ i → get_or w i 0 ≡ 0 = λ i l. get_or-eq_default w 0 l in
+past : (w : List ℕ) (k o m a b c x : ℕ) → length w % 6 ≡ 0 → length w / 6 ≤ k → o ≡ 0 → m ≡ 0 → a ≡ 0 → b ≡ 0 → c ≡ 0 → x ≡ 0
+    → ◌≡◌ {A = Ins} (record { op = o; marks = m; a = a; b = b; c = c; x = x }) (ins_at w k)
+past w k o m a b c x whole h o-is m-is a-is b-is c-is x-is =
+    let out : (j : ℕ) → length w ≤ j → get_or w j 0 ≡ 0 = λ j l. get_or-eq_default w 0 l in
     simp (
       out (6 * k) (omega arith),
       out (6 * k + 1) (omega arith),
@@ -21,7 +19,9 @@ past w k whole h =
       out (6 * k + 3) (omega arith),
       out (6 * k + 4) (omega arith),
       out (6 * k + 5) (omega arith),
-    )
+    ) (cc)
 
 pub returns-else-k-code : goal.returns-else-k-code
-returns-else-k-code c = search past
+returns-else-k-code c =
+    let z = c.default.ensures in
+    past _ _ _ _ _ _ _ _ c.requires c.if-k-code.false z.0 z.1.0 z.1.1.0 z.1.1.1.0 z.1.1.1.1.0 z.1.1.1.1.1

@@ -9,9 +9,6 @@ loop-k-init c = search (rules, walking)
 pub ins_at-i-requires : goal.ins_at-i-requires
 ins_at-i-requires c = search (rules, walking)
 
-pub overflow_add-k : goal.overflow_add-k
-overflow_add-k c = search (rules, walking)
-
 pub loop-k-smaller-then-i-ne-Phi : goal.loop-k-smaller-then-i-ne-Phi
 loop-k-smaller-then-i-ne-Phi c = search (rules, walking)
 
@@ -21,23 +18,11 @@ loop-k-preserved-then-i-ne-Phi c = search (rules, walking)
 pub dead-requires : goal.dead-requires
 dead-requires c = search (rules, walking)
 
-pub overflow_add-k-then-dead : goal.overflow_add-k-then-dead
-overflow_add-k-then-dead c = search (rules, walking)
-
 pub loop-k-smaller : goal.loop-k-smaller
 loop-k-smaller c = search (rules, walking)
 
 pub loop-k-preserved : goal.loop-k-preserved
 loop-k-preserved c = search dies
-
-pub shape_of-seen-in-loop-k : goal.shape_of-seen-in-loop-k
-shape_of-seen-in-loop-k c = search (rules, walking)
-
-pub shape_of-todo-in-loop-k : goal.shape_of-todo-in-loop-k
-shape_of-todo-in-loop-k c = search (rules, walking)
-
-pub returns-in-loop-k : goal.returns-in-loop-k
-returns-in-loop-k c = search (rules, walking)
 
 pub shape_of-seen : goal.shape_of-seen
 shape_of-seen c = search (rules, walking)
@@ -47,3 +32,6 @@ shape_of-todo c = search (rules, walking)
 
 pub returns : goal.returns
 returns c = search (rules, walking)
+
+pub returns-then-not-dead : goal.returns-then-not-dead
+returns-then-not-dead c = search (rules, walking)

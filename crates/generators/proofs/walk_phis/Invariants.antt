@@ -1,10 +1,6 @@
 -- `generators::walk_phis` meets its contract. Assumes nothing.
-use Prim.Native.Nat.{◌-◌}
 use Rattle.generators.proofs.Dying.{Walked}
 use Rattle.generators.proofs.walk_phis.Given as goal
 
 abbrev pub invariant-loop-k : goal.invariant-loop-k
 invariant-loop-k l = Walked l.code l.initial.seen l.initial.todo l.seen l.todo l.k
-
-abbrev pub decreases-loop-k : goal.decreases-loop-k
-decreases-loop-k l = l.n - l.k

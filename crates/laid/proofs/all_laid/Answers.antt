@@ -4,16 +4,6 @@ use Rattle.laws.proofs.Every.{all}
 use Rattle.laid.specs.Section.{laid}
 use Rattle.laid.proofs.all_laid.Goals as goal
 
-pub returns-then-not-fine : goal.returns-then-not-fine
+pub returns-then-not-laid_at : goal.returns-then-not-laid_at
 unfolding laid
-returns-then-not-fine c = search (rules, all)
-
-pub returns : goal.returns
-unfolding laid
-returns c = search (rules, all)
-
-pub loop-k-init : goal.loop-k-init
-loop-k-init c = search (rules, all)
-
-pub loop-k-preserved : goal.loop-k-preserved
-loop-k-preserved c = search (rules, all)
+returns-then-not-laid_at c = search (rules, all)

@@ -19,12 +19,6 @@ overflow_add-out c = omega (arith, fits_word _ _ _ _ _ _ c.loop-p.invariant (ome
 pub bounds-out-p-in-loop-p : goal.bounds-out-p-in-loop-p
 bounds-out-p-in-loop-p c = search (rules, adds-up)
 
-pub overflow_add-p : goal.overflow_add-p
-overflow_add-p c = search (rules, adds-up)
-
-pub loop-p-smaller : goal.loop-p-smaller
-loop-p-smaller c = search (rules, adds-up)
-
 pub loop-p-preserved : goal.loop-p-preserved
 loop-p-preserved c = search (rules, adds-up)
 

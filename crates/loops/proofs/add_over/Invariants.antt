@@ -1,10 +1,6 @@
 -- `loops::add_over` meets its contract. Assumes nothing.
-use Prim.Native.Nat.{◌-◌}
 use Rattle.loops.proofs.Adding.{Adding}
 use Rattle.loops.proofs.add_over.Given as goal
 
 abbrev pub invariant-loop-p : goal.invariant-loop-p
 invariant-loop-p l = Adding l.m l.a l.b l.initial.out l.out l.p
-
-abbrev pub decreases-loop-p : goal.decreases-loop-p
-decreases-loop-p l = l.b - l.p

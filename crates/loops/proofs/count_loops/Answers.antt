@@ -18,12 +18,6 @@ overflow_add-n c = search (rules, counts_up)
 pub add_over-requires : goal.add_over-requires
 add_over-requires c = search (rules, counts_up)
 
-pub overflow_add-g-in-loop-g : goal.overflow_add-g-in-loop-g
-overflow_add-g-in-loop-g c = search (rules, counts_up)
-
-pub loop-g-smaller : goal.loop-g-smaller
-loop-g-smaller c = search (rules, counts_up)
-
 pub loop-g-preserved : goal.loop-g-preserved
 loop-g-preserved c = search (rules, counts_up)
 

@@ -1,10 +1,6 @@
 -- `loops::count_loops` meets its contract. Assumes nothing.
-use Prim.Native.Nat.{◌-◌}
 use Rattle.loops.proofs.Adding.{Counting}
 use Rattle.loops.proofs.count_loops.Given as goal
 
 abbrev pub invariant-loop-g : goal.invariant-loop-g
 invariant-loop-g l = Counting l.code l.initial.out l.out l.g
-
-abbrev pub decreases-loop-g : goal.decreases-loop-g
-decreases-loop-g l = l.n - l.g

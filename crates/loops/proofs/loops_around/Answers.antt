@@ -4,6 +4,7 @@ use Prim.Native.Nat.{ℕ, ◌+◌, ◌/◌, ◌≤◌}
 use lib.ListN.{length}
 use Rattle.code.specs.Inner.{Valid}
 use Rattle.loops.specs.Inner.{Space}
+use Rattle.std.proofs.lemmas.Result.{err_from_is_err_and}
 use Rattle.code.proofs.Passed.{passing}
 use Rattle.refusals.proofs.Stages.{onward}
 use Rattle.sections.proofs.Rooms.{rooms}
@@ -14,10 +15,12 @@ space : (w out : List ℕ) → Valid w → length w / 6 + 1 ≤ length out → S
 space w out v h = record { whole = v.whole; few = v.few; fits = h }
 
 pub fill_loops-requires : goal.fill_loops-requires
-fill_loops-requires c = search (passing, rooms, space)
+fill_loops-requires c = search (passing, rooms, space, c.in_ok-room.was)
 
-pub returns-in-No : goal.returns-in-No
-returns-in-No c = search (filling, onward)
+pub returns-in_err-room : goal.returns-in_err-room
+returns-in_err-room c =
+    let p = err_from_is_err_and c.from_residual.result c.from_residual.ensures.1 in
+    rw (p.1, p.2) (search (filling, onward, c.in_err-room.was))
 
-pub returns-in-Count : goal.returns-in-Count
-returns-in-Count c = search (filling, onward)
+pub returns : goal.returns
+returns c = search (filling, onward, c.in_ok-room.was)

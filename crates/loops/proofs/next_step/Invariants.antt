@@ -7,6 +7,3 @@ use Rattle.loops.proofs.next_step.Given as goal
 
 abbrev pub invariant-loop-k : goal.invariant-loop-k
 invariant-loop-k l = (l.k ≤ l.n) × (first (step_at l.code) l.k (l.n - l.k) ≡ next_step l.code l.g)
-
-abbrev pub decreases-loop-k : goal.decreases-loop-k
-decreases-loop-k l = l.n - l.k

@@ -5,7 +5,7 @@ use Rattle.needed.proofs.Telling.{ready, done}
 use Rattle.needed.proofs.asks.Goals as goal
 
 pub search-found-requires : goal.search-found-requires
-search-found-requires c = (search rules, search ready, search none)
+search-found-requires c = (search ready, search none)
 
 pub returns : goal.returns
 returns c = search (rules, done)

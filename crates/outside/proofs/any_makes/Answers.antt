@@ -8,13 +8,3 @@ use Rattle.outside.proofs.any_makes.Goals as goal
 pub returns-then-makes : goal.returns-then-makes
 unfolding made
 returns-then-makes c = search (rules, somewhere, tested_there)
-
-pub returns : goal.returns
-unfolding made
-returns c = search (rules, somewhere)
-
-pub loop-k-init : goal.loop-k-init
-loop-k-init c = search (rules, somewhere)
-
-pub loop-k-preserved : goal.loop-k-preserved
-loop-k-preserved c = search (rules, somewhere, tested_there)

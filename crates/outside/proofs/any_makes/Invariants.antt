@@ -1,7 +1,7 @@
 -- `outside::any_makes` meets its contract. Assumes nothing.
 use mathlib.Core.Path.{◌≡◌}
 use mathlib.Core.Bool.{false}
-use Prim.Native.Nat.{◌-◌, ◌≤◌}
+use Prim.Native.Nat.{◌≤◌}
 use Rattle.laws.specs.Some.{some}
 use Rattle.sections.specs.There.{there}
 use Rattle.outside.specs.Outside.{makes}
@@ -9,6 +9,3 @@ use Rattle.outside.proofs.any_makes.Given as goal
 
 abbrev pub invariant-loop-k : goal.invariant-loop-k
 invariant-loop-k l = (l.k ≤ l.n) × (some (there makes l.code) l.k ≡ false)
-
-abbrev pub decreases-loop-k : goal.decreases-loop-k
-decreases-loop-k l = l.n - l.k

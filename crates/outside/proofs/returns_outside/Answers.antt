@@ -18,17 +18,17 @@ use Rattle.sections.specs.There.{there}
 use Rattle.outside.specs.Outside.{opens, closes, returns_from, outside_at, returns_outside}
 use Rattle.outside.proofs.returns_outside.Goals as goal
 
-counted : (c k : ℕ) (b : Bool) → c ≤ k → c + bool_byte b ≤ k + 1
-counted c k b h = omega (arith, byte_small b)
+counted : (c k v : ℕ) (b : Bool) → v ≡ bool_byte b → c ≤ k → c + v ≤ k + 1
+counted c k v b e h = omega (arith, byte_small b)
 
 module _ (f : Ins → Bool) (w : List ℕ) where
   none_counted : 0 ≡ many (there f w) 0
   unfolding many
   none_counted = refl
 
-  one_counted : (k : ℕ) (i : Ins) (b : Bool) (c : ℕ) → i ≡ ins_at w k → b ≡ f i → c ≡ many (there f w) k → c + bool_byte b ≡ many (there f w) (k + 1)
+  one_counted : (k v : ℕ) (i : Ins) (b : Bool) (c : ℕ) → i ≡ ins_at w k → b ≡ f i → v ≡ bool_byte b → c ≡ many (there f w) k → c + v ≡ many (there f w) (k + 1)
   unfolding many there
-  one_counted k i b c e g h = rw (add-one, h, g, e)
+  one_counted k v i b c e g q h = rw (add-one, q, h, g, e)
 
 module _ (w : List ℕ) (k o c : ℕ) (i : Ins) (l p : Bool) (e : i ≡ ins_at w k) (f : l ≡ returns_from i) (g : p ≡ returns_at w k) (h : o ≡ many (there opens w) k)
     (m : c ≡ many (there closes w) k) where
@@ -52,12 +52,6 @@ returns c = search (rules, all)
 
 pub loop-k-init : goal.loop-k-init
 loop-k-init c = search (rules, none_counted, all)
-
-pub overflow_add-opened : goal.overflow_add-opened
-overflow_add-opened c = omega (arith, byte_small c.opens.result)
-
-pub overflow_add-closed : goal.overflow_add-closed
-overflow_add-closed c = omega (arith, byte_small c.closes.result)
 
 pub loop-k-preserved : goal.loop-k-preserved
 loop-k-preserved c = search (rules, counted, one_counted, stays)

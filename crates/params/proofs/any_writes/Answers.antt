@@ -18,13 +18,3 @@ at_k w r k i b e f = f ∙ rw e
 pub returns-then-writes_in : goal.returns-then-writes_in
 unfolding written_in
 returns-then-writes_in c = search (rules, somewhere, at_k)
-
-pub returns : goal.returns
-unfolding written_in
-returns c = search (rules, somewhere)
-
-pub loop-k-init : goal.loop-k-init
-loop-k-init c = search (rules, somewhere)
-
-pub loop-k-preserved : goal.loop-k-preserved
-loop-k-preserved c = search (rules, somewhere, at_k)

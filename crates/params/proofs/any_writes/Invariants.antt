@@ -1,13 +1,10 @@
 -- `params::any_writes` meets its contract. Assumes nothing.
 use mathlib.Core.Path.{◌≡◌}
 use mathlib.Core.Bool.{false}
-use Prim.Native.Nat.{◌-◌, ◌≤◌}
+use Prim.Native.Nat.{◌≤◌}
 use Rattle.laws.specs.Some.{some}
 use Rattle.params.specs.Masks.{writes_at}
 use Rattle.params.proofs.any_writes.Given as goal
 
 abbrev pub invariant-loop-k : goal.invariant-loop-k
 invariant-loop-k l = (l.k ≤ l.n) × (some (writes_at l.code l.r) l.k ≡ false)
-
-abbrev pub decreases-loop-k : goal.decreases-loop-k
-decreases-loop-k l = l.n - l.k

@@ -12,8 +12,8 @@ module _ (t j : Bool) (e : t ≡ j) where
   height : (h top : ℕ) → h ≡ top + bool_byte t → h ≡ top + bool_byte j
   height h top p = rw e at p
 
-  stack : (todo' todo : List ℕ) (top a : ℕ) → todo' ≡ pushed todo top a t → todo' ≡ pushed todo top a j
-  stack todo' todo top a p = rw e at p
+  stack : (todo' todo : List ℕ) (top a v : ℕ) → v ≡ a → todo' ≡ pushed todo top v t → todo' ≡ pushed todo top a j
+  stack todo' todo top a v q p = rw (e, q) at p
 
 pub returns : goal.returns
 returns c = (search height, search stack)

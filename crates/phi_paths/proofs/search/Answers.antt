@@ -6,7 +6,7 @@ use Rattle.phi_paths.proofs.Loop.{turn}
 use Rattle.phi_paths.proofs.search.Goals as goal
 
 pub follow-top-requires : goal.follow-top-requires
-follow-top-requires c = (search rules, search room_for_2, omega arith)
+follow-top-requires c = (search room_for_2, omega arith)
 
 pub bounds-todo-0 : goal.bounds-todo-0
 bounds-todo-0 c = search (rules, turning, turn)
@@ -22,9 +22,6 @@ offset_bounds-todo-top c = omega (arith, few_wait _ _ _ _ _ _ _ _ _ _ c.loop-top
 
 pub bounds-todo-top : goal.bounds-todo-top
 bounds-todo-top c = search (rules, turning, turn)
-
-pub wide-j-requires : goal.wide-j-requires
-wide-j-requires c = search (rules, turning, turn)
 
 pub loop-top-smaller-then-n-j : goal.loop-top-smaller-then-n-j
 loop-top-smaller-then-n-j c = search (rules, turning, turn)

@@ -8,6 +8,3 @@ use Rattle.refusals.proofs.first_bad_try.Given as goal
 
 abbrev pub invariant-loop-i : goal.invariant-loop-i
 invariant-loop-i l = (l.i ≤ l.m) × (first (λ j. not (try_kept l.tries l.n j)) l.i (l.m - l.i) ≡ first_bad_try l.tries l.n)
-
-abbrev pub decreases-loop-i : goal.decreases-loop-i
-decreases-loop-i l = l.m - l.i

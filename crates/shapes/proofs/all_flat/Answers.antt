@@ -4,16 +4,6 @@ use Rattle.laws.proofs.Every.{all}
 use Rattle.shapes.specs.Shape.{flat}
 use Rattle.shapes.proofs.all_flat.Goals as goal
 
-pub returns-then-not-fine : goal.returns-then-not-fine
+pub returns-then-not-flat_at : goal.returns-then-not-flat_at
 unfolding flat
-returns-then-not-fine c = search (rules, all)
-
-pub returns : goal.returns
-unfolding flat
-returns c = search (rules, all)
-
-pub loop-k-init : goal.loop-k-init
-loop-k-init c = search (rules, all)
-
-pub loop-k-preserved : goal.loop-k-preserved
-loop-k-preserved c = search (rules, all)
+returns-then-not-flat_at c = search (rules, all)

@@ -8,13 +8,3 @@ use Rattle.shapes.proofs.any_guards.Goals as goal
 pub returns-then-guards : goal.returns-then-guards
 unfolding guarded
 returns-then-guards c = search (rules, somewhere, tested_there)
-
-pub returns : goal.returns
-unfolding guarded
-returns c = search (rules, somewhere)
-
-pub loop-k-init : goal.loop-k-init
-loop-k-init c = search (rules, somewhere)
-
-pub loop-k-preserved : goal.loop-k-preserved
-loop-k-preserved c = search (rules, somewhere, tested_there)

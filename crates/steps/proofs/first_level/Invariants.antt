@@ -8,6 +8,3 @@ use Rattle.steps.proofs.first_level.Given as goal
 
 abbrev pub invariant-loop-k : goal.invariant-loop-k
 invariant-loop-k l = (l.k ≤ l.n) × (first (λ j. is_level (ins_at l.code j)) l.k (l.n - l.k) ≡ first_level l.code)
-
-abbrev pub decreases-loop-k : goal.decreases-loop-k
-decreases-loop-k l = l.n - l.k

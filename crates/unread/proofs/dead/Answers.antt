@@ -1,5 +1,4 @@
 -- `unread::dead` meets its contract. Assumes nothing.
-use borrow.Author.Rules.{rules}
 use mathlib.Core.Path.{◌≡◌}
 use mathlib.Core.Bool.{Bool, true, false, not}
 use mathlib.Core.List.{List}
@@ -39,7 +38,7 @@ done w seen seen₁ seen₂ seen₃ todo todo₁ todo₂ k r b c s d e =
     settles (Read w r (k + 1)) (Dead w k r) (length w / 6) seen seen₁ seen₂ seen₃ todo todo₁ todo₂ b (not b) c s d e (other (Read w r (k + 1)) b)
 
 pub search-found-requires : goal.search-found-requires
-search-found-requires c = (search rules, search ready, search none)
+search-found-requires c = (search ready, search none)
 
 pub returns : goal.returns
 returns c = search done

@@ -1,6 +1,6 @@
 -- What the table rules say of a chunk that keeps them. Assumes nothing.
 use mathlib.Core.Path.{◌≡◌}
-use mathlib.Core.Bool.{Bool, true, false, ◌&&◌}
+use mathlib.Core.Bool.{Bool, true, ◌&&◌}
 use mathlib.Core.List.{List}
 use Prim.Native.Nat.{ℕ, ◌≤◌}
 use lib.Dec.{leb}
@@ -21,8 +21,5 @@ module _ (k a b : ℕ) (e : within k a b ≡ true) where
   words_there = leb-true _ _ (and-true (leb k 65536 && leb k a) _ e).1
 
 module _ (kinds words : List ℕ) (k : ℕ) where
-  pub out : within k (length kinds) (length words) ≡ false → false ≡ constants_kept kinds words k
-  out e = rw e
-
   pub all_in : (r : Bool) → within k (length kinds) (length words) ≡ true → r ≡ every (constant_kept kinds words) k → r ≡ constants_kept kinds words k
   all_in r e h = rw e h

@@ -4,8 +4,8 @@ use Rattle.laws.specs.Walk.{first}
 use Rattle.laws.specs.All.{many}
 use Rattle.refusals.specs.Stages.{tried_of, room_of}
 use Rattle.refusals.specs.declared.Refusal.TheVariants.{Length, Record}
-use Rattle.refusals.specs.declared.Checked.{Checked}
-use Rattle.refusals.specs.declared.Checked.TheVariants.{Count, No}
+use Rattle.refusals.specs.Stages.{Checked}
+use Rattle.std.specs.declared.result.Result.TheVariants.{Ok, Err}
 use Rattle.chunk.specs.declared.Counts.{Counts}
 use Rattle.chunk.specs.declared.Lens.{Lens}
 use Rattle.chunk.specs.declared.Tally.{Tally}
@@ -23,9 +23,9 @@ first_bad_of w = first (breaks_at w) 0 (chunk_count w)
 -- 1, then 2: the first position that breaks a record rule
 unfoldable pub chunk_check_of : List ℕ → Checked
 chunk_check_of w =
-    cond (uneven_chunk w) (No (Length (length w)))
-    (cond (ltb (first_bad_of w) (chunk_count w)) (No (Record (first_bad_of w)))
-    (Count (chunk_count w)))
+    cond (uneven_chunk w) (Err (Length (length w)))
+    (cond (ltb (first_bad_of w) (chunk_count w)) (Err (Record (first_bad_of w)))
+    (Ok (chunk_count w)))
 
 -- 7: the lowest table that breaks its rule
 unfoldable pub tables_of : Checked → ℕ → List ℕ → List ℕ → Counts → Lens → Checked

@@ -3,8 +3,8 @@ use Rattle.std.specs.Prelude.{ℕ, ◌%◌, Bool, not, cond, ◌&&◌, ◌||◌,
 use Rattle.laws.specs.All.{every}
 use Rattle.refusals.specs.Stages.{and_then}
 use Rattle.refusals.specs.declared.Refusal.TheVariants.{Table}
-use Rattle.refusals.specs.declared.Checked.{Checked}
-use Rattle.refusals.specs.declared.Checked.TheVariants.{Count, No}
+use Rattle.refusals.specs.Stages.{Checked}
+use Rattle.std.specs.declared.result.Result.TheVariants.{Ok, Err}
 
 -- kind 0 to 3, a bool's word 0 or 1
 abbrev pub constant_kept : List ℕ → List ℕ → ℕ → Bool
@@ -28,4 +28,4 @@ pairs_kept words len = eqb (words % 2) 0 && leb words len
 
 -- 7: a chunk table breaks its rule
 abbrev pub table_of : Checked → ℕ → Bool → Checked
-table_of v number kept = and_then v (λ n. cond kept (Count n) (No (Table number)))
+table_of v number kept = and_then v (λ n. cond kept (Ok n) (Err (Table number)))

@@ -2,7 +2,6 @@
 #![tactic(auto)]
 
 ghost use Rattle.std.specs.Prelude.{◌≡◌, not, ◌^◌, ◌<◌, ◌≤◌, length};
-ghost use mir.Val.{bool_byte};
 ghost use Rattle.laws.specs.All.{every};
 ghost use Rattle.chunk.specs.Chunk.{chunk_count, op_at, mark_at, operand_at, origin_at, marks_jump, names, folds, chunk_rules};
 ghost use Rattle.chunk.specs.Tables.{constant_kept, constants_kept, map_kept, pairs_kept, table_of};
@@ -10,7 +9,7 @@ ghost use Rattle.chunk.specs.Check.{first_bad_of, chunk_check_of, tables_of, tal
 ghost use Rattle.chunk.specs.Inner.{ample};
 
 use ops::*;
-use refusals::{Checked, Refusal};
+use refusals::Refusal;
 
 // How many entries each table has, the tables of pairs in words.
 #[derive(Clone, Copy)]
@@ -94,89 +93,88 @@ pub fn names_constant(code: &[u16], k: usize) -> bool
 }
 
 // Whether an opcode is a folding operator.
+#[tactic(auto, unfolding(crate::specs::Chunk::folds))]
 pub fn is_folding(o: u16) -> bool
     ensures { result ≡ folds o }
 {
-    (o == Add)
-        | (o == Sub)
-        | (o == Mul)
-        | (o == Div)
-        | (o == Mod)
-        | (o == FloorDiv)
-        | (o == Eq)
-        | (o == NotEq)
-        | (o == Lt)
-        | (o == Gt)
-        | (o == LtEq)
-        | (o == GtEq)
-        | (o == BitAnd)
-        | (o == BitOr)
-        | (o == BitXor)
-        | (o == Shl)
-        | (o == Shr)
-        | (o == Not)
-        | (o == Minus)
+    matches!(
+        o,
+        Add | Sub
+            | Mul
+            | Div
+            | Mod
+            | FloorDiv
+            | Eq
+            | NotEq
+            | Lt
+            | Gt
+            | LtEq
+            | GtEq
+            | BitAnd
+            | BitOr
+            | BitXor
+            | Shl
+            | Shr
+            | Not
+            | Minus
+    )
 }
 
 // Whether an instruction breaks a record rule: LoadConst has the mark 2, a Phi or a folding operator none, any other no two marks.
+#[tactic(auto, unfolding(crate::specs::Chunk::chunk_rules, crate::specs::Chunk::folds))]
 fn breaks(o: u16, marks: u16) -> bool
     ensures { result ≡ not (chunk_rules o marks) }
 {
     if o == LoadConst {
         return marks != 2;
     }
-    if (o == Phi) | is_folding(o) {
-        let kept = (o <= LAST) & (marks == 0);
-        return !kept;
-    }
-    let kept = (o <= LAST) & (marks <= 2);
-    !kept
+    let most = if (o == Phi) | is_folding(o) { 0 } else { 2 };
+    (LAST < o) | (most < marks)
 }
 
 // The first instruction that breaks a record rule, else how many there are.
+#[tactic(auto, using(laws::proofs::Walk::finds))]
 fn first_bad(code: &[u16]) -> usize
     ensures { result ≡ first_bad_of code.now }
 {
     let n = code.len() / STRIDE;
-    let mut k = 0;
-    while k < n {
+    for k in 0..n {
         if breaks(op_at(code, k), mark_at(code, k)) {
             return k;
         }
-        k += 1;
     }
-    k
+    n
 }
 
 // Refusals 1 and 2.
-pub fn check(code: &[u16]) -> Checked
+#[tactic(auto, unfolding(crate::specs::Check::chunk_check_of))]
+pub fn check(code: &[u16]) -> Result<usize, Refusal>
     ensures { result ≡ chunk_check_of code.now }
 {
     let len = code.len();
     let n = len / STRIDE;
     let uneven = (len % STRIDE != 0) | (65535 < n);
     if uneven {
-        return Checked::No(Refusal::Length(len));
+        return Err(Refusal::Length(len));
     }
     let k = first_bad(code);
     if k < n {
-        return Checked::No(Refusal::Record(k));
+        return Err(Refusal::Record(k));
     }
-    Checked::Count(n)
+    Ok(n)
 }
 
 // Whether each constant has a kind, and each bool a word, that there is.
+#[tactic(auto, using(laws::proofs::Every::all))]
 fn each_kept(kinds: &[u8], words: &[u64], constants: usize) -> bool
     requires { (constants ≤ length kinds.now) × (constants ≤ length words.now) }
     ensures { result ≡ every (constant_kept kinds.now words.now) constants }
 {
-    let mut i: usize = 0;
-    while i < constants {
+    for i in 0..constants {
         let kept = (kinds[i] <= 3) & ((kinds[i] != 3) | (words[i] <= 1));
         if !kept {
             return false;
         }
-        i += 1;
     }
     true
 }
@@ -186,25 +184,18 @@ pub fn constants_kept(kinds: &[u8], words: &[u64], constants: usize) -> bool
     ensures { result ≡ constants_kept kinds.now words.now constants }
 {
     let within = (constants <= 65536) & (constants <= kinds.len()) & (constants <= words.len());
-    if within {
-        return each_kept(kinds, words, constants);
-    }
-    false
+    within && each_kept(kinds, words, constants)
 }
 
 // Refusal 7 for one table.
-pub fn table(v: Checked, number: u8, kept: bool) -> Checked
+pub fn table(v: Result<usize, Refusal>, number: u8, kept: bool) -> Result<usize, Refusal>
     ensures { result ≡ table_of v number kept }
 {
-    match v {
-        Checked::No(r) => Checked::No(r),
-        Checked::Count(n) => {
-            if kept {
-                return Checked::Count(n);
-            }
-            Checked::No(Refusal::Table(number))
-        }
+    let n = v?;
+    if kept {
+        return Ok(n);
     }
+    Err(Refusal::Table(number))
 }
 
 // Whether phi_map has 0 or n entries, none past its buffer's end.
@@ -222,7 +213,15 @@ fn pairs_kept(words: usize, len: usize) -> bool
 }
 
 // Refusal 7: the lowest table that breaks its rule.
-fn tables(v: Checked, n: usize, kinds: &[u8], words: &[u64], counts: Counts, lens: Lens) -> Checked
+#[tactic(auto, unfolding(crate::specs::Check::tables_of))]
+fn tables(
+    v: Result<usize, Refusal>,
+    n: usize,
+    kinds: &[u8],
+    words: &[u64],
+    counts: Counts,
+    lens: Lens,
+) -> Result<usize, Refusal>
     ensures { result ≡ tables_of v n kinds.now words.now counts lens }
 {
     let v = table(v, 1, constants_kept(kinds, words, counts.constants));
@@ -232,26 +231,18 @@ fn tables(v: Checked, n: usize, kinds: &[u8], words: &[u64], counts: Counts, len
     table(v, 5, pairs_kept(counts.calls, lens.calls))
 }
 
-// 1 for a test that holds, else 0.
-pub fn bit(b: bool) -> usize
-    ensures { (result ≡ bool_byte b) × (result ≤ 1) }
-{
-    b as usize
-}
-
 // Counts the folding operators and the Phis.
+#[tactic(auto, using(laws::proofs::Many::many_few), unfolding(crate::specs::Check::tally_of, laws::specs::All::many))]
 pub fn tallied(code: &[u16]) -> Tally
     ensures { result ≡ tally_of code.now }
 {
     let n = code.len() / STRIDE;
     let mut folding: usize = 0;
     let mut phis: usize = 0;
-    let mut k: usize = 0;
-    while k < n {
+    for k in 0..n {
         let o = op_at(code, k);
-        folding += bit(is_folding(o));
-        phis += bit(o == Phi);
-        k += 1;
+        folding += usize::from(is_folding(o));
+        phis += usize::from(o == Phi);
     }
     Tally { folding, phis }
 }
@@ -260,13 +251,7 @@ pub fn tallied(code: &[u16]) -> Tally
 fn constant_room(constants: usize, folding: usize) -> usize
     ensures { result ≡ constant_room constants folding }
 {
-    if 65535 <= constants {
-        return constants;
-    }
-    if 65535 - constants <= folding {
-        return 65535;
-    }
-    constants + folding
+    constants.saturating_add(folding).min(65535).max(constants)
 }
 
 // The words of phi_sources that folding needs room for.
@@ -274,14 +259,11 @@ pub fn source_room(sources: usize, phis: usize) -> usize
     requires { phis < 2 ^ 63 }
     ensures { result ≡ source_room sources phis }
 {
-    let pairs = sources / 2;
-    if pairs < phis {
-        return 2 * phis;
-    }
-    2 * pairs
+    2 * phis.max(sources / 2)
 }
 
 // Whether the buffers have room for any chunk of n instructions, which has n folding operators and n Phis at most.
+#[tactic(auto, unfolding(crate::specs::Inner::ample))]
 fn is_ample(n: usize, counts: Counts, lens: Lens) -> bool
     requires { n < 2 ^ 63 }
     ensures { result ≡ ample n counts lens }
@@ -296,7 +278,13 @@ fn is_ample(n: usize, counts: Counts, lens: Lens) -> bool
 }
 
 // Refusal 5: the first buffer that is too short. Nothing is counted where there is room for anything.
-fn rooms(v: Checked, code: &[u16], counts: Counts, lens: Lens) -> Checked
+#[tactic(auto, using(laws::proofs::Many::many_few), unfolding(crate::specs::Check::rooms_of, crate::specs::Check::tally_of))]
+fn rooms(
+    v: Result<usize, Refusal>,
+    code: &[u16],
+    counts: Counts,
+    lens: Lens,
+) -> Result<usize, Refusal>
     ensures { result ≡ rooms_of v code.now counts lens }
 {
     let n = code.len() / STRIDE;
@@ -314,6 +302,7 @@ fn rooms(v: Checked, code: &[u16], counts: Counts, lens: Lens) -> Checked
 }
 
 // The tests of the folding call: refusals 1, 2, 4, 7 and 5.
+#[tactic(auto, unfolding(crate::specs::Check::ready_of))]
 pub fn ready(
     code: &[u16],
     tries: &[u32],
@@ -322,7 +311,7 @@ pub fn ready(
     counts: Counts,
     lens: Lens,
     landings: usize,
-) -> Checked
+) -> Result<usize, Refusal>
     ensures { result ≡ ready_of code.now tries.now kinds.now words.now counts lens landings }
 {
     let n = code.len() / STRIDE;

@@ -12,8 +12,8 @@ use Rattle.laws.proofs.Branch.{and-true}
 use Rattle.refusals.specs.Stages.{pairs, first_bad_try, tried_of, room_of}
 use Rattle.refusals.specs.declared.Refusal.TheVariants.{Try}
 use Rattle.ops.specs.Op.{Phi}
-use Rattle.refusals.specs.declared.Checked.{Checked}
-use Rattle.refusals.specs.declared.Checked.TheVariants.{Count, No}
+use Rattle.refusals.specs.Stages.{Checked}
+use Rattle.std.specs.declared.result.Result.TheVariants.{Ok, Err}
 use Rattle.refusals.proofs.Stages.{room_before, room_there}
 use Rattle.chunk.specs.Chunk.{chunk_count, is_phi}
 use Rattle.chunk.specs.Tables.{constant_kept, within, constants_kept, map_kept, pairs_kept, table_of}
@@ -28,13 +28,13 @@ use Rattle.clear.proofs.Loads.{recoded_count, recoded_op}
 use Rattle.clear.proofs.Twice.{check_same, constants_same}
 use Rattle.clear.proofs.Room.{no_more, operators_same, room_down}
 
-pub table_on : (n : ℕ) (v : Checked) (t : ℕ) (kept : Bool) → v ≡ Count n → kept ≡ true → table_of v t kept ≡ Count n
+pub table_on : (n : ℕ) (v : Checked) (t : ℕ) (kept : Bool) → v ≡ Ok n → kept ≡ true → table_of v t kept ≡ Ok n
 table_on n v t kept e f = rw (e, f)
 
-pub room_on : (n : ℕ) (v : Checked) (b have needed : ℕ) → v ≡ Count n → needed ≤ have → room_of v b have needed ≡ Count n
+pub room_on : (n : ℕ) (v : Checked) (b have needed : ℕ) → v ≡ Ok n → needed ≤ have → room_of v b have needed ≡ Ok n
 room_on n v b have needed e h = rw (e, le-ltb have needed h)
 
-pub room_met : (n : ℕ) (v : Checked) (b have needed : ℕ) → room_of v b have needed ≡ Count n → (v ≡ Count n) × (needed ≤ have)
+pub room_met : (n : ℕ) (v : Checked) (b have needed : ℕ) → room_of v b have needed ≡ Ok n → (v ≡ Ok n) × (needed ≤ have)
 room_met n v b have needed e = (room_before n v b have needed (sym e), room_there n v b have needed (sym e))
 
 pub tally_same : (number : ℕ → ℕ) (m : ℕ) (w : List ℕ) → tally_of (recoded number m w) ≡ tally_of w
@@ -51,11 +51,11 @@ abbrev pub counts_after : List ℕ → Counts → Counts
 counts_after w c = record { constants = before w c.constants; map = c.map; sources = c.sources; stmts = c.stmts; calls = c.calls }
 
 -- the table tests of the folding call
-tried_met : (n : ℕ) (v : Checked) (t : List ℕ) → tried_of v t ≡ Count n → v ≡ Count n
-tried_met n (No r) t e = absurd (let z : ◌≡◌ {A = ℕ} 0 1 = cc in omega arith)
-tried_met n (Count m) t e = go (ltb (first_bad_try t m) (pairs t)) e
+tried_met : (n : ℕ) (v : Checked) (t : List ℕ) → tried_of v t ≡ Ok n → v ≡ Ok n
+tried_met n (Err r) t e = absurd (let z : ◌≡◌ {A = ℕ} 0 1 = cc in omega arith)
+tried_met n (Ok m) t e = go (ltb (first_bad_try t m) (pairs t)) e
   where
-    go : (u : Bool) → cond u (No (Try (first_bad_try t m))) (Count m) ≡ Count n → Count m ≡ Count n
+    go : (u : Bool) → ◌≡◌ {A = Checked} (cond u (Err (Try (first_bad_try t m))) (Ok m)) (Ok n) → ◌≡◌ {A = Checked} (Ok m) (Ok n)
     go true e = absurd (let z : ◌≡◌ {A = ℕ} 0 1 = cc in omega arith)
     go false e = e
 
@@ -72,8 +72,8 @@ module _ (n : ℕ) (w tries kinds words : List ℕ) (c : Counts) (l : Lens) wher
   abbrev words' : List ℕ
   words' = pooled (constant_named w) m words
 
-  tables_again : tables_of (tried_of (chunk_check_of w) tries) (chunk_count w) kinds words c l ≡ Count n
-      → tables_of (tried_of (chunk_check_of w') tries) (chunk_count w') kinds' words' (counts_after w c) l ≡ Count n
+  tables_again : tables_of (tried_of (chunk_check_of w) tries) (chunk_count w) kinds words c l ≡ Ok n
+      → tables_of (tried_of (chunk_check_of w') tries) (chunk_count w') kinds' words' (counts_after w c) l ≡ Ok n
   unfolding tables_of
   tables_again e =
       let t₅ = table_met n _ 5 (pairs_kept c.calls l.calls) (sym e) in
@@ -93,7 +93,7 @@ module _ (n : ℕ) (w tries kinds words : List ℕ) (c : Counts) (l : Lens) wher
       table_on n _ 5 (pairs_kept c.calls l.calls) s₄ t₅.1
 
   -- and its tests of room
-  rooms_again : (v v' : Checked) → (v ≡ Count n → v' ≡ Count n) → rooms_of v w c l ≡ Count n → rooms_of v' w' (counts_after w c) l ≡ Count n
+  rooms_again : (v v' : Checked) → (v ≡ Ok n → v' ≡ Ok n) → rooms_of v w c l ≡ Ok n → rooms_of v' w' (counts_after w c) l ≡ Ok n
   unfolding rooms_of
   rooms_again v v' on e =
       let f = (tally_of w).folding in
@@ -111,8 +111,8 @@ module _ (n : ℕ) (w tries kinds words : List ℕ) (c : Counts) (l : Lens) wher
       let s₅ = room_on n _ 5 l.dead (chunk_count w) s₄ r₅.1 in
       rw (g, recoded_count (before w) m w) (room_on n _ 6 l.remap (chunk_count w + 1) s₅ r₆.1)
 
-  pub accepted_after : (landings : ℕ) → ready_of w tries kinds words c l landings ≡ Count n
-      → ready_of w' tries kinds' words' (counts_after w c) l landings ≡ Count n
+  pub accepted_after : (landings : ℕ) → ready_of w tries kinds words c l landings ≡ Ok n
+      → ready_of w' tries kinds' words' (counts_after w c) l landings ≡ Ok n
   unfolding ready_of
   accepted_after landings e =
       let r₇ = room_met n (rooms_of (tables_of (tried_of (chunk_check_of w) tries) (chunk_count w) kinds words c l) w c l) 7 landings (chunk_count w + 1) e in

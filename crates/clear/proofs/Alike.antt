@@ -12,20 +12,17 @@ use Rattle.laws.specs.Some.{some}
 use Rattle.ops.specs.Op.{LoadConst}
 use Rattle.chunk.specs.Chunk.{stride, chunk_count, op_at, mark_at, operand_at, marks_jump, names, is_phi, lands}
 use Rattle.values.specs.Folds.{fold_binop}
-use Rattle.values.specs.declared.Val.{Val}
-use Rattle.values.specs.declared.Maybe.{Maybe}
-use Rattle.values.specs.declared.Maybe.TheVariants.{Is, Nothing}
+use Rattle.std.specs.declared.option.Option.{Option}
+use Rattle.std.specs.declared.option.Option.TheVariants.{Some, None}
 use Rattle.values.specs.declared.Op.{Op}
 use Rattle.pool.specs.Pool.{const_to_val}
 use Rattle.landings.specs.Landings.{lands_any, handles_any, barred}
 use Rattle.fold.specs.Pass.{by_scan}
-use Rattle.fold.specs.Plan.{Chunk, kind_of, prev_live, operand_of, skips_into, blocked, with_found, with_val, fold_unary, try_fold_binop, try_fold_unary, plan_for, plan_at}
-use Rattle.operands.specs.declared.Found.{Found}
-use Rattle.operands.specs.declared.Found.TheVariants.{At, Nowhere}
+use Rattle.fold.specs.Plan.{Chunk, kind_of, prev_live, operand_of, skips_into, blocked, with_some, fold_unary, try_fold_binop, try_fold_unary, plan_for, plan_at}
 use Rattle.fold.specs.declared.Kind.{Kind}
 use Rattle.fold.specs.declared.Kind.TheVariants.{Binop, Not, Minus, Other}
 use Rattle.fold.specs.declared.Plan.{Plan}
-use Rattle.fold.specs.declared.Plan.TheVariants.{Stay, Put}
+use Rattle.fold.specs.Plan.{to_put}
 
 -- operand v of s and operand u of t load the same kind and word
 pub record SameLoad (s t : Chunk) (v u : ℕ) : Type 0 where
@@ -55,19 +52,12 @@ pub record Alike (limit : ℕ) (s t : Chunk) : Type 0 where
   pub apart : (k : ℕ) → names s.code k ≡ true → marks_jump s.code k ≡ false
   pub free : (k : ℕ) → names s.code k ≡ true → is_phi s.code k ≡ false
 
-found_both : {f f' : Found} {g h : ℕ → Plan} → f ≡ f' → ((p : ℕ) → g p ≡ h p) → with_found f g ≡ with_found f' h
-found_both {f} {f'} {g} {h} e x = rw e (go f')
+some_both : {A : Type 0} {a a' : Option A} {g h : A → Option Plan} → a ≡ a' → ((v : A) → g v ≡ h v) → with_some a g ≡ with_some a' h
+some_both {A} {a} {a'} {g} {h} e x = rw e (go a')
   where
-    go : (r : Found) → with_found r g ≡ with_found r h
-    go (At p) = x p
-    go Nowhere = refl
-
-val_both : {a a' : Maybe} {g h : Val → Plan} → a ≡ a' → ((v : Val) → g v ≡ h v) → with_val a g ≡ with_val a' h
-val_both {a} {a'} {g} {h} e x = rw e (go a')
-  where
-    go : (r : Maybe) → with_val r g ≡ with_val r h
-    go (Is v) = x v
-    go Nothing = refl
+    go : (r : Option A) → with_some r g ≡ with_some r h
+    go (Some v) = x v
+    go None = refl
 
 some_ext : (f g : ℕ → Bool) (n : ℕ) → ((k : ℕ) → f k ≡ g k) → some f n ≡ some g n
 unfolding some
@@ -125,18 +115,18 @@ module _ {limit : ℕ} {s t : Chunk} (a : Alike limit s t) where
     binop_same : (o : Op) → try_fold_binop bars o i s ≡ try_fold_binop bars o i t
     unfolding try_fold_binop
     binop_same o =
-        found_both (ap (λ (d : List ℕ). prev_live d i) a.dead) (λ q.
-        found_both (ap (λ (d : List ℕ). prev_live d q) a.dead) (λ p.
-        val_both (operand_same low low' p) (λ x.
-        val_both (operand_same low low' q) (λ y.
-        val_both {a = fold_binop o x y} refl (λ v. ap (λ (b : Bool). cond b Stay (Put p q v)) (blocked_same bars p i))))))
+        some_both (ap (λ (d : List ℕ). prev_live d i) a.dead) (λ q.
+        some_both (ap (λ (d : List ℕ). prev_live d q) a.dead) (λ p.
+        some_both (operand_same low low' p) (λ x.
+        some_both (operand_same low low' q) (λ y.
+        some_both {a = fold_binop o x y} refl (λ v. ap (λ (b : Bool). cond b None (to_put p q v)) (blocked_same bars p i))))))
 
     unary_same : (minus : Bool) → try_fold_unary bars minus i s ≡ try_fold_unary bars minus i t
     unfolding try_fold_unary
     unary_same minus =
-        found_both (ap (λ (d : List ℕ). prev_live d i) a.dead) (λ p.
-        val_both (operand_same low low' p) (λ x.
-        val_both {a = fold_unary minus x} refl (λ v. ap (λ (b : Bool). cond b Stay (Put p i v)) (blocked_same bars p i))))
+        some_both (ap (λ (d : List ℕ). prev_live d i) a.dead) (λ p.
+        some_both (operand_same low low' p) (λ x.
+        some_both {a = fold_unary minus x} refl (λ v. ap (λ (b : Bool). cond b None (to_put p i v)) (blocked_same bars p i))))
 
     pub plan_same : plan_at bars i s ≡ plan_at bars i t
     unfolding plan_at plan_for

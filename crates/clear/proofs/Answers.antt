@@ -3,8 +3,8 @@ use Prim.Native.Nat.{ℕ}
 use native.Mathlib.Omega.{arith}
 use mathlib.Core.Path.{◌≡◌, refl, sym, ap, ◌∙◌}
 use Rattle.refusals.specs.declared.Refusal.{Refusal}
-use Rattle.refusals.specs.declared.Checked.{Checked}
-use Rattle.refusals.specs.declared.Checked.TheVariants.{Count, No as Refused}
+use Rattle.refusals.specs.Stages.{Checked}
+use Rattle.std.specs.declared.result.Result.TheVariants.{Ok, Err}
 use Rattle.named.specs.Unused.{constant_named, before, pooled, recoded, numbered}
 use Rattle.clear.specs.Clear.{Is, No, PoolBuffers, ClearOutcome, clear_outcome, cleared, clear_ready_of, clear_call}
 
@@ -17,11 +17,11 @@ pub record Answered (b : PoolBuffers) (m r : ℕ) (a : PoolBuffers) : Type 0 whe
   pub scratch : a.scratch ≡ numbered (before b.code) m b.scratch
 
 module _ (b : PoolBuffers) (m : ℕ) where
-  pub refused_call : (q : Refusal) → clear_ready_of b m ≡ Refused q → clear_call b m ≡ clear_outcome (No q) b
+  pub refused_call : (q : Refusal) → clear_ready_of b m ≡ Err q → clear_call b m ≡ clear_outcome (No q) b
   unfolding clear_call
   refused_call q e = rw e
 
-  pub answered_call : (n : ℕ) → clear_ready_of b m ≡ Count n → clear_call b m ≡ clear_outcome (Is (before b.code m)) (cleared b m).after
+  pub answered_call : (n : ℕ) → clear_ready_of b m ≡ Ok n → clear_call b m ≡ clear_outcome (Is (before b.code m)) (cleared b m).after
   unfolding clear_call cleared
   answered_call n e = rw e
 
@@ -33,10 +33,10 @@ module _ (b : PoolBuffers) (m : ℕ) where
   answered r a e = go (clear_ready_of b m) refl
     where
       go : (v : Checked) → clear_ready_of b m ≡ v → Answered b m r a
-      go (Refused q) f =
+      go (Err q) f =
           let y : No q ≡ Is r = ap (λ (x : ClearOutcome). x.answer) (sym (refused_call q f) ∙ e) in
           absurd (let z : ◌≡◌ {A = ℕ} 0 1 = cc in omega arith)
-      go (Count n) f =
+      go (Ok n) f =
           let h : clear_outcome (Is (before b.code m)) (cleared b m).after ≡ clear_outcome (Is r) a = sym (answered_call n f) ∙ e in
           let y : Is (before b.code m) ≡ Is r = ap (λ (x : ClearOutcome). x.answer) h in
           let i : before b.code m ≡ r = cc in
@@ -47,7 +47,7 @@ module _ (b : PoolBuffers) (m : ℕ) where
   refusal_keeps q a e = go (clear_ready_of b m) refl
     where
       go : (v : Checked) → clear_ready_of b m ≡ v → a ≡ b
-      go (Refused r) f = ap (λ (x : ClearOutcome). x.after) (sym e ∙ refused_call r f)
-      go (Count n) f =
+      go (Err r) f = ap (λ (x : ClearOutcome). x.after) (sym e ∙ refused_call r f)
+      go (Ok n) f =
           let y : Is (before b.code m) ≡ No q = ap (λ (x : ClearOutcome). x.answer) (sym (answered_call n f) ∙ e) in
           absurd (let z : ◌≡◌ {A = ℕ} 0 1 = cc in omega arith)

@@ -16,16 +16,17 @@ use Rattle.chunk.specs.Chunk.{chunk_count, operand_at, names}
 use Rattle.values.specs.declared.Val.{Val}
 use Rattle.values.specs.declared.Val.TheVariants.{Int, Float as Real, Bool as Truth}
 use Rattle.pool.specs.Pool.{Stored, stored, find_or_push, find_or_push_const}
-use Rattle.pool.specs.declared.Kept.TheVariants.{At}
 use Rattle.fold.specs.Plan.{Chunk, chunk, plan_at}
 use Rattle.fold.specs.Pass.{load_of, const_load, mark_of, put, landed, applied, try_fold}
 use Rattle.fold.specs.Inner.{OperatorRoom}
-use Rattle.fold.specs.declared.Plan.{Plan}
-use Rattle.fold.specs.declared.Plan.TheVariants.{Stay, Put}
 use Rattle.fold.proofs.Planned.{planned}
 use Rattle.fold.proofs.Put.{put_long, put_other, mark_other, operand_other, put_here, mark_here, operand_here, jump_here, jump_other}
 use Rattle.clear.proofs.Alike.{SameLoad, Loads, Alike, plan_same}
 use Rattle.clear.proofs.Pools.{cases, Grew, grew_none, Pools, fewer, stepped}
+use Rattle.std.specs.declared.option.Option.{Option}
+use Rattle.std.specs.declared.option.Option.TheVariants.{Some, None}
+use Rattle.fold.specs.declared.Plan.{Plan}
+use Rattle.fold.specs.Plan.{to_put}
 
 -- ---- a load that is put at p
 
@@ -123,7 +124,7 @@ pub record Sim (limit : ℕ) (s t : Chunk) : Type 0 where
 abbrev pub settled : Stored → (p q i : ℕ) → Chunk → Chunk
 settled r p q i s = landed (load_of r.kept) r.kinds r.words p q i s
 
-settled_at : (r : Stored) (x n : ℕ) (ks ws : List ℕ) (p q i : ℕ) (s : Chunk) → stored (At x n) ks ws ≡ r → settled r p q i s ≡ wrote s p q i LoadConst x ks ws n
+settled_at : (r : Stored) (x n : ℕ) (ks ws : List ℕ) (p q i : ℕ) (s : Chunk) → stored (Some (x, n)) ks ws ≡ r → settled r p q i s ≡ wrote s p q i LoadConst x ks ws n
 unfolding landed
 settled_at r x n ks ws p q i s e = rw (← e)
 
@@ -155,7 +156,7 @@ module _ {limit : ℕ} {s t : Chunk} (z : Sim limit s t) (p q i : ℕ) (h : p < 
 
   put_sim : (v : Val) → s.constants < 65535 → s.constants < length s.kinds → s.constants < length s.words → t.constants < length t.kinds
       → t.constants < length t.words
-      → Sim limit (applied (Put p q v) i s) (applied (Put p q v) i t)
+      → Sim limit (applied (to_put p q v) i s) (applied (to_put p q v) i t)
   unfolding applied landed const_load find_or_push_const
   put_sim (Int x) few a b c d = pool_sim few a b c d 1 (of_z w64 x)
   put_sim (Real x) few a b c d = pool_sim few a b c d 2 (to_bits binary64 x)
@@ -164,26 +165,26 @@ module _ {limit : ℕ} {s t : Chunk} (z : Sim limit s t) (p q i : ℕ) (h : p < 
 
 -- one attempt
 module _ (bars : ℕ → Bool) (i : ℕ) (s : Chunk) where
-  pub try_live : (plan : Plan) → eqb (get_or s.dead i 0) 0 ≡ true → plan_at bars i s ≡ plan → try_fold bars i s ≡ applied plan i s
+  pub try_live : (plan : Option Plan) → eqb (get_or s.dead i 0) 0 ≡ true → plan_at bars i s ≡ plan → try_fold bars i s ≡ applied plan i s
   unfolding try_fold
-  try_live plan e f = rw e (ap (λ (x : Plan). applied x i s) f)
+  try_live plan e f = rw e (ap (λ (x : Option Plan). applied x i s) f)
 
   pub try_dead : eqb (get_or s.dead i 0) 0 ≡ false → try_fold bars i s ≡ s
   unfolding try_fold
   try_dead e = rw e
 
-applied_sim : {limit : ℕ} (bars : ℕ → Bool) (i : ℕ) (s t : Chunk) → Sim limit s t → s.constants < 65535 → OperatorRoom s i → OperatorRoom t i → (plan : Plan)
+applied_sim : {limit : ℕ} (bars : ℕ → Bool) (i : ℕ) (s t : Chunk) → Sim limit s t → s.constants < 65535 → OperatorRoom s i → OperatorRoom t i → (plan : Option Plan)
     → plan_at bars i s ≡ plan → plan_at bars i t ≡ plan
     → Sim limit (applied plan i s) (applied plan i t)
 unfolding applied
-applied_sim bars i s t z few r r' Stay e f = z
-applied_sim bars i s t z few r r' (Put p q v) e f =
+applied_sim bars i s t z few r r' None e f = z
+applied_sim bars i s t z few r r' (Some u) e f =
     let x = planned bars i s e in
     let y = planned bars i t f in
     let m = r.room x.operator in
     let m' = r'.room y.operator in
     let w = fewer z.pools in
-    put_sim z p q i (omega (arith, x.first, r.readable.here)) v few (m.kinds_more few) (m.words_more few) (m'.kinds_more (omega arith))
+    put_sim z u.at u.dies i (omega (arith, x.first, r.readable.here)) u.value few (m.kinds_more few) (m.words_more few) (m'.kinds_more (omega arith))
     (m'.words_more (omega arith))
 
 pub try_sim : {limit : ℕ} (bars : ℕ → Bool) (i : ℕ) (s t : Chunk) → Sim limit s t → s.constants ≤ limit → s.constants < 65535 → OperatorRoom s i

@@ -1,20 +1,21 @@
 -- Laws of `packed_list` and `freed`, for the loops that write them in place. Assumes nothing.
-use Prim.Native.Nat.{ℕ, ◌+◌, ◌-◌, ◌≤◌, ◌<◌}
+use Prim.Native.Nat.{ℕ, ◌+◌, ◌≤◌, ◌<◌}
 use native.Mathlib.Nat.{le_refl}
 use native.Mathlib.Omega.{arith}
 use mathlib.Core.Path.{◌≡◌, refl, sym, ap, ◌∙◌}
 use mathlib.Core.Bool.{Bool, true, false, not}
-use mathlib.Core.List.{List, [], ◌∷◌, ◌++◌, append-nil, append_assoc}
+use mathlib.Core.List.{List, [], ◌∷◌, ◌++◌, append-nil}
 use lib.Dec.{eqb}
-use lib.ListN.{length, get_or, set, take, drop, replicate}
+use borrow.Author.Tests.{eq-eqb, ne_eqb}
+use lib.ListN.{length, get_or, set}
 use Rattle.laws.specs.All.{many}
 use Rattle.laws.specs.Each.{each}
 use Rattle.laws.proofs.Many.{many_more, many_few}
 use Rattle.laws.proofs.Each.{each_more}
-use Rattle.laws.proofs.InPlace.{Walked, walk_none, walk_read, walk_pass, walk_put, walk_as, walk_end, word_put, Cleared, cleared_more}
+use Rattle.laws.proofs.InPlace.{Walked, walk_none, walk_read, walk_pass, walk_put, walk_as, walk_end, word_put}
 use Rattle.named.specs.Unused.{packed_at, packed_list, numbered}
 use Rattle.named.specs.Inner.{marked_in}
-use Rattle.clear.specs.Inner.{Moved, Down, freed}
+use Rattle.clear.specs.Inner.{Moved, Down}
 
 -- ---- the constants that move down
 
@@ -73,10 +74,10 @@ module _ {kinds kinds₀ words words₀ scratch scratch₀ : List ℕ} {to i : �
   read_mark : (b : Bool) → eqb (get_or scratch i 0) 0 ≡ b → marked_in scratch₀ i ≡ not b
   read_mark b e = let r = walk_read g.numbers i (le_refl i) in rw (← r, e)
 
-  pub going_skip : (m : ℕ) → eqb (get_or scratch i 0) 0 ≡ true → i < m → m ≤ length scratch₀
+  pub going_skip : (m : ℕ) → get_or scratch i 0 ≡ 0 → i < m → m ≤ length scratch₀
       → Going kinds kinds₀ words words₀ (set scratch i to) scratch₀ to (i + 1)
   going_skip m e b l =
-      let u = read_mark true e in
+      let u = read_mark true (eq-eqb _ 0 e) in
       let h : i < length scratch₀ = omega arith in
       record {
         in_kinds = keeping_skip g.in_kinds u;
@@ -85,10 +86,10 @@ module _ {kinds kinds₀ words words₀ scratch scratch₀ : List ℕ} {to i : �
         counts = g.counts ∙ sym (count_off (marked_in scratch₀) i u);
       }
 
-  pub going_put : (m : ℕ) → eqb (get_or scratch i 0) 0 ≡ false → i < m → m ≤ length scratch₀ → m ≤ length kinds₀ → m ≤ length words₀
+  pub going_put : (m : ℕ) → (get_or scratch i 0 ≡ 0 → ⊥) → i < m → m ≤ length scratch₀ → m ≤ length kinds₀ → m ≤ length words₀
       → Going (set kinds to (get_or kinds i 0)) kinds₀ (set words to (get_or words i 0)) words₀ (set scratch i to) scratch₀ (to + 1) (i + 1)
   going_put m e b l k w =
-      let u = read_mark false e in
+      let u = read_mark false (ne_eqb _ 0 e) in
       let h : i < length scratch₀ = omega arith in
       record {
         in_kinds = keeping_put g.in_kinds u (omega arith);
@@ -99,15 +100,6 @@ module _ {kinds kinds₀ words words₀ scratch scratch₀ : List ℕ} {to i : �
 
   pub going_few : to ≤ i
   going_few = omega (arith, g.counts, many_few (marked_in scratch₀) i)
-
-  pub going_kinds : length kinds ≡ length kinds₀
-  going_kinds = g.in_kinds.walked.same
-
-  pub going_words : length words ≡ length words₀
-  going_words = g.in_words.walked.same
-
-  pub going_scratch : length scratch ≡ length scratch₀
-  going_scratch = g.numbers.same
 
   pub going_done : (m : ℕ) → m ≤ i → i ≤ m → Down (marked_in scratch₀) m to kinds₀ kinds words₀ words scratch₀ scratch
   unfolding numbered
@@ -121,14 +113,3 @@ module _ {kinds kinds₀ words words₀ scratch scratch₀ : List ℕ} {to i : �
         words_moved = keeping_done g.in_words m e;
         numbers = rw e at (walk_end g.numbers);
       }
-
--- ---- the freed entries
-
-module _ {xs old : List ℕ} {a i : ℕ} (c : Cleared xs old a i) where
-  pub freeing_more : (m : ℕ) → i < m → m ≤ length old → Cleared (set xs i 0) old a (i + 1)
-  freeing_more m b l = cleared_more c (omega (arith, c.walked.same))
-
-  pub freeing_done : (m : ℕ) → m ≤ i → i ≤ m → xs ≡ freed a m old
-  freeing_done m h l =
-      let e : i ≡ m = omega arith in
-      (rw e at (walk_end c.walked)) ∙ append_assoc (take a old) (replicate (m - a) 0) (drop m old)

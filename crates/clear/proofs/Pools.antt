@@ -16,9 +16,9 @@ use Rattle.laws.proofs.Branch.{and-true}
 use Rattle.laws.proofs.Many.{many_few, many_more}
 use Rattle.laws.proofs.Walk.{none_passed, first_passes}
 use Rattle.pool.specs.Pool.{equals, position, stored, find_or_push}
-use Rattle.pool.specs.declared.Kept.TheVariants.{At}
 use Rattle.pool.proofs.Store.{found, pushed}
 use Rattle.laws.proofs.Counting.{many_ext}
+use Rattle.std.specs.declared.option.Option.TheVariants.{Some}
 
 pub cases : {X : Type 0} (a b : ℕ) → (a ≡ b → X) → ((a ≡ b → ⊥) → X) → X
 cases {X} a b y n = go (eqb a b) refl
@@ -160,8 +160,8 @@ pub record Stepped (ks ws : List ℕ) (n : ℕ) (kt wt : List ℕ) (m k w : ℕ)
   pub kt' : List ℕ
   pub wt' : List ℕ
   pub m' : ℕ
-  pub in_s : stored (At x n') ks' ws' ≡ find_or_push ks ws n k w
-  pub in_t : stored (At y m') kt' wt' ≡ find_or_push kt wt m k w
+  pub in_s : stored (Some (x, n')) ks' ws' ≡ find_or_push ks ws n k w
+  pub in_t : stored (Some (y, m')) kt' wt' ≡ find_or_push kt wt m k w
   pub grew_s : Grew ks ws n ks' ws' n'
   pub grew_t : Grew kt wt m kt' wt' m'
   pub there : x < n'

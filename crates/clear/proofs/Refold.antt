@@ -18,18 +18,15 @@ use Rattle.laws.proofs.Branch.{and-true, or_false}
 use Rattle.laws.proofs.Walk.{none_passed}
 use Rattle.ops.specs.Op.{last, LoadConst, Phi}
 use Rattle.refusals.specs.declared.Refusal.TheVariants.{Length, Record}
-use Rattle.refusals.specs.declared.Checked.TheVariants.{Count}
+use Rattle.std.specs.declared.result.Result.TheVariants.{Ok}
 use Rattle.chunk.specs.Chunk.{stride, chunk_count, op_at, mark_at, operand_at, names, folds, jump_kept, names_kept, chunk_rules, breaks_at}
 use Rattle.chunk.specs.Check.{uneven_chunk, first_bad_of, chunk_check_of}
 use Rattle.values.specs.declared.Val.{Val}
 use Rattle.values.specs.declared.Val.TheVariants.{Int, Float as Real, Bool as Truth}
 use Rattle.pool.specs.Pool.{position, stored, find_or_push, find_or_push_const}
-use Rattle.pool.specs.declared.Kept.TheVariants.{At, Full}
 use Rattle.fold.specs.Plan.{Chunk, chunk, plan_at}
 use Rattle.fold.specs.Pass.{const_load, put, landed, applied, try_fold, Bars, by_scan, folded, fold_all}
 use Rattle.fold.specs.Inner.{PassRoom}
-use Rattle.fold.specs.declared.Plan.{Plan}
-use Rattle.fold.specs.declared.Plan.TheVariants.{Stay, Put}
 use Rattle.fold.proofs.Put.{put_long}
 use Rattle.fold.proofs.Grown.{Held, held_none, held_more, held_ready}
 use Rattle.named.specs.Unused.{AllNear, constant_named, before, pooled, recoded}
@@ -40,6 +37,10 @@ use Rattle.clear.proofs.Room.{cleared_chunk, room_after}
 use Rattle.clear.proofs.Alike.{bars_same, SameLoad, Loads, Alike}
 use Rattle.clear.proofs.Pools.{Pools, fewer}
 use Rattle.clear.proofs.Attempts.{Sim, settled, try_live, try_dead, try_sim}
+use Rattle.std.specs.declared.option.Option.{Option}
+use Rattle.std.specs.declared.option.Option.TheVariants.{Some, None}
+use Rattle.fold.specs.declared.Plan.{Plan}
+use Rattle.fold.specs.Plan.{to_put}
 
 -- ---- lengths stay, and the count never falls
 
@@ -69,25 +70,25 @@ module _ (p q i : ℕ) (s : Chunk) where
       go : (a b : Bool)
           → Long s
           (settled
-          (cond a (stored (At (position s.kinds s.words n k w) n) s.kinds s.words)
-          (cond b (stored (At n (n + 1)) (set s.kinds n k) (set s.words n w)) (stored Full s.kinds s.words)))
+          (cond a (stored (Some (position s.kinds s.words n k w, n)) s.kinds s.words)
+          (cond b (stored (Some (n, n + 1)) (set s.kinds n k) (set s.words n w)) (stored None s.kinds s.words)))
           p q i s)
       go true b = long_wrote LoadConst (position s.kinds s.words n k w) s.kinds s.words n refl refl (omega arith)
       go false true = long_wrote LoadConst n (set s.kinds n k) (set s.words n w) (n + 1) (length-set s.kinds n k) (length-set s.words n w)
           (omega arith)
       go false false = long_same s
 
-  long_put : (v : Val) → Long s (applied (Put p q v) i s)
+  long_put : (v : Val) → Long s (applied (to_put p q v) i s)
   unfolding applied landed const_load find_or_push_const
   long_put (Int x) = long_pool 1 (of_z w64 x)
   long_put (Real x) = long_pool 2 (to_bits binary64 x)
   long_put (Truth true) = long_wrote _ 0 s.kinds s.words s.constants refl refl (omega arith)
   long_put (Truth false) = long_wrote _ 0 s.kinds s.words s.constants refl refl (omega arith)
 
-long_applied : (plan : Plan) (i : ℕ) (s : Chunk) → Long s (applied plan i s)
+long_applied : (plan : Option Plan) (i : ℕ) (s : Chunk) → Long s (applied plan i s)
 unfolding applied
-long_applied Stay i s = long_same s
-long_applied (Put p q v) i s = long_put p q i s v
+long_applied None i s = long_same s
+long_applied (Some f) i s = long_put f.at f.dies i s f.value
 
 long_try : (bars : ℕ → Bool) (i : ℕ) (s : Chunk) → Long s (try_fold bars i s)
 long_try bars i s = go (eqb (get_or s.dead i 0) 0) refl
@@ -167,11 +168,11 @@ module _ (strict : Bool) (tries : List ℕ) (s t : Chunk) (n : ℕ) (c : n ≡ c
 
 -- ---- what the record rules say of an accepted chunk
 
-pub accepted_at : (n : ℕ) (w : List ℕ) → chunk_check_of w ≡ Count n → (k : ℕ) → k < chunk_count w → chunk_rules (op_at w k) (mark_at w k) ≡ true
+pub accepted_at : (n : ℕ) (w : List ℕ) → chunk_check_of w ≡ Ok n → (k : ℕ) → k < chunk_count w → chunk_rules (op_at w k) (mark_at w k) ≡ true
 unfolding chunk_check_of
 accepted_at n w e k h = go (uneven_chunk w) refl (ltb (first_bad_of w) (chunk_count w)) refl e
   where
-    go : (u : Bool) → uneven_chunk w ≡ u → (b : Bool) → ltb (first_bad_of w) (chunk_count w) ≡ b → chunk_check_of w ≡ Count n → chunk_rules (op_at w k) (mark_at w k) ≡
+    go : (u : Bool) → uneven_chunk w ≡ u → (b : Bool) → ltb (first_bad_of w) (chunk_count w) ≡ b → chunk_check_of w ≡ Ok n → chunk_rules (op_at w k) (mark_at w k) ≡
         true
     go true f b g e = never n (Length (length w)) (sym (rw f at e))
     go false f true g e = never n (Record (first_bad_of w)) (sym (rw (f, g) at e))
@@ -236,7 +237,7 @@ in_or_past {X} k n y z = go (ltb k n) refl
     go true e = y (ltb-true k n e)
     go false e = z (ltb-false k n e)
 
-module _ (n : ℕ) (s : Chunk) (ok : chunk_check_of s.code ≡ Count n) (limit : ℕ) (up : s.constants ≤ limit)
+module _ (n : ℕ) (s : Chunk) (ok : chunk_check_of s.code ≡ Ok n) (limit : ℕ) (up : s.constants ≤ limit)
     (near : AllNear s.code s.constants limit) where
   abbrev w : List ℕ
   w = s.code
@@ -333,7 +334,7 @@ more_all bars s =
     rw (folded_none bars s) at h)
 
 -- folding before and after: asked is that each operand with the mark is below the count, or at or past the count that the uncleared fold ends with
-module _ (n : ℕ) (s : Chunk) (ok : chunk_check_of s.code ≡ Count n) (strict : Bool) (tries : List ℕ)
+module _ (n : ℕ) (s : Chunk) (ok : chunk_check_of s.code ≡ Ok n) (strict : Bool) (tries : List ℕ)
     (near : AllNear s.code s.constants (fold_all (by_scan strict tries) s).constants)
     (x : PassRoom s) (few : (fold_all (by_scan strict tries) s).constants < 65535) where
   both : Sim (fold_all (by_scan strict tries) s).constants (fold_all (by_scan strict tries) s) (fold_all (by_scan strict tries) (cleared_chunk s))

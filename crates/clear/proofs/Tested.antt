@@ -15,8 +15,8 @@ use Rattle.refusals.specs.Answers.{answer_of, refused_of}
 use Rattle.refusals.specs.declared.Answer.{Answer}
 use Rattle.refusals.specs.declared.Refusal.{Refusal}
 use Rattle.refusals.specs.declared.Refusal.TheVariants.{Length, Table}
-use Rattle.refusals.specs.declared.Checked.{Checked}
-use Rattle.refusals.specs.declared.Checked.TheVariants.{Count, No as Refused}
+use Rattle.refusals.specs.Stages.{Checked}
+use Rattle.std.specs.declared.result.Result.TheVariants.{Ok, Err}
 use Rattle.chunk.specs.Chunk.{stride, chunk_count}
 use Rattle.chunk.specs.Tables.{constant_kept, within, constants_kept, table_of}
 use Rattle.chunk.specs.Check.{uneven_chunk, chunk_check_of}
@@ -24,19 +24,19 @@ use Rattle.chunk.proofs.Kept.{few, kinds_there, words_there}
 use Rattle.clear.specs.Clear.{Is, No, PoolBuffers, clear_outcome, cleared, clear_ready_of, clear_call, ClearTold}
 use Rattle.clear.specs.Inner.{ClearRoom}
 
-pub never : {A : Type 0} (n : ℕ) (r : Refusal) → Count n ≡ Refused r → A
+pub never : {A : Type 0} (n : ℕ) (r : Refusal) → Ok n ≡ Err r → A
 never n r e = let z : ◌≡◌ {A = ℕ} 0 1 = cc in absurd (omega arith)
 
-pub table_met : (n : ℕ) (v : Checked) (t : ℕ) (kept : Bool) → Count n ≡ table_of v t kept → (v ≡ Count n) × (kept ≡ true)
-table_met n (Refused r) t kept e = never n r e
-table_met n (Count m) t true e = (sym e, refl)
-table_met n (Count m) t false e = never n (Table t) e
+pub table_met : (n : ℕ) (v : Checked) (t : ℕ) (kept : Bool) → Ok n ≡ table_of v t kept → (v ≡ Ok n) × (kept ≡ true)
+table_met n (Err r) t kept e = never n r e
+table_met n (Ok m) t true e = (sym e, refl)
+table_met n (Ok m) t false e = never n (Table t) e
 
-pub check_met : (n : ℕ) (w : List ℕ) → Count n ≡ chunk_check_of w → length w % stride ≡ 0
+pub check_met : (n : ℕ) (w : List ℕ) → Ok n ≡ chunk_check_of w → length w % stride ≡ 0
 unfolding chunk_check_of
 check_met n w h = go (uneven_chunk w) refl h
   where
-    go : (u : Bool) → uneven_chunk w ≡ u → Count n ≡ chunk_check_of w → length w % stride ≡ 0
+    go : (u : Bool) → uneven_chunk w ≡ u → Ok n ≡ chunk_check_of w → length w % stride ≡ 0
     go true e h = never n (Length (length w)) (rw e at h)
     go false e h = eqb-true (length w % stride) 0 (not-false _ (or_false (not (eqb (length w % stride) 0)) (ltb 65535 (chunk_count w)) e).0)
 
@@ -44,10 +44,10 @@ pub whole_of : (w : List ℕ) → length w % stride ≡ 0 → length w ≡ strid
 whole_of w e = omega arith
 
 module _ (b : PoolBuffers) (m : ℕ) (v : Checked) (e : v ≡ clear_ready_of b m) where
-  pub held_of : (n : ℕ) → v ≡ Count n → ClearRoom b m
+  pub held_of : (n : ℕ) → v ≡ Ok n → ClearRoom b m
   unfolding clear_ready_of
   held_of n f =
-      let r : Count n ≡ clear_ready_of b m = sym f ∙ e in
+      let r : Ok n ≡ clear_ready_of b m = sym f ∙ e in
       let v₁ = table_of (chunk_check_of b.code) 1 (constants_kept b.kinds b.words m) in
       let t = table_met n (chunk_check_of b.code) 1 (constants_kept b.kinds b.words m) (sym (room_before n v₁ 1 (length b.scratch) m r)) in
       let i = (and-true (within m (length b.kinds) (length b.words)) (every (constant_kept b.kinds b.words) m) t.1).0 in
@@ -59,7 +59,7 @@ module _ (b : PoolBuffers) (m : ℕ) (v : Checked) (e : v ≡ clear_ready_of b m
         scratch = room_there n v₁ 1 (length b.scratch) m r;
       }
 
-  pub refused_by : (q : Refusal) (r : Answer) → v ≡ Refused q → r ≡ refused_of q → ClearTold b m r b
+  pub refused_by : (q : Refusal) (r : Answer) → v ≡ Err q → r ≡ refused_of q → ClearTold b m r b
   unfolding clear_call
   refused_by q r h z =
       record {
@@ -68,7 +68,7 @@ module _ (b : PoolBuffers) (m : ℕ) (v : Checked) (e : v ≡ clear_ready_of b m
         is = z;
       }
 
-  pub told_by : (n left : ℕ) (b' : PoolBuffers) (r : Answer) → v ≡ Count n → clear_outcome (Is left) b' ≡ cleared b m → r ≡ answer_of left 0 0 0
+  pub told_by : (n left : ℕ) (b' : PoolBuffers) (r : Answer) → v ≡ Ok n → clear_outcome (Is left) b' ≡ cleared b m → r ≡ answer_of left 0 0 0
       → ClearTold b m r b'
   unfolding clear_call
   told_by n left b' r h g z =

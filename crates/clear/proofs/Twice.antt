@@ -16,8 +16,8 @@ use Rattle.laws.specs.Walk.{first}
 use Rattle.laws.proofs.Branch.{and-true}
 use Rattle.laws.proofs.Each.{each_word}
 use Rattle.laws.proofs.Many.{many_few}
-use Rattle.refusals.specs.declared.Checked.{Checked}
-use Rattle.refusals.specs.declared.Checked.TheVariants.{Count, No as Refused}
+use Rattle.refusals.specs.Stages.{Checked}
+use Rattle.std.specs.declared.result.Result.TheVariants.{Ok, Err}
 use Rattle.refusals.proofs.Stages.{room_before}
 use Rattle.chunk.specs.Chunk.{stride, chunk_count, operand_at, names, breaks_at}
 use Rattle.chunk.specs.Tables.{constant_kept, within, constants_kept, table_of}
@@ -175,11 +175,11 @@ numbered_length : (number : ℕ → ℕ) (m : ℕ) (l : List ℕ) → m ≤ leng
 unfolding numbered
 numbered_length number m l h = length-append (each (λ i. number i ∷ []) m) (drop m l) ∙ omega (arith, each_word number m, length-drop m l)
 
-module _ (b : PoolBuffers) (m n : ℕ) (ready : clear_ready_of b m ≡ Count n) where
+module _ (b : PoolBuffers) (m n : ℕ) (ready : clear_ready_of b m ≡ Ok n) where
   held : ClearRoom b m
-  held = held_of b m (Count n) (sym ready) n refl
+  held = held_of b m (Ok n) (sym ready) n refl
 
-  ready_again : clear_ready_of (cleared b m).after (before b.code m) ≡ Count n
+  ready_again : clear_ready_of (cleared b m).after (before b.code m) ≡ Ok n
   unfolding clear_ready_of cleared
   ready_again =
       let v = table_of (chunk_check_of b.code) 1 (constants_kept b.kinds b.words m) in
@@ -203,10 +203,10 @@ pub clear_twice : (b : PoolBuffers) (m r : ℕ) (a : PoolBuffers) → clear_call
 clear_twice b m r a e = go (clear_ready_of b m) refl
   where
     go : (v : Checked) → clear_ready_of b m ≡ v → Again a r (clear_call a r)
-    go (Refused q) f =
+    go (Err q) f =
         let y : No q ≡ Is r = ap (λ (x : ClearOutcome). x.answer) (sym (refused_call b m q f) ∙ e) in
         absurd (let z : ◌≡◌ {A = ℕ} 0 1 = cc in omega arith)
-    go (Count n) f =
+    go (Ok n) f =
         let h : clear_outcome (Is (before b.code m)) (cleared b m).after ≡ clear_outcome (Is r) a = sym (answered_call b m n f) ∙ e in
         let y : Is (before b.code m) ≡ Is r = ap (λ (x : ClearOutcome). x.answer) h in
         let i : before b.code m ≡ r = cc in

@@ -13,7 +13,7 @@ use Rattle.laws.specs.Each.{each}
 use Rattle.laws.proofs.Many.{many_few}
 use Rattle.laws.proofs.Each.{each_ext, each_word, each_at}
 use Rattle.refusals.specs.Stages.{room_of}
-use Rattle.refusals.specs.declared.Checked.{Checked}
+use Rattle.refusals.specs.Stages.{Checked}
 use Rattle.chunk.specs.Chunk.{chunk_count, operand_at, mark_at, op_at, origin_at, names}
 use Rattle.chunk.specs.Tables.{constants_kept, table_of}
 use Rattle.chunk.specs.Check.{chunk_check_of}

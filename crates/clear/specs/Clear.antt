@@ -3,7 +3,7 @@ use Rattle.std.specs.Prelude.{ℕ, ◌≡◌, List, length}
 use Rattle.refusals.specs.Answers.{asked, answer_of, refused_of}
 use Rattle.refusals.specs.Stages.{room_of}
 use Rattle.refusals.specs.declared.Answer.{Answer}
-use Rattle.refusals.specs.declared.Checked.{Checked}
+use Rattle.refusals.specs.Stages.{Checked}
 use Rattle.refusals.specs.declared.Refusal.{Refusal}
 use Rattle.chunk.specs.Tables.{constants_kept, table_of}
 use Rattle.chunk.specs.Check.{chunk_check_of}

@@ -6,7 +6,7 @@ ghost use Rattle.named.specs.Inner.{marked_in};
 ghost use Rattle.clear.specs.Inner.{Down, freed, ClearRoom};
 ghost use Rattle.clear.specs.Clear.{Is, pool_buffers, clear_outcome, cleared, clear_ready_of, ClearTold};
 
-use refusals::{Answer, Checked};
+use refusals::{Answer, Refusal};
 
 // Each marked constant moves down in place, and scratch takes its new number. Answers how many there are.
 fn keep(kinds: &mut [u8], words: &mut [u64], scratch: &mut [u32], m: usize) -> usize
@@ -14,19 +14,15 @@ fn keep(kinds: &mut [u8], words: &mut [u64], scratch: &mut [u32], m: usize) -> u
     ensures { Down (marked_in scratch.old) m result kinds.old kinds.new words.old words.new
         scratch.old scratch.new }
 {
-    let mut to: usize = 0;
-    let mut i: usize = 0;
-    while i < m {
-        let k = i;
-        i += 1;
-        let unused = scratch[k] == 0;
-        scratch[k] = to as u32;
-        if unused {
-            continue;
+    let mut to = 0;
+    for i in 0..m {
+        let named = scratch[i] != 0;
+        scratch[i] = to as u32;
+        if named {
+            kinds[to] = kinds[i];
+            words[to] = words[i];
+            to += 1;
         }
-        kinds[to] = kinds[k];
-        words[to] = words[k];
-        to += 1;
     }
     to
 }
@@ -36,12 +32,8 @@ fn free(kinds: &mut [u8], words: &mut [u64], a: usize, m: usize)
     requires { (a ≤ m) × (m ≤ length kinds.old) × (m ≤ length words.old) }
     ensures { (kinds.new ≡ freed a m kinds.old) × (words.new ≡ freed a m words.old) }
 {
-    let mut i = a;
-    while i < m {
-        kinds[i] = 0;
-        words[i] = 0;
-        i += 1;
-    }
+    kinds[a..m].fill(0);
+    words[a..m].fill(0);
 }
 
 // Clears a chunk that passed the tests. Answers how many constants are left.
@@ -64,7 +56,13 @@ fn clear_unused(
 }
 
 // Refusals 1, 2, 7 and 5.
-fn ready(code: &[u16], kinds: &[u8], words: &[u64], scratch: &[u32], constants: usize) -> Checked
+fn ready(
+    code: &[u16],
+    kinds: &[u8],
+    words: &[u64],
+    scratch: &[u32],
+    constants: usize,
+) -> Result<usize, Refusal>
     ensures { result ≡ clear_ready_of (pool_buffers code.now kinds.now words.now scratch.now) constants }
 {
     let v = chunk::check(code);
@@ -84,8 +82,8 @@ pub fn clear(
         (pool_buffers code.new kinds.new words.new scratch.new) }
 {
     match ready(code, kinds, words, scratch, constants) {
-        Checked::No(r) => refusals::refused(r),
-        Checked::Count(_) => {
+        Err(r) => Answer::from(r),
+        Ok(_) => {
             let left = clear_unused(code, kinds, words, scratch, constants);
             refusals::tell(left as u64, 0, 0, 0)
         }

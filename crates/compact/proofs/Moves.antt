@@ -2,7 +2,6 @@
 use Prim.Native.Nat.{ℕ, ◌+◌, ◌-◌, ◌*◌, ◌≤◌, ◌<◌}
 use native.Mathlib.Omega.{arith}
 use mathlib.Core.Path.{◌≡◌, refl, sym, ap, ◌∙◌}
-use mathlib.Core.Bool.{Bool, true, false}
 use mathlib.Core.List.{List, [], ◌∷◌, ◌++◌, append-nil, append_assoc}
 use lib.ListN.{length, get_or, set, take, replicate}
 use borrow.Author.Tests.{eq-eqb, ne_eqb}
@@ -11,26 +10,14 @@ use Rattle.laws.specs.Each.{each}
 use Rattle.laws.proofs.Many.{many_few}
 use Rattle.laws.proofs.Each.{each_more}
 use Rattle.laws.proofs.InPlace.{Walked, walk_none, walk_read, walk_pass, walk_put, walk_three, walk_at, walk_as, walk_count}
-use Rattle.chunk.specs.Chunk.{stride, op_at, mark_at, operand_at, origin_at, marks_jump}
-use Rattle.positions.specs.Remap.{alive, live, mapped}
+use Rattle.chunk.specs.Chunk.{stride, op_at, mark_at, operand_at, origin_at}
+use Rattle.positions.specs.Remap.{alive, live}
 use Rattle.positions.proofs.Moves.{live_on, live_off}
 use Rattle.compact.specs.Tables.{moved_operand, words_of, left_at, left, compacted}
 
 -- ---- the code
 
 module _ (dead w : List ℕ) (i : ℕ) where
-  pub jump_operand : (v r : ℕ) (t : Bool) → v ≡ operand_at w i → t ≡ marks_jump w i → t ≡ true → r ≡ mapped dead v → r ≡ moved_operand dead w i
-  unfolding moved_operand
-  jump_operand v r t e f g h = let q : marks_jump w i ≡ true = cc in rw q (h ∙ ap (mapped dead) e)
-
-  pub plain_operand : (v : ℕ) (t : Bool) → v ≡ operand_at w i → t ≡ marks_jump w i → t ≡ false → v ≡ moved_operand dead w i
-  unfolding moved_operand
-  plain_operand v t e f g = let q : marks_jump w i ≡ false = cc in rw q e
-
-  pub four_words : (o m v u : ℕ) (a b d f : ℕ) → o ≡ op_at w i → m ≡ mark_at w i → v ≡ moved_operand dead w i → u ≡ origin_at w i
-      → set (set (set (set w a o) b m) d v) f u ≡ set (set (set (set w a (op_at w i)) b (mark_at w i)) d (moved_operand dead w i)) f (origin_at w i)
-  four_words o m v u a b d f p q r s = rw (p, q, r, s)
-
   left_on : get_or dead i 0 ≡ 0 → each (left_at dead w) (i + 1) ≡ each (left_at dead w) i ++ words_of dead w i
   left_on e = each_more (left_at dead w) i ∙ rw (eq-eqb (get_or dead i 0) 0 e)
 
@@ -87,9 +74,6 @@ module _ {dead xs old : List ℕ} {to i : ℕ} (k : Kept dead xs old to i) where
         counts = ap (λ (x : ℕ). x + 1) k.counts ∙ sym (live_on dead i e);
       })
 
-  pub kept_same : length xs ≡ length old
-  kept_same = k.walked.same
-
   pub kept_behind : to ≤ i
   kept_behind = omega (arith, k.counts, many_few (alive dead) i)
 
@@ -105,3 +89,5 @@ module _ {dead xs old : List ℕ} {to i : ℕ} (k : Kept dead xs old to i) where
       let e : i ≡ length dead = omega arith in
       let c = walk_count w (omega (arith, w.behind)) in
       h ∙ rw (w.front, w.same, c, e)
+
+pub ruleset keeping = (kept_none, kept_skip, kept_move, kept_behind, kept_count, kept_done)

@@ -11,13 +11,14 @@ ghost use Rattle.compact.specs.Inner.{Compacted};
 use chunk::STRIDE;
 
 // The operand of instruction i: a jump's follows.
+#[tactic(auto, unfolding(crate::specs::Tables::moved_operand))]
 fn operand_of(code: &[u16], dead: &[u8], remap: &[u32], i: usize) -> u16
     requires { (i < chunk_count code.now) × Remap dead.now remap.now }
     ensures { result ≡ moved_operand dead.now code.now i }
 {
     let v = chunk::operand_at(code, i);
     if chunk::is_jump(code, i) {
-        return positions::moved(dead, remap, v as u32) as u16;
+        return positions::moved(dead, remap, u32::from(v)) as u16;
     }
     v
 }
@@ -40,23 +41,20 @@ fn shift(code: &mut [u16], dead: &[u8], remap: &[u32], i: usize, to: usize)
 }
 
 // The live instructions move down in place, and the rest is cleared.
+#[tactic(auto, using(crate::proofs::Moves::keeping))]
 fn retain(code: &mut [u16], dead: &[u8], remap: &[u32]) -> usize
     requires { (length code.old ≡ stride * length dead.now) × Remap dead.now remap.now }
     ensures { (result ≡ live dead.now (length dead.now)) × (code.new ≡ compacted dead.now code.old) }
 {
     let n = dead.len();
     let mut to: usize = 0;
-    let mut i: usize = 0;
-    while i < n {
-        let k = i;
-        i += 1;
-        if dead[k] != 0 {
-            continue;
+    for i in 0..n {
+        if dead[i] == 0 {
+            shift(code, dead, remap, i, to);
+            to += 1;
         }
-        shift(code, dead, remap, k, to);
-        to += 1;
     }
-    positions::clear(code, STRIDE * to);
+    code[STRIDE * to..].fill(0);
     to
 }
 

@@ -67,3 +67,5 @@ module _ (w map sources stmts calls dead remap : List ℕ) (left : Left) where
         → after ≡ renewed (tables w map sources stmts calls d remap left) → after ≡ finished (tables w map sources stmts calls dead remap left)
     unfolding finished
     some_died t after f g h = rw (← e, ← f, g) h
+
+pub ruleset finishing = (fit_marked, none_died, some_died)

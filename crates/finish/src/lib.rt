@@ -3,8 +3,7 @@
 
 ghost use Rattle.std.specs.Prelude.{◌≡◌, ◌*◌, ◌≤◌, length, take};
 ghost use Rattle.laws.specs.All.{many};
-ghost use Rattle.chunk.specs.Chunk.{stride, chunk_count, is_phi};
-ghost use Rattle.phi_pass.specs.Phi.{marked};
+ghost use Rattle.chunk.specs.Chunk.{stride, is_phi};
 ghost use Rattle.finish.specs.Finish.{tables, sources_left, sources_after, map_count, renewed, finished};
 ghost use Rattle.finish.specs.Inner.{TableRoom};
 
@@ -33,9 +32,13 @@ fn renew_sources(
         ≡ sources_after code.now (take left.map phi_map.now) (take left.sources phi_sources.old) dead.now
         (length phi_sources.old)) }
 {
-    let p = left.map;
-    let s = left.sources;
-    let m = phi_pass::gather(code, dead, &phi_map[..p], &phi_sources[..s], remap);
+    let m = phi_pass::gather(
+        code,
+        dead,
+        &phi_map[..left.map],
+        &phi_sources[..left.sources],
+        remap,
+    );
     phi_pass::unpack(remap, phi_sources, m);
     2 * m
 }
@@ -44,10 +47,7 @@ fn renew_sources(
 fn map_count(phis: usize, instructions: usize) -> usize
     ensures { result ≡ map_count phis instructions }
 {
-    if phis == 0 {
-        return 0;
-    }
-    instructions
+    if phis == 0 { 0 } else { instructions }
 }
 
 // Every table anew, where something died.
@@ -76,18 +76,8 @@ fn renew(
     }
 }
 
-// Marks the Phis that die.
-fn mark_phis(code: &[u16], phi_map: &[u32], phi_sources: &[u16], dead: &mut [u8], left: Left)
-    requires { (length dead.old ≡ chunk_count code.now) × (left.map ≤ length phi_map.now) × (left.sources ≤ length phi_sources.now) }
-    ensures { dead.new ≡ marked code.now (take left.map phi_map.now)
-        (take left.sources phi_sources.now) dead.old }
-{
-    let p = left.map;
-    let s = left.sources;
-    phi_pass::mark_noops(code, dead, &phi_map[..p], &phi_sources[..s]);
-}
-
 // The Phi pass, then every table anew if anything died.
+#[tactic(auto, using(crate::proofs::Anew::finishing))]
 pub fn finish(
     code: &mut [u16],
     phi_map: &mut [u32],
@@ -103,7 +93,12 @@ pub fn finish(
         dead.new remap.new result ≡ finished (tables code.old phi_map.old phi_sources.old
         stmt_pos.old call_byte_pos.old dead.old remap.old left) }
 {
-    mark_phis(code, phi_map, phi_sources, dead, left);
+    phi_pass::mark_noops(
+        code,
+        dead,
+        &phi_map[..left.map],
+        &phi_sources[..left.sources],
+    );
     if phi_pass::all_alive(dead) {
         return left;
     }

@@ -15,19 +15,18 @@ use Rattle.laws.proofs.Counting.{many_le}
 use Rattle.values.specs.declared.Val.{Val}
 use Rattle.values.specs.declared.Val.TheVariants.{Int, Float as Real, Bool as Truth}
 use Rattle.pool.specs.Pool.{Stored, find_or_push_const}
-use Rattle.pool.specs.declared.Kept.{Kept}
-use Rattle.pool.specs.declared.Kept.TheVariants.{At, Full}
 use Rattle.pool.proofs.Store.{kept_few}
 use Rattle.landings.specs.Latest.{latest, is_landing}
 use Rattle.fold.specs.Plan.{Chunk, after, plan_at}
 use Rattle.fold.specs.Pass.{Loading, load_of, const_load, landed, applied, try_fold, Bars, by_table, folded, fold_all}
 use Rattle.fold.specs.Inner.{OperatorRoom, PassRoom}
-use Rattle.fold.specs.declared.Loaded.{Loaded}
-use Rattle.fold.specs.declared.Loaded.TheVariants.{As, No}
-use Rattle.fold.specs.declared.Plan.{Plan}
-use Rattle.fold.specs.declared.Plan.TheVariants.{Stay, Put}
 use Rattle.fold.proofs.Planned.{Planned, planned}
 use Rattle.fold.proofs.Put.{put_other}
+use Rattle.std.specs.declared.option.Option.{Option}
+use Rattle.std.specs.declared.option.Option.TheVariants.{Some, None}
+use Rattle.fold.specs.declared.Plan.{Plan}
+use Rattle.fold.specs.declared.Load.{Load}
+use Rattle.fold.specs.Plan.{to_put}
 
 -- ---- one attempt
 
@@ -35,17 +34,17 @@ pub record Grown (s t : Chunk) (i : ℕ) : Type 0 where
   pub later : (k : ℕ) → i ≤ k → op_at t.code k ≡ op_at s.code k
   pub few : t.constants ≤ constant_room s.constants (bool_byte (folds (op_at s.code i)))
 
-abbrev count_of : Loaded → ℕ → ℕ
-count_of (As o x m) n = m
-count_of No n = n
+abbrev count_of : Option Load → ℕ → ℕ
+count_of (Some l) n = l.constants
+count_of None n = n
 
 pool_few : (s : Stored) (kinds words : List ℕ) (n : ℕ) (v : Val) → s ≡ find_or_push_const kinds words n v → count_of (load_of s.kept) n ≤ max n
     (min 65535 (n + 1))
 pool_few s kinds words n v e = go s.kept refl
   where
-    go : (k : Kept) → s.kept ≡ k → count_of (load_of k) n ≤ max n (min 65535 (n + 1))
-    go (At i m) h = kept_few {k = s.kept} {ks = s.kinds} {ws = s.words} kinds words n v e h
-    go Full h = omega arith
+    go : (k : Option (ℕ × ℕ)) → s.kept ≡ k → count_of (load_of k) n ≤ max n (min 65535 (n + 1))
+    go (Some k) h = kept_few {k = s.kept} {ks = s.kinds} {ws = s.words} kinds words n v e h
+    go None h = omega arith
 
 load_few : (v : Val) (kinds words : List ℕ) (n : ℕ) → count_of (const_load v kinds words n).load n ≤ max n (min 65535 (n + 1))
 unfolding const_load
@@ -57,7 +56,7 @@ module _ (i : ℕ) (s : Chunk) where
   idle : Grown s s i
   idle = record { later = λ k h. refl; few = omega arith }
 
-  put_grown : (p q : ℕ) (v : Val) → Planned s i p q → Grown s (applied (Put p q v) i s) i
+  put_grown : (p q : ℕ) (v : Val) → Planned s i p q → Grown s (applied (to_put p q v) i s) i
   unfolding applied landed
   put_grown p q v h = go (const_load v s.kinds s.words s.constants) (load_few v s.kinds s.words s.constants)
     where
@@ -65,21 +64,21 @@ module _ (i : ℕ) (s : Chunk) where
           → Grown s (landed l.load l.kinds l.words p q i s) i
       go l b = by l.load b
         where
-          by : (a : Loaded) → count_of a s.constants ≤ max s.constants (min 65535 (s.constants + 1)) → Grown s (landed a l.kinds l.words p q i s) i
-          by (As o x m) b =
+          by : (a : Option Load) → count_of a s.constants ≤ max s.constants (min 65535 (s.constants + 1)) → Grown s (landed a l.kinds l.words p q i s) i
+          by (Some a) b =
               record {
-                later = λ k g. put_other s.code p o x k (λ e. omega (arith, h.first));
+                later = λ k g. put_other s.code p a.opcode a.operand k (λ e. omega (arith, h.first));
                 few = rw h.operator b;
               }
-          by No b = record { later = λ k g. refl; few = omega arith }
+          by None b = record { later = λ k g. refl; few = omega arith }
 
   pub try_grown : (bars : ℕ → Bool) → Grown s (try_fold bars i s) i
   unfolding try_fold applied
   try_grown bars = go (eqb (get_or s.dead i 0) 0)
     where
-      by : (plan : Plan) → plan_at bars i s ≡ plan → Grown s (applied plan i s) i
-      by Stay e = idle
-      by (Put p q v) e = put_grown p q v (planned bars i s e)
+      by : (plan : Option Plan) → plan_at bars i s ≡ plan → Grown s (applied plan i s) i
+      by None e = idle
+      by (Some f) e = put_grown f.at f.dies f.value (planned bars i s e)
 
       go : (t : Bool) → Grown s (cond t (applied (plan_at bars i s) i s) s) i
       go true = by (plan_at bars i s) refl

@@ -17,12 +17,13 @@ use Rattle.landings.proofs.Kept.{SameJumps, landings_same, same_refl, same_twice
 use Rattle.values.specs.declared.Val.{Val}
 use Rattle.fold.specs.Plan.{Chunk, after, plan_at}
 use Rattle.fold.specs.Pass.{Loading, const_load, put, landed, applied, try_fold, Bars, by_scan, by_table, folded, fold_all}
-use Rattle.fold.specs.declared.Loaded.{Loaded}
-use Rattle.fold.specs.declared.Loaded.TheVariants.{As, No}
-use Rattle.fold.specs.declared.Plan.{Plan}
-use Rattle.fold.specs.declared.Plan.TheVariants.{Stay, Put}
 use Rattle.fold.proofs.Planned.{Planned, planned}
 use Rattle.fold.proofs.Put.{put_long, put_other, operand_other, jump_other, jump_here}
+use Rattle.std.specs.declared.option.Option.{Option}
+use Rattle.std.specs.declared.option.Option.TheVariants.{Some, None}
+use Rattle.fold.specs.declared.Plan.{Plan}
+use Rattle.fold.specs.declared.Load.{Load}
+use Rattle.fold.specs.Plan.{to_put}
 
 -- ---- a load that is put
 
@@ -61,15 +62,15 @@ module _ (i : ℕ) (s : Chunk) (h : i < chunk_count s.code) (u : Unmarked s.code
   calm : Calm s.code s.code
   calm = record { jumps = same_refl s.code; marks = u }
 
-  put_calm : (p q : ℕ) (v : Val) → Planned s i p q → Calm s.code (applied (Put p q v) i s).code
+  put_calm : (p q : ℕ) (v : Val) → Planned s i p q → Calm s.code (applied (to_put p q v) i s).code
   unfolding applied landed
   put_calm p q v y = go (const_load v s.kinds s.words s.constants)
     where
-      by : (a : Loaded) (ks ws : List ℕ) → Calm s.code (landed a ks ws p q i s).code
-      by (As o x m) ks ws =
+      by : (a : Option Load) (ks ws : List ℕ) → Calm s.code (landed a ks ws p q i s).code
+      by (Some l) ks ws =
           let f : p < chunk_count s.code = omega (arith, y.first) in
-          record { jumps = put_jumps s.code p o x f u y.load; marks = put_unmarked s.code p o x f u y.load }
-      by No ks ws = calm
+          record { jumps = put_jumps s.code p l.opcode l.operand f u y.load; marks = put_unmarked s.code p l.opcode l.operand f u y.load }
+      by None ks ws = calm
 
       go : (l : Loading) → Calm s.code (landed l.load l.kinds l.words p q i s).code
       go l = by l.load l.kinds l.words
@@ -78,9 +79,9 @@ module _ (i : ℕ) (s : Chunk) (h : i < chunk_count s.code) (u : Unmarked s.code
   unfolding try_fold applied
   try_calm bars = go (eqb (get_or s.dead i 0) 0)
     where
-      by : (plan : Plan) → plan_at bars i s ≡ plan → Calm s.code (applied plan i s).code
-      by Stay e = calm
-      by (Put p q v) e = put_calm p q v (planned bars i s e)
+      by : (plan : Option Plan) → plan_at bars i s ≡ plan → Calm s.code (applied plan i s).code
+      by None e = calm
+      by (Some f) e = put_calm f.at f.dies f.value (planned bars i s e)
 
       go : (t : Bool) → Calm s.code (cond t (applied (plan_at bars i s) i s) s).code
       go true = by (plan_at bars i s) refl

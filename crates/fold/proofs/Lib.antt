@@ -1,5 +1,4 @@
 -- The laws that several proofs cite.
-pub mod Ways
 pub mod Planned
 pub mod Put
 pub mod Grown

@@ -14,17 +14,16 @@ use Rattle.chunk.specs.Chunk.{chunk_count, is_phi}
 use Rattle.values.specs.declared.Val.{Val}
 use Rattle.values.specs.declared.Val.TheVariants.{Int, Float as Real, Bool as Truth}
 use Rattle.pool.specs.Pool.{find_or_push_const}
-use Rattle.pool.specs.declared.Kept.{Kept}
-use Rattle.pool.specs.declared.Kept.TheVariants.{At, Full}
 use Rattle.pool.proofs.Store.{full_stays}
 use Rattle.fold.specs.Plan.{Chunk, chunk, plan_at}
 use Rattle.fold.specs.Pass.{Loading, loading, load_of, from_pool, const_load, put, landed, applied, try_fold, Bars, folded, fold_all}
-use Rattle.fold.specs.declared.Loaded.{Loaded}
-use Rattle.fold.specs.declared.Loaded.TheVariants.{As, No}
-use Rattle.fold.specs.declared.Plan.{Plan}
-use Rattle.fold.specs.declared.Plan.TheVariants.{Stay, Put}
 use Rattle.fold.proofs.Planned.{Planned, planned}
 use Rattle.fold.proofs.Put.{put_other, put_here, put_long}
+use Rattle.std.specs.declared.option.Option.{Option}
+use Rattle.std.specs.declared.option.Option.TheVariants.{Some, None}
+use Rattle.fold.specs.declared.Plan.{Plan}
+use Rattle.fold.specs.declared.Load.{Load}
+use Rattle.fold.specs.Plan.{to_put}
 
 -- a mark stays or becomes 1
 abbrev pub Mark : ℕ → ℕ → Type 0
@@ -66,13 +65,13 @@ both p q =
 
 -- ---- one attempt
 
-abbrev Bare : Loaded → Type 0
-Bare (As o x m) = eqb o Phi ≡ false
-Bare No = Unit {0}
+abbrev Bare : Option Load → Type 0
+Bare (Some l) = eqb l.opcode Phi ≡ false
+Bare None = Unit {0}
 
-kept_bare : (k : Kept) → Bare (load_of k)
-kept_bare (At i m) = refl
-kept_bare Full = tt
+kept_bare : (k : Option (ℕ × ℕ)) → Bare (load_of k)
+kept_bare (Some k) = refl
+kept_bare None = tt
 
 load_bare : (v : Val) (kinds words : List ℕ) (n : ℕ) → Bare (const_load v kinds words n).load
 unfolding const_load
@@ -88,11 +87,11 @@ set_mark (x ∷ xs) zero (suc k) = inl refl
 set_mark (x ∷ xs) (suc q) zero = inl refl
 set_mark (x ∷ xs) (suc q) (suc k) = set_mark xs q k
 
-no_kept : (k : Kept) → load_of k ≡ No → k ≡ Full
-no_kept (At i m) e = absurd (let z : ◌≡◌ {A = ℕ} 0 1 = cc in omega arith)
-no_kept Full e = refl
+no_kept : (k : Option (ℕ × ℕ)) → load_of k ≡ None → k ≡ None
+no_kept (Some k) e = absurd (let z : ◌≡◌ {A = ℕ} 0 1 = cc in omega arith)
+no_kept None e = refl
 
-no_load : (v : Val) (kinds words : List ℕ) (n : ℕ) → (const_load v kinds words n).load ≡ No → const_load v kinds words n ≡ loading No kinds words
+no_load : (v : Val) (kinds words : List ℕ) (n : ℕ) → (const_load v kinds words n).load ≡ None → const_load v kinds words n ≡ loading None kinds words
 unfolding const_load
 no_load (Int z) kinds words n e = ap from_pool (full_stays kinds words n (Int z) (no_kept (find_or_push_const kinds words n (Int z)).kept e))
 no_load (Real x) kinds words n e = ap from_pool (full_stays kinds words n (Real x) (no_kept (find_or_push_const kinds words n (Real x)).kept e))
@@ -117,24 +116,24 @@ module _ (i : ℕ) (s : Chunk) (hc : i < chunk_count s.code) (hd : i < length s.
           dead_long = length-set (set s.dead q 1) i 1 ∙ length-set s.dead q 1;
         }
 
-  put_passed : (p q : ℕ) (v : Val) → Planned s i p q → Passed s (applied (Put p q v) i s)
+  put_passed : (p q : ℕ) (v : Val) → Planned s i p q → Passed s (applied (to_put p q v) i s)
   unfolding applied landed
   put_passed p q v h = go (const_load v s.kinds s.words s.constants).load refl
     where
       l : Loading
       l = const_load v s.kinds s.words s.constants
 
-      go : (a : Loaded) → l.load ≡ a → Passed s (landed l.load l.kinds l.words p q i s)
-      go (As o x m) e = rw e (wrote p q o x h (rw e at (load_bare v s.kinds s.words s.constants)) l.kinds l.words m)
-      go No e = rw (no_load v s.kinds s.words s.constants e) (same s)
+      go : (a : Option Load) → l.load ≡ a → Passed s (landed l.load l.kinds l.words p q i s)
+      go (Some k) e = rw e (wrote p q k.opcode k.operand h (rw e at (load_bare v s.kinds s.words s.constants)) l.kinds l.words k.constants)
+      go None e = rw (no_load v s.kinds s.words s.constants e) (same s)
 
   try_passed : (bars : ℕ → Bool) → Passed s (try_fold bars i s)
   unfolding try_fold applied
   try_passed bars = go (eqb (get_or s.dead i 0) 0)
     where
-      by : (plan : Plan) → plan_at bars i s ≡ plan → Passed s (applied plan i s)
-      by Stay e = same s
-      by (Put p q v) e = put_passed p q v (planned bars i s e)
+      by : (plan : Option Plan) → plan_at bars i s ≡ plan → Passed s (applied plan i s)
+      by None e = same s
+      by (Some f) e = put_passed f.at f.dies f.value (planned bars i s e)
 
       go : (t : Bool) → Passed s (cond t (applied (plan_at bars i s) i s) s)
       go true = by (plan_at bars i s) refl

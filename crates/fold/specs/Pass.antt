@@ -5,30 +5,32 @@ use Rattle.chunk.specs.Chunk.{stride, chunk_count}
 use Rattle.values.specs.declared.Val.{Val}
 use Rattle.values.specs.declared.Val.TheVariants.{Int, Float as Real, Bool as Truth}
 use Rattle.pool.specs.Pool.{Stored, find_or_push_const}
-use Rattle.pool.specs.declared.Kept.{Kept}
-use Rattle.pool.specs.declared.Kept.TheVariants.{At, Full}
 use Rattle.landings.specs.Landings.{barred}
 use Rattle.landings.specs.Latest.{latest, is_landing}
 use Rattle.fold.specs.Plan.{Chunk, chunk, after, plan_at}
-use Rattle.fold.specs.declared.Loaded.{Loaded}
-use Rattle.fold.specs.declared.Loaded.TheVariants.{As, No}
+use Rattle.std.specs.declared.option.Option.{Option}
+use Rattle.std.specs.declared.option.Option.TheVariants.{Some, None}
 use Rattle.fold.specs.declared.Plan.{Plan}
-use Rattle.fold.specs.declared.Plan.TheVariants.{Stay, Put}
+use Rattle.fold.specs.declared.Load.{Load}
+
+-- the load of o and x, where there are m constants then
+abbrev pub to_load : ℕ → ℕ → ℕ → Option Load
+to_load o x m = Some (record { opcode = o; operand = x; constants = m })
 
 -- a result as a load, and the pool with it
 pub record Loading : Type 0 where
-  pub load : Loaded
+  pub load : Option Load
   pub kinds : List ℕ
   pub words : List ℕ
 
 -- this load, with the pool's kinds and words
-abbrev pub loading : Loaded → List ℕ → List ℕ → Loading
+abbrev pub loading : Option Load → List ℕ → List ℕ → Loading
 loading l kinds words = record { load = l; kinds = kinds; words = words }
 
 -- a LoadConst of where it is kept; no room, no fold
-abbrev pub load_of : Kept → Loaded
-load_of (At i m) = As LoadConst i m
-load_of Full = No
+abbrev pub load_of : Option (ℕ × ℕ) → Option Load
+load_of (Some k) = to_load LoadConst k.0 k.1
+load_of None = None
 
 -- a result that the pool keeps, as a load; none where the pool had no room for it
 abbrev pub from_pool : Stored → Loading
@@ -38,7 +40,7 @@ from_pool s = loading (load_of s.kept) s.kinds s.words
 unfoldable pub const_load : Val → List ℕ → List ℕ → ℕ → Loading
 const_load (Int z) kinds words n = from_pool (find_or_push_const kinds words n (Int z))
 const_load (Real x) kinds words n = from_pool (find_or_push_const kinds words n (Real x))
-const_load (Truth b) kinds words n = loading (As (cond b LoadTrue LoadFalse) 0 n) kinds words
+const_load (Truth b) kinds words n = loading (to_load (cond b LoadTrue LoadFalse) 0 n) kinds words
 
 -- LoadConst has 'names a constant', bit 1; LoadTrue and LoadFalse drop it
 unfoldable pub mark_of : ℕ → ℕ
@@ -50,18 +52,18 @@ unfolding mark_of
 put w p o x = set (set (set w (stride * p) o) (stride * p + 1) (mark_of o)) (stride * p + 2) x
 
 -- the result stands in the first operand's place; the operator and any second operand die
-unfoldable pub landed : Loaded → List ℕ → List ℕ → ℕ → ℕ → ℕ → Chunk → Chunk
+unfoldable pub landed : Option Load → List ℕ → List ℕ → ℕ → ℕ → ℕ → Chunk → Chunk
 unfolding put
-landed (As o x m) kinds words p q i s = chunk (put s.code p o x) (set (set s.dead q 1) i 1) kinds words m
-landed No kinds words p q i s = chunk s.code s.dead kinds words s.constants
+landed (Some l) kinds words p q i s = chunk (put s.code p l.opcode l.operand) (set (set s.dead q 1) i 1) kinds words l.constants
+landed None kinds words p q i s = chunk s.code s.dead kinds words s.constants
 
 -- the chunk once the plan for the operator at i is carried out; it is as it was where there is no fold or no room for the result
-unfoldable pub applied : Plan → ℕ → Chunk → Chunk
+unfoldable pub applied : Option Plan → ℕ → Chunk → Chunk
 unfolding landed const_load
-applied Stay i s = s
-applied (Put p q v) i s =
-    let l = const_load v s.kinds s.words s.constants in
-    landed l.load l.kinds l.words p q i s
+applied None i s = s
+applied (Some f) i s =
+    let l = const_load f.value s.kinds s.words s.constants in
+    landed l.load l.kinds l.words f.at f.dies i s
 
 -- one attempt, of an operator that is not dead
 unfoldable pub try_fold : (ℕ → Bool) → ℕ → Chunk → Chunk

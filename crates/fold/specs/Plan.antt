@@ -5,18 +5,15 @@ use Rattle.ops.specs.Op as op
 use Rattle.chunk.specs.Chunk.{op_at}
 use Rattle.values.specs.Folds.{fold_binop, fold_not, fold_neg}
 use Rattle.values.specs.declared.Val.{Val}
-use Rattle.values.specs.declared.Maybe.{Maybe}
-use Rattle.values.specs.declared.Maybe.TheVariants.{Is, Nothing}
+use Rattle.std.specs.declared.option.Option.{Option}
+use Rattle.std.specs.declared.option.Option.TheVariants.{Some, None}
 use Rattle.values.specs.declared.Op.{Op}
 use Rattle.values.specs.declared.Op.TheVariants.{Add, Sub, Mul, Div, Mod, FloorDiv, Eq, NotEq, Lt, Gt, LtEq, GtEq, BitAnd, BitOr, BitXor, Shl, Shr}
-use Rattle.operands.specs.declared.Found.{Found}
-use Rattle.operands.specs.declared.Found.TheVariants.{At, Nowhere}
 unfoldable pub use Rattle.operands.specs.Operands.{prev_live, operand_of, skips_into, blocked}
 pub use Rattle.operands.specs.Operands.{after}
 use Rattle.fold.specs.declared.Kind.{Kind}
 use Rattle.fold.specs.declared.Kind.TheVariants.{Binop, Not, Minus, Other}
 use Rattle.fold.specs.declared.Plan.{Plan}
-use Rattle.fold.specs.declared.Plan.TheVariants.{Stay, Put}
 
 -- a chunk while it is folded: its code, its dead marks, its constants and their count
 pub record Chunk : Type 0 where
@@ -59,48 +56,47 @@ unfoldable pub kind_of : ℕ → Kind
 unfolding operator_page
 kind_of o = look Other o operator_page
 
--- each missing operand ends the attempt
-abbrev pub with_found : Found → (ℕ → Plan) → Plan
-with_found (At p) f = f p
-with_found Nowhere f = Stay
+-- the fold that puts v at p, where what is at q dies with the operator
+abbrev pub to_put : ℕ → ℕ → Val → Option Plan
+to_put p q v = Some (record { at = p; dies = q; value = v })
 
--- a missing value, be it an operand's or the result, ends the attempt
-abbrev pub with_val : Maybe → (Val → Plan) → Plan
-with_val (Is v) f = f v
-with_val Nothing f = Stay
+-- what is missing, be it an operand's place, an operand or the result, ends the attempt
+abbrev pub with_some : {A : Type 0} → Option A → (A → Option Plan) → Option Plan
+with_some (Some a) f = f a
+with_some None f = None
 
 -- an operator of two operands, the nearest live instructions before it: no fold if one is no operand, there is no result, or it is blocked
-unfoldable pub try_fold_binop : (ℕ → Bool) → Op → ℕ → Chunk → Plan
+unfoldable pub try_fold_binop : (ℕ → Bool) → Op → ℕ → Chunk → Option Plan
 unfolding prev_live operand_of blocked
 try_fold_binop bars o i s =
-    with_found (prev_live s.dead i) (λ q.
-    with_found (prev_live s.dead q) (λ p.
-    with_val (operand_of s.code s.kinds s.words s.constants p) (λ a.
-    with_val (operand_of s.code s.kinds s.words s.constants q) (λ b.
-    with_val (fold_binop o a b) (λ v. cond (blocked bars s.code p i) Stay (Put p q v))))))
+    with_some (prev_live s.dead i) (λ q.
+    with_some (prev_live s.dead q) (λ p.
+    with_some (operand_of s.code s.kinds s.words s.constants p) (λ a.
+    with_some (operand_of s.code s.kinds s.words s.constants q) (λ b.
+    with_some (fold_binop o a b) (λ v. cond (blocked bars s.code p i) None (to_put p q v))))))
 
 -- Minus, or Not
-unfoldable pub fold_unary : Bool → Val → Maybe
+unfoldable pub fold_unary : Bool → Val → Option Val
 fold_unary true v = fold_neg v
 fold_unary false v = fold_not v
 
 -- Minus or Not of the nearest live instruction before it: no fold if that is no operand, there is no result, or it is blocked
-unfoldable pub try_fold_unary : (ℕ → Bool) → Bool → ℕ → Chunk → Plan
+unfoldable pub try_fold_unary : (ℕ → Bool) → Bool → ℕ → Chunk → Option Plan
 unfolding prev_live operand_of blocked fold_unary
 try_fold_unary bars minus i s =
-    with_found (prev_live s.dead i) (λ p.
-    with_val (operand_of s.code s.kinds s.words s.constants p) (λ a.
-    with_val (fold_unary minus a) (λ v. cond (blocked bars s.code p i) Stay (Put p i v))))
+    with_some (prev_live s.dead i) (λ p.
+    with_some (operand_of s.code s.kinds s.words s.constants p) (λ a.
+    with_some (fold_unary minus a) (λ v. cond (blocked bars s.code p i) None (to_put p i v))))
 
 -- the attempt that the kind of the instruction at i asks for; none where it is no operator
-unfoldable pub plan_for : Kind → (ℕ → Bool) → ℕ → Chunk → Plan
+unfoldable pub plan_for : Kind → (ℕ → Bool) → ℕ → Chunk → Option Plan
 unfolding try_fold_binop try_fold_unary
 plan_for (Binop o) bars i s = try_fold_binop bars o i s
 plan_for Not bars i s = try_fold_unary bars false i s
 plan_for Minus bars i s = try_fold_unary bars true i s
-plan_for Other bars i s = Stay
+plan_for Other bars i s = None
 
 -- the fold of the instruction at i, if it is an operator and there is one
-unfoldable pub plan_at : (ℕ → Bool) → ℕ → Chunk → Plan
+unfoldable pub plan_at : (ℕ → Bool) → ℕ → Chunk → Option Plan
 unfolding plan_for kind_of
 plan_at bars i s = plan_for (kind_of (op_at s.code i)) bars i s

@@ -1,14 +1,13 @@
 // Folding: what an operator may fold to. Nothing is written here.
-#![tactic(auto)]
+#![tactic(auto, using(operands::proofs::Parts::operand_sound), unfolding(crate::specs::Plan::try_fold_binop, crate::specs::Plan::try_fold_unary))]
 
 ghost use Rattle.std.specs.Prelude.{◌≡◌};
 ghost use Rattle.values.specs.Inner.{SoundInt};
 ghost use Rattle.fold.specs.Plan.{chunk, kind_of, after, fold_unary, try_fold_binop, try_fold_unary, plan_at};
 ghost use Rattle.fold.specs.Inner.{Readable};
 
-use operands::Found;
 use ops::*;
-use values::{Maybe, Op, Val};
+use values::{Op, Val};
 
 // What an opcode folds as.
 #[derive(Clone, Copy)]
@@ -19,21 +18,24 @@ pub enum Kind {
     Other,
 }
 
-// No fold, or: the result stands at the first place, and what is at the second dies with the operator.
+// A fold that may be made: its result stands at one place, and what is at another dies with the operator.
 #[derive(Clone, Copy)]
-pub enum Plan {
-    Stay,
-    Put(usize, usize, Val),
+pub struct Plan {
+    pub at: usize,
+    pub dies: usize,
+    pub value: Val,
 }
 
-// A result as a load: its opcode, its operand and the new count of constants; or no room.
+// A result as a load: its opcode, its operand and the new count of constants.
 #[derive(Clone, Copy)]
-pub enum Loaded {
-    As(u16, u16, usize),
-    No,
+pub struct Load {
+    pub opcode: u16,
+    pub operand: u16,
+    pub constants: usize,
 }
 
 // The fold of the operator at ip, if there is one.
+#[tactic(auto, unfolding(crate::specs::Plan::plan_at, crate::specs::Plan::plan_for))]
 pub fn plan_at(
     code: &[u16],
     dead: &[u8],
@@ -42,7 +44,7 @@ pub fn plan_at(
     constants: usize,
     last: usize,
     ip: usize,
-) -> Plan
+) -> Option<Plan>
     requires { Readable (chunk code.now dead.now kinds.now words.now constants) ip }
     ensures { result ≡ plan_at (after last) ip (chunk code.now dead.now kinds.now words.now constants) }
 {
@@ -51,11 +53,12 @@ pub fn plan_at(
         Kind::Binop(op) => try_fold_binop(code, dead, kinds, words, constants, last, op, ip),
         Kind::Not => try_fold_unary(code, dead, kinds, words, constants, last, false, ip),
         Kind::Minus => try_fold_unary(code, dead, kinds, words, constants, last, true, ip),
-        Kind::Other => Plan::Stay,
+        Kind::Other => None,
     }
 }
 
 // What an opcode folds as, if it is an operator.
+#[tactic(auto, unfolding(crate::specs::Plan::kind_of, crate::specs::Plan::operator_page))]
 fn kind_of(o: u16) -> Kind
     ensures { result ≡ kind_of o }
 {
@@ -93,29 +96,23 @@ fn try_fold_binop(
     last: usize,
     op: Op,
     ip: usize,
-) -> Plan
+) -> Option<Plan>
     requires { Readable (chunk code.now dead.now kinds.now words.now constants) ip }
     ensures { result ≡ try_fold_binop (after last) op ip (chunk code.now dead.now kinds.now words.now constants) }
 {
-    let Found::At(prev1) = operands::prev_live(dead, ip) else {
-        return Plan::Stay;
-    };
-    let Found::At(prev2) = operands::prev_live(dead, prev1) else {
-        return Plan::Stay;
-    };
-    let Maybe::Is(a) = operands::operand_of(code, kinds, words, constants, prev2) else {
-        return Plan::Stay;
-    };
-    let Maybe::Is(b) = operands::operand_of(code, kinds, words, constants, prev1) else {
-        return Plan::Stay;
-    };
-    let Maybe::Is(result) = values::fold_binop(op, a, b) else {
-        return Plan::Stay;
-    };
+    let prev1 = operands::prev_live(dead, ip)?;
+    let prev2 = operands::prev_live(dead, prev1)?;
+    let a = operands::operand_of(code, kinds, words, constants, prev2)?;
+    let b = operands::operand_of(code, kinds, words, constants, prev1)?;
+    let result = values::fold_binop(op, a, b)?;
     if operands::blocks(code, last, prev2, ip) {
-        return Plan::Stay;
+        return None;
     }
-    Plan::Put(prev2, prev1, result)
+    Some(Plan {
+        at: prev2,
+        dies: prev1,
+        value: result,
+    })
 }
 
 // The fold of Minus, or of Not, if its operand is a constant, there is a result, and nothing blocks it.
@@ -128,32 +125,32 @@ fn try_fold_unary(
     last: usize,
     minus: bool,
     ip: usize,
-) -> Plan
+) -> Option<Plan>
     requires { Readable (chunk code.now dead.now kinds.now words.now constants) ip }
     ensures { result ≡ try_fold_unary (after last) minus ip (chunk code.now dead.now kinds.now words.now constants) }
 {
-    let Found::At(prev1) = operands::prev_live(dead, ip) else {
-        return Plan::Stay;
-    };
-    let Maybe::Is(v) = operands::operand_of(code, kinds, words, constants, prev1) else {
-        return Plan::Stay;
-    };
-    let Maybe::Is(result) = fold_unary(minus, v) else {
-        return Plan::Stay;
-    };
+    let prev1 = operands::prev_live(dead, ip)?;
+    let v = operands::operand_of(code, kinds, words, constants, prev1)?;
+    let result = fold_unary(minus, v)?;
     if operands::blocks(code, last, prev1, ip) {
-        return Plan::Stay;
+        return None;
     }
-    Plan::Put(prev1, ip, result)
+    Some(Plan {
+        at: prev1,
+        dies: ip,
+        value: result,
+    })
 }
 
 // What Minus, or Not, makes of an operand.
-fn fold_unary(minus: bool, v: Val) -> Maybe
+#[tactic(auto, unfolding(crate::specs::Plan::fold_unary))]
+fn fold_unary(minus: bool, v: Val) -> Option<Val>
     requires { SoundInt v }
     ensures { result ≡ fold_unary minus v }
 {
     if minus {
-        return values::fold_neg(v);
+        values::fold_neg(v)
+    } else {
+        values::fold_not(v)
     }
-    values::fold_not(v)
 }

@@ -2,21 +2,20 @@
 #![tactic(auto)]
 
 ghost use Rattle.std.specs.Prelude.{◌≡◌};
-ghost use Rattle.chunk.specs.Check.{source_room, tally_of, ready_of};
+ghost use Rattle.chunk.specs.Check.{source_room, tally_of};
 ghost use Rattle.optimizer.specs.Fold.{buffers};
 ghost use Rattle.folding.specs.Answers.{folded_told, FoldTold};
-ghost use Rattle.folding.specs.Inner.{tested_told};
 
 use chunk::{Counts, Lens, STRIDE};
 use optimizer::Folded;
-use refusals::{Answer, Checked};
+use refusals::Answer;
 
 // How many words of phi_sources are needed.
+#[tactic(auto, using(optimizer::proofs::Whole::few_phis))]
 fn sources_needed(code: &[u16], sources: usize) -> usize
     ensures { result ≡ source_room sources (tally_of code.now).phis }
 {
-    let t = chunk::tallied(code);
-    chunk::source_room(sources, t.phis)
+    chunk::source_room(sources, chunk::tallied(code).phis)
 }
 
 // The counts of what is left.
@@ -29,24 +28,6 @@ fn told(f: Folded) -> Answer
         f.map as u64,
         f.sources as u64,
     )
-}
-
-// The tests of the call, told: refusals 1, 2, 4, 7 and 5, or nothing.
-fn tested(
-    code: &[u16],
-    tries: &[u32],
-    kinds: &[u8],
-    words: &[u64],
-    counts: Counts,
-    lens: Lens,
-    landings: usize,
-) -> Answer
-    ensures { result ≡ tested_told (ready_of code.now tries.now kinds.now words.now counts lens landings) }
-{
-    match chunk::ready(code, tries, kinds, words, counts, lens, landings) {
-        Checked::No(r) => refusals::refused(r),
-        Checked::Count(_) => refusals::tell(0, 0, 0, 0),
-    }
 }
 
 // The folding call.
@@ -101,9 +82,8 @@ pub fn fold(
         dead: dead.len(),
         remap: remap.len(),
     };
-    let a = tested(code, tries, kinds, words, counts, lens, landings.len());
-    if a.refusal > 0 {
-        return a;
+    if let Err(r) = chunk::ready(code, tries, kinds, words, counts, lens, landings.len()) {
+        return Answer::from(r);
     }
     let n = code.len() / STRIDE;
     let more = n + 1;

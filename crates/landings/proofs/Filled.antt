@@ -2,54 +2,22 @@
 use Prim.Native.Nat.{ℕ, ◌+◌, ◌/◌, ◌^◌, ◌≤◌, ◌<◌}
 use native.Mathlib.Omega.{arith}
 use mathlib.Core.Path.{◌≡◌, refl, sym, ap, ◌∙◌}
-use mathlib.Core.Bool.{Bool, true, false, not, cond}
-use mathlib.Core.List.{List, [], ◌∷◌, ◌++◌, append-nil}
+use mathlib.Core.Bool.{Bool, true, false, cond}
+use mathlib.Core.List.{List, [], ◌∷◌}
 use lib.Dec.{eqb, ltb}
-use lib.ListN.{length, get_or, set, drop, replicate, length-set, get_or-eq_default}
-use lib.Seq.{get_or-set_same, get_or-set_other, ext_get_or, drop-length}
-use borrow.Author.Tests.{lt-ltb, le-ltb, ltb-true, ltb-false, eqb-true, eqb-false}
+use lib.ListN.{length, get_or, set, length-set, get_or-eq_default}
+use lib.Seq.{get_or-set_same, get_or-set_other, ext_get_or}
+use borrow.Author.Tests.{lt-ltb, ltb-true, ltb-false, eqb-true, eqb-false}
 use mir.Val.{bool_byte}
 use Rattle.laws.specs.All.{many}
 use Rattle.laws.specs.Each.{each}
 use Rattle.laws.proofs.Many.{many_more, many_few}
 use Rattle.laws.proofs.Each.{each_word, each_at}
-use Rattle.laws.proofs.Table.{fill_on}
 use Rattle.chunk.specs.Chunk.{chunk_count, operand_at, marks_jump}
-use Rattle.laws.proofs.Counting.{zeros_at}
 use Rattle.landings.specs.Landings.{handler_at, jump_lands, handler_lands, landings_at, landings_of}
-use Rattle.landings.specs.Inner.{bumped, Counts, FewAt, Zeros, Jumped, Handled}
-
--- ---- all 0
-
-zeros_low : (l : List ℕ) (m : ℕ) → l ≡ replicate m 0 → FewAt l 0
-zeros_low l m e = record { each = λ t. rw e (omega (arith, zeros_at m t)) }
-
-pub record Zeroed (l₀ l : List ℕ) (i : ℕ) : Type 0 where
-  pub is : l ≡ replicate i 0 ++ drop i l₀
-  pub long : length l ≡ length l₀
-
-pub zeroed_none : (l : List ℕ) → Zeroed l l 0
-zeroed_none l = record { is = refl; long = refl }
-
-module _ (l₀ l : List ℕ) (i : ℕ) (z : Zeroed l₀ l i) where
-  pub zeroed_more : i < length l → Zeroed l₀ (set l i 0) (i + 1)
-  zeroed_more h = record { is = fill_on l₀ l i (length l₀) (omega (arith, z.long)) (omega arith) z.is; long = length-set l i 0 ∙ z.long }
-
-  pub zeroed_all : length l ≤ i → i ≤ length l₀ → Zeros l (length l₀)
-  zeroed_all h k =
-      let e : i ≡ length l₀ = omega (arith, z.long) in
-      record { long = z.long; low = zeros_low l (length l₀) (z.is ∙ rw (e, drop-length l₀) (append-nil (replicate (length l₀) 0))) }
+use Rattle.landings.specs.Inner.{bumped, Counts, FewAt, Jumped, Handled}
 
 -- ---- one landing more
-
-module _ (l : List ℕ) (x : ℕ) where
-  pub bump_in : x < length l → set l x (get_or l x 0 + 1) ≡ bumped l x
-  unfolding bumped
-  bump_in h = rw (lt-ltb x (length l) h) refl
-
-  pub bump_out : length l ≤ x → l ≡ bumped l x
-  unfolding bumped
-  bump_out h = rw (le-ltb x (length l) h) refl
 
 pub bumped_long : (l : List ℕ) (x : ℕ) → length (bumped l x) ≡ length l
 unfolding bumped
@@ -92,27 +60,13 @@ pub jumped_none : (w l : List ℕ) → Jumped w l l 0
 unfolding many
 jumped_none w l = record { counts = record { long = refl; each = λ t h. omega arith } }
 
-module _ (w l₀ l : List ℕ) (k : ℕ) (d : Jumped w l₀ l k) {b : Bool} (e : b ≡ marks_jump w k) where
-  pub jumped_skip : not b ≡ true → Jumped w l₀ l (k + 1)
-  jumped_skip n = record { counts = skipped (jump_lands w) (λ t. get_or l₀ t 0) l (length l₀) k d.counts (λ t. rw (sym e, no b n) refl) }
-    where
-      no : (b : Bool) → not b ≡ true → b ≡ false
-      no true h = sym h
-      no false h = refl
+module _ (w l₀ l : List ℕ) (k : ℕ) (d : Jumped w l₀ l k) where
+  pub jumped_skip : marks_jump w k ≡ false → Jumped w l₀ l (k + 1)
+  jumped_skip n = record { counts = skipped (jump_lands w) (λ t. get_or l₀ t 0) l (length l₀) k d.counts (λ t. rw n refl) }
 
-  module _ {v x : ℕ} (ex : x ≡ operand_at w k) (ev : v ≡ x) where
-    pub jumped_more : {l' : List ℕ} → not b ≡ false → l' ≡ bumped l v → Jumped w l₀ l' (k + 1)
-    jumped_more n q =
-        record {
-          counts = rw (q, ev, ex) (counted (jump_lands w) (λ t. get_or l₀ t 0) l (length l₀) k d.counts (operand_at w k) (λ t. rw (sym e, yes b n) refl));
-        }
-      where
-        yes : (b : Bool) → not b ≡ false → b ≡ true
-        yes true h = refl
-        yes false h = sym h
-
-pub jumped_all : (w l₀ l : List ℕ) (k n : ℕ) → Jumped w l₀ l k → n ≡ chunk_count w → n ≤ k → k ≤ n → Jumped w l₀ l (chunk_count w)
-jumped_all w l₀ l k n d e h b = let q : chunk_count w ≡ k = omega arith in rw q d
+  pub jumped_more : marks_jump w k ≡ true → Jumped w l₀ (bumped l (operand_at w k)) (k + 1)
+  jumped_more n =
+      record { counts = counted (jump_lands w) (λ t. get_or l₀ t 0) l (length l₀) k d.counts (operand_at w k) (λ t. rw n refl) }
 
 -- a count is small where each part is
 counts_low : (l : List ℕ) (m : ℕ) (f : ℕ → ℕ) (b : ℕ) → Counts l m f → ((t : ℕ) → f t ≤ b) → FewAt l b
@@ -126,8 +80,8 @@ pub jumped_low : (w l₀ l : List ℕ) (k : ℕ) → FewAt l₀ 0 → Jumped w l
 jumped_low w l₀ l k z d = counts_low l (length l₀) (λ t. get_or l₀ t 0 + many (jump_lands w t) k) k d.counts
     (λ t. omega (arith, z.each t, many_few (jump_lands w t) k))
 
-pub jump_fits : (w l₀ l : List ℕ) (k n x : ℕ) → FewAt l₀ 0 → Jumped w l₀ l k → k < n → n ≡ chunk_count w → length w < 2 ^ 64 → get_or l x 0 + 1 < 2 ^ 64
-jump_fits w l₀ l k n x z d h e f = omega (arith, (jumped_low w l₀ l k z d).each x)
+pub jump_fits : (w l₀ l : List ℕ) (k x : ℕ) → FewAt l₀ 0 → Jumped w l₀ l k → k < chunk_count w → length w < 2 ^ 64 → get_or l x 0 + 1 < 2 ^ 64
+jump_fits w l₀ l k x z d h f = omega (arith, (jumped_low w l₀ l k z d).each x)
 
 -- ---- the handlers
 
@@ -136,38 +90,32 @@ unfolding many
 handled_none tries l = record { counts = record { long = refl; each = λ t h. omega arith } }
 
 module _ (tries l₀ l : List ℕ) (k : ℕ) (d : Handled tries l₀ l k) where
-  pub handled_more : {v : ℕ} {l' : List ℕ} → v ≡ handler_at tries k → l' ≡ bumped l v → Handled tries l₀ l' (k + 1)
-  handled_more e q = record { counts = rw (q, e) (counted (handler_lands tries) (λ t. get_or l₀ t 0) l (length l₀) k d.counts (handler_at tries k) (λ t. refl)) }
+  pub handled_more : Handled tries l₀ (bumped l (handler_at tries k)) (k + 1)
+  handled_more = record { counts = counted (handler_lands tries) (λ t. get_or l₀ t 0) l (length l₀) k d.counts (handler_at tries k) (λ t. refl) }
 
   pub handled_low : (b : ℕ) → FewAt l₀ b → FewAt l (b + k)
   handled_low b z = counts_low l (length l₀) (λ t. get_or l₀ t 0 + many (handler_lands tries t) k) (b + k) d.counts
       (λ t. omega (arith, z.each t, many_few (handler_lands tries t) k))
 
-  pub handle_fits : (n x : ℕ) → FewAt l₀ 65535 → k < n → n ≡ length tries / 2 → length tries < 2 ^ 64 → get_or l x 0 + 1 < 2 ^ 64
-  handle_fits n x z h e f = omega (arith, (handled_low 65535 z).each x)
-
-pub handled_all : (tries l₀ l : List ℕ) (k n : ℕ) → Handled tries l₀ l k → n ≡ length tries / 2 → n ≤ k → k ≤ n → Handled tries l₀ l (length tries / 2)
-handled_all tries l₀ l k n d e h b = let q : length tries / 2 ≡ k = omega arith in rw q d
+  pub handle_fits : (x : ℕ) → FewAt l₀ 65535 → k < length tries / 2 → length tries < 2 ^ 64 → get_or l x 0 + 1 < 2 ^ 64
+  handle_fits x z h f = omega (arith, (handled_low 65535 z).each x)
 
 -- ---- the table
 
-pub zeros_are : (l : List ℕ) (m : ℕ) → Zeros l m → FewAt l 0
-zeros_are l m z = z.low
-
-module _ (w l₁ l₂ : List ℕ) (m : ℕ) (z : Zeros l₁ m) (j : Jumped w l₁ l₂ (chunk_count w)) where
+module _ (w l₁ l₂ : List ℕ) (z : FewAt l₁ 0) (j : Jumped w l₁ l₂ (chunk_count w)) where
   pub jumps_low : chunk_count w ≤ 65535 → FewAt l₂ 65535
-  jumps_low f = let d = jumped_low w l₁ l₂ (chunk_count w) z.low j in record { each = λ t. omega (arith, d.each t) }
+  jumps_low f = let d = jumped_low w l₁ l₂ (chunk_count w) z j in record { each = λ t. omega (arith, d.each t) }
 
   module _ (tries l₃ : List ℕ) (h : Handled tries l₂ l₃ (length tries / 2)) where
-    long₃ : length l₃ ≡ m
-    long₃ = h.counts.long ∙ j.counts.long ∙ z.long
-
-    pub filled : m ≡ chunk_count w + 1 → l₃ ≡ landings_of w tries
+    pub filled : length l₁ ≡ chunk_count w + 1 → l₃ ≡ landings_of w tries
     unfolding landings_of landings_at
     filled e =
-        ext_get_or 0 l₃ (each (λ t. landings_at w tries t ∷ []) (chunk_count w + 1)) (long₃ ∙ e ∙ sym (each_word (landings_at w tries) (chunk_count w + 1)))
+        ext_get_or 0 l₃ (each (λ t. landings_at w tries t ∷ []) (chunk_count w + 1)) (h.counts.long ∙ j.counts.long ∙ e ∙ sym (each_word (landings_at w tries) (chunk_count w + 1)))
         (λ t b.
-        let s : t < chunk_count w + 1 = omega (arith, long₃) in
+        let s : t < chunk_count w + 1 = omega (arith, h.counts.long, j.counts.long) in
         h.counts.each t (omega (arith, h.counts.long))
-        ∙ omega (arith, j.counts.each t (omega (arith, j.counts.long, h.counts.long)), z.low.each t)
+        ∙ omega (arith, j.counts.each t (omega (arith, j.counts.long, h.counts.long)), z.each t)
         ∙ sym (each_at (landings_at w tries) (chunk_count w + 1) t s))
+
+-- what the contracts of `landings` need
+pub ruleset fills = (jumped_skip, jumped_more, handled_more)

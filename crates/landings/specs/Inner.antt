@@ -16,11 +16,6 @@ pub record Counts (l : List ℕ) (m : ℕ) (f : ℕ → ℕ) : Type 0 where
 pub record FewAt (l : List ℕ) (b : ℕ) : Type 0 where
   pub each : (t : ℕ) → get_or l t 0 ≤ b
 
--- m zeros
-pub record Zeros (l : List ℕ) (m : ℕ) : Type 0 where
-  pub long : length l ≡ m
-  pub low : FewAt l 0
-
 -- the first k instructions counted, on top of l₀
 pub record Jumped (w l₀ l : List ℕ) (k : ℕ) : Type 0 where
   pub counts : Counts l (length l₀) (λ t. get_or l₀ t 0 + many (jump_lands w t) k)

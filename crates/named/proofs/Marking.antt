@@ -3,11 +3,11 @@ use Prim.Native.Nat.{ℕ, ◌+◌, ◌≤◌, ◌<◌}
 use native.Mathlib.Omega.{arith}
 use mathlib.Core.Path.{◌≡◌, refl, sym, ap, ◌∙◌}
 use mathlib.Core.Bool.{Bool, true, false, ◌||◌, and-false}
-use mathlib.Core.List.{List}
+use mathlib.Core.List.{List, ◌++◌}
 use lib.Dec.{eqb, ltb}
-use lib.ListN.{length, get_or, set, drop, length-set}
-use lib.Seq.{get_or-set_same, get_or-set_other, drop-set-lt}
-use borrow.Author.Tests.{eqb-true, eqb-false, eq-eqb, ne_eqb, ltb-true, ltb-false, lt-ltb, le-ltb}
+use lib.ListN.{length, get_or, set, take, drop, replicate, length-set}
+use lib.Seq.{length-take-le, get_or-set_same, get_or-set_other, drop-set-lt}
+use borrow.Author.Tests.{eqb-true, eqb-false, eq-eqb, ne_eqb, ltb-true, ltb-false}
 use mir.Val.{bool_byte}
 use Rattle.laws.specs.Some.{some}
 use Rattle.laws.specs.Table.{Held, cleared_to}
@@ -30,23 +30,14 @@ module _ (w : List ℕ) (m k : ℕ) (s : List ℕ) where
   unfolding noted
   noted_off n = rw n
 
-  -- in the code: v is the operand, t the mark
-  module _ (v o : ℕ) (e : v ≡ o) (f : o ≡ operand_at w k) where
-    pub far : m ≤ v → s ≡ noted w m k s
-    far h = let q : operand_at w k ≡ v = sym (e ∙ f) in sym (noted_far (rw q (le-ltb v m h)))
-
-    pub unmarked : (t : Bool) → t ≡ names w k → t ≡ false → s ≡ noted w m k s
-    unmarked t g h = sym (noted_off (sym g ∙ h))
-
-    pub here : (t : Bool) → t ≡ names w k → t ≡ true → v < m → set s v 1 ≡ noted w m k s
-    here t g h l =
-        let q : operand_at w k ≡ v = sym (e ∙ f) in
-        sym (noted_on (sym g ∙ h) (rw q (lt-ltb v m l)) ∙ ap (λ (x : ℕ). set s x 1) q)
-
 -- where the marking stands after k instructions
 pub record Marking (w : List ℕ) (m : ℕ) (old s : List ℕ) (k : ℕ) : Type 0 where
   pub held : Held m old s
   pub at : (i : ℕ) → i < m → get_or s i 0 ≡ bool_byte (some (names_it w i) k)
+
+-- its first m words filled with 0
+pub cleared : (m : ℕ) (l z : List ℕ) → m ≤ length l → z ≡ replicate (length (take m l)) 0 → z ++ drop m l ≡ cleared_to m l
+cleared m l z h e = rw (e, length-take-le m l h) refl
 
 pub marking_none : (w : List ℕ) (m : ℕ) (old s : List ℕ) → s ≡ cleared_to m old → Marking w m s s 0
 marking_none w m old s e = record { held = record { same = refl; tail = refl }; at = λ i l. rw (e, nowhere_yet (names_it w i)) (cleared_at m old i l) }
@@ -106,9 +97,6 @@ module _ {w : List ℕ} {m : ℕ} {old s : List ℕ} {k : ℕ} (x : Marking w m 
         held = rw e (noted_held w m k old s x.held);
         at = λ i l. rw (e, some_more (names_it w i) k) (mark_more w m k i s (some (names_it w i) k) l (omega (arith, x.held.same)) (x.at i l));
       }
-
-  pub marking_same : length s ≡ length old
-  marking_same = x.held.same
 
   -- from what was there before it was cleared
   pub marking_done : (lent : List ℕ) → old ≡ cleared_to m lent → m ≤ length lent → chunk_count w ≤ k → k ≤ chunk_count w → NamedMarks w m lent s

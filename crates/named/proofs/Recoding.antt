@@ -1,41 +1,16 @@
 -- Laws of `recoded`, for the loop that writes it in place. Assumes nothing.
 use Prim.Native.Nat.{ℕ, ◌+◌, ◌*◌, ◌≤◌, ◌<◌}
 use native.Mathlib.Omega.{arith}
-use mathlib.Core.Path.{◌≡◌, refl, sym, ap, ◌∙◌}
-use mathlib.Core.Bool.{Bool, true, false}
+use mathlib.Core.Path.{◌≡◌, sym, ap, ◌∙◌}
 use mathlib.Core.List.{List, [], ◌∷◌, ◌++◌, append_assoc}
-use lib.Dec.{ltb}
 use lib.ListN.{length, get_or, set}
 use lib.Seq.{set-get_or}
-use borrow.Author.Tests.{lt-ltb, le-ltb}
 use Rattle.laws.specs.Each.{each}
 use Rattle.laws.proofs.Each.{each_more}
 use Rattle.laws.proofs.InPlace.{Walked, walk_none, walk_read, walk_put, walk_at, walk_as, walk_whole}
-use Rattle.chunk.specs.Chunk.{stride, chunk_count, op_at, mark_at, operand_at, origin_at, names}
-use Rattle.named.specs.Unused.{renumbered, renamed_operand, ins_of, recoded}
-use Rattle.named.specs.Inner.{LowNumbers, number_in}
-
--- in the code: o is the operand as it was read, v the same, t the mark
-module _ (s w : List ℕ) (m k v o : ℕ) (e : v ≡ o) (f : o ≡ operand_at w k) where
-  pub stays_far : m ≤ v → o ≡ renamed_operand (number_in s) m w k
-  unfolding renamed_operand renumbered
-  stays_far h = go (names w k) refl (rw (sym (e ∙ f)) (le-ltb v m h))
-    where
-      go : (a : Bool) → names w k ≡ a → ltb (operand_at w k) m ≡ false → o ≡ renamed_operand (number_in s) m w k
-      go false n q = rw n f
-      go true n q = rw (n, q) f
-
-  pub stays_unmarked : (t : Bool) → t ≡ names w k → t ≡ false → o ≡ renamed_operand (number_in s) m w k
-  unfolding renamed_operand
-  stays_unmarked t g h = let n : names w k ≡ false = sym g ∙ h in rw n f
-
-  pub renumbered_here : (t : Bool) → t ≡ names w k → t ≡ true → v < m → get_or s v 0 ≡ renamed_operand (number_in s) m w k
-  unfolding renamed_operand renumbered
-  renumbered_here t g h l =
-      let n : names w k ≡ true = sym g ∙ h in
-      let z : operand_at w k ≡ v = sym (e ∙ f) in
-      let q : ltb (operand_at w k) m ≡ true = rw z (lt-ltb v m l) in
-      rw (n, q, z)
+use Rattle.chunk.specs.Chunk.{stride, chunk_count, op_at, mark_at, operand_at, origin_at}
+use Rattle.named.specs.Unused.{renamed_operand, ins_of, recoded}
+use Rattle.named.specs.Inner.{LowNumbers}
 
 pub number_low : (m v : ℕ) (s : List ℕ) → LowNumbers m s → v < m → get_or s v 0 < 65536
 number_low m v s l h = omega (arith, l.at v h, l.few)
@@ -75,9 +50,6 @@ module _ {number : ℕ → ℕ} {m : ℕ} {xs old : List ℕ} {k : ℕ} (r : Rec
       let done : (((j ++ (op_at xs k ∷ [])) ++ (mark_at xs k ∷ [])) ++ (v ∷ [])) ++ (origin_at ys k ∷ []) ≡ each (ins_of number m old) (k + 1) =
       append_four j (op_at xs k) (mark_at xs k) v (origin_at ys k) ∙ rw (u, o, n, x) (sym (each_more (ins_of number m old) k)) in
       record { walked = walk_at (walk_as four (each (ins_of number m old) (k + 1)) done) (stride * (k + 1)) (stride * (k + 1)) (omega arith) (omega arith) }
-
-  pub recoding_same : length xs ≡ length old
-  recoding_same = r.walked.same
 
   pub recoding_done : chunk_count old ≤ k → k ≤ chunk_count old → length old ≡ stride * chunk_count old → xs ≡ recoded number m old
   unfolding recoded

@@ -2,20 +2,19 @@
 use Rattle.std.specs.Prelude.{ℕ, zero, suc, ◌-◌, Bool, cond, ◌&&◌, ◌||◌, List, ltb, eqb, get_or}
 use Rattle.ops.specs.Op.{LoadConst}
 use Rattle.chunk.specs.Chunk.{op_at, operand_at, lands}
-use Rattle.values.specs.declared.Maybe.{Maybe}
-use Rattle.values.specs.declared.Maybe.TheVariants.{Nothing}
+use Rattle.std.specs.declared.option.Option.{Option}
+use Rattle.values.specs.declared.Val.{Val}
+use Rattle.std.specs.declared.option.Option.TheVariants.{Some, None}
 use Rattle.pool.specs.Pool.{const_to_val}
-use Rattle.operands.specs.declared.Found.{Found}
-use Rattle.operands.specs.declared.Found.TheVariants.{At, Nowhere}
 
 -- the nearest undead instruction before i
-unfoldable pub prev_live : List ℕ → ℕ → Found
-prev_live dead zero = Nowhere
-prev_live dead (suc i) = cond (eqb (get_or dead i 0) 0) (At i) (prev_live dead i)
+unfoldable pub prev_live : List ℕ → ℕ → Option ℕ
+prev_live dead zero = None
+prev_live dead (suc i) = cond (eqb (get_or dead i 0) 0) (Some i) (prev_live dead i)
 
 -- an operand must be a LoadConst, of a constant that is one
-unfoldable pub operand_of : (code kinds words : List ℕ) → ℕ → ℕ → Maybe
-operand_of code kinds words constants p = cond (eqb (op_at code p) LoadConst) (const_to_val kinds words constants (operand_at code p)) Nothing
+unfoldable pub operand_of : (code kinds words : List ℕ) → ℕ → ℕ → Option Val
+operand_of code kinds words constants p = cond (eqb (op_at code p) LoadConst) (const_to_val kinds words constants (operand_at code p)) None
 
 -- no fold if the instruction just before the first operand is a jump into (first operand, operator]
 unfoldable pub skips_into : List ℕ → ℕ → ℕ → Bool

@@ -1,5 +1,5 @@
 -- What the folding call leaves passes tests 1 and 2 again: a folded chunk can be lent to the next call. Assumes nothing.
-use Prim.Native.Nat.{ℕ, zero, suc, ◌+◌, ◌-◌, ◌*◌, ◌%◌, ◌/◌, ◌≤◌, ◌<◌}
+use Prim.Native.Nat.{ℕ, zero, suc, ◌+◌, ◌-◌, ◌*◌, ◌≤◌, ◌<◌}
 use native.Mathlib.Omega.{arith}
 use mathlib.Core.Path.{◌≡◌, refl, sym, ap, ◌∙◌}
 use mathlib.Core.Bool.{Bool, true, false, cond, not}
@@ -7,33 +7,24 @@ use mathlib.Core.List.{List, [], ◌∷◌, ◌++◌}
 use lib.Dec.{eqb, ltb}
 use lib.ListN.{length, get_or, take, replicate, length-append, length-replicate, get_or-append, get_or-eq_default}
 use lib.Seq.{get_or-append-add, length-take-le}
-use borrow.Author.Tests.{eqb-true, eqb-false, ltb-true, ltb-false, not-false}
+use borrow.Author.Tests.{eqb-true, eqb-false, ltb-true, ltb-false}
 use Rattle.laws.proofs.Walk.{reaches}
 use Rattle.laws.specs.All.{every}
 use Rattle.laws.specs.Each.{each}
-use Rattle.laws.proofs.Branch.{or_false}
 use Rattle.laws.proofs.Many.{many_few}
 use Rattle.refusals.specs.Answers.{asked}
-use Rattle.refusals.specs.declared.Refusal.{Refusal}
-use Rattle.refusals.specs.declared.Refusal.TheVariants.{Length, Record}
-use Rattle.refusals.specs.declared.Checked.{Checked}
-use Rattle.refusals.specs.declared.Checked.TheVariants.{Count, No as Refused}
+use Rattle.refusals.specs.Stages.{Checked}
+use Rattle.std.specs.declared.result.Result.TheVariants.{Ok, Err}
 use Rattle.chunk.specs.Chunk.{stride, chunk_count, op_at, mark_at, origin_at, folds, chunk_rules, breaks_at}
-use Rattle.chunk.specs.Check.{uneven_chunk, first_bad_of, chunk_check_of, ready_of}
+use Rattle.chunk.specs.Check.{first_bad_of, chunk_check_of, ready_of}
 use Rattle.chunk.specs.declared.Counts.{Counts}
 use Rattle.chunk.proofs.Checks.{accepted}
 use Rattle.laws.proofs.Counting.{zeros_at}
 use Rattle.values.specs.declared.Val.{Val}
 use Rattle.values.specs.declared.Val.TheVariants.{Int, Float as Real, Bool as Truth}
 use Rattle.pool.specs.Pool.{find_or_push_const}
-use Rattle.pool.specs.declared.Kept.{Kept}
-use Rattle.pool.specs.declared.Kept.TheVariants.{At, Full}
 use Rattle.fold.specs.Plan.{Chunk, chunk, plan_at}
 use Rattle.fold.specs.Pass.{Loading, load_of, const_load, mark_of, put, landed, applied, try_fold, Bars, by_scan, folded, fold_all}
-use Rattle.fold.specs.declared.Loaded.{Loaded}
-use Rattle.fold.specs.declared.Loaded.TheVariants.{As, No as Unloaded}
-use Rattle.fold.specs.declared.Plan.{Plan}
-use Rattle.fold.specs.declared.Plan.TheVariants.{Stay, Put}
 use Rattle.fold.proofs.Planned.{Planned, planned}
 use Rattle.fold.proofs.Put.{put_long, put_other, mark_other, put_here, mark_here}
 use Rattle.positions.specs.Remap.{alive, live}
@@ -42,10 +33,16 @@ use Rattle.compact.proofs.Left.{left_long}
 use Rattle.phi_pass.specs.Phi.{marked}
 use Rattle.phi_pass.proofs.Pairs.{marked_length}
 use Rattle.finish.specs.Finish.{Tables, tables, map_of, sources_of, renewed, finished}
-use Rattle.optimizer.specs.Fold.{Buffers, lens_of, needed, fold_outcome, fold_pass, constant_fold, joined_buffers, fold_lent, called, rejoined, fold_call, No}
+use Rattle.optimizer.specs.Fold.{Buffers, lens_of, needed, fold_outcome, fold_pass, constant_fold, joined_buffers, fold_lent, called, rejoined, fold_call}
 use Rattle.optimizer.proofs.Ruled.{Ruled, no_words, ruled_of}
-use Rattle.optimizer.proofs.Tested.{held_of}
+use Rattle.optimizer.proofs.Tested.{held_of, check_met}
 use Rattle.optimizer.proofs.Whole.{pass_kept}
+use Rattle.std.specs.declared.option.Option.{Option}
+use Rattle.std.specs.declared.option.Option.TheVariants.{Some, None}
+use Rattle.fold.specs.declared.Plan.{Plan}
+use Rattle.fold.specs.declared.Load.{Load}
+use Rattle.fold.specs.Plan.{to_put}
+use Rattle.fold.specs.Pass.{to_load}
 
 -- rules are kept, and the code is as long
 pub record Keeps (w w' : List ℕ) : Type 0 where
@@ -68,14 +65,14 @@ module _ (w : List ℕ) (p o x : ℕ) where
       go r k true q = rw (eqb-true k p q, put_here w p o x h, mark_here w p o x h) e
       go r k false q = rw (put_other w p o x k (eqb-false k p q), mark_other w p o x k (eqb-false k p q)) (r k)
 
-abbrev Fair : Loaded → Type 0
-Fair (As o x m) = chunk_rules o (mark_of o) ≡ true
-Fair Unloaded = Unit {0}
+abbrev Fair : Option Load → Type 0
+Fair (Some l) = chunk_rules l.opcode (mark_of l.opcode) ≡ true
+Fair None = Unit {0}
 
-kept_fair : (k : Kept) → Fair (load_of k)
+kept_fair : (k : Option (ℕ × ℕ)) → Fair (load_of k)
 unfolding chunk_rules folds mark_of
-kept_fair (At i m) = refl
-kept_fair Full = tt
+kept_fair (Some k) = refl
+kept_fair None = tt
 
 load_fair : (v : Val) (kinds words : List ℕ) (n : ℕ) → Fair (const_load v kinds words n).load
 unfolding const_load chunk_rules folds mark_of
@@ -87,24 +84,24 @@ load_fair (Truth false) kinds words n = refl
 -- ---- the pass
 
 module _ (i : ℕ) (s : Chunk) (h : i < chunk_count s.code) where
-  applied_keeps : (p q : ℕ) (v : Val) → Planned s i p q → Keeps s.code (applied (Put p q v) i s).code
+  applied_keeps : (p q : ℕ) (v : Val) → Planned s i p q → Keeps s.code (applied (to_put p q v) i s).code
   unfolding applied landed
   applied_keeps p q v a = go (const_load v s.kinds s.words s.constants) (load_fair v s.kinds s.words s.constants)
     where
       go : (l : Loading) → Fair l.load → Keeps s.code (landed l.load l.kinds l.words p q i s).code
       go l f = by l.load f
         where
-          by : (a' : Loaded) → Fair a' → Keeps s.code (landed a' l.kinds l.words p q i s).code
-          by (As o x m) f = put_keeps s.code p o x f (omega (arith, a.first))
-          by Unloaded f = same s.code
+          by : (a' : Option Load) → Fair a' → Keeps s.code (landed a' l.kinds l.words p q i s).code
+          by (Some k) f = put_keeps s.code p k.opcode k.operand f (omega (arith, a.first))
+          by None f = same s.code
 
   try_keeps : (bars : ℕ → Bool) → Keeps s.code (try_fold bars i s).code
   unfolding try_fold applied
   try_keeps bars = go (eqb (get_or s.dead i 0) 0)
     where
-      by : (plan : Plan) → plan_at bars i s ≡ plan → Keeps s.code (applied plan i s).code
-      by Stay e = same s.code
-      by (Put p q v) e = applied_keeps p q v (planned bars i s e)
+      by : (plan : Option Plan) → plan_at bars i s ≡ plan → Keeps s.code (applied plan i s).code
+      by None e = same s.code
+      by (Some f) e = applied_keeps f.at f.dies f.value (planned bars i s e)
 
       go : (t : Bool) → Keeps s.code (cond t (applied (plan_at bars i s) i s) s).code
       go true = by (plan_at bars i s) refl
@@ -206,38 +203,26 @@ fold_keeps bars b c h l =
     (record { instructions = length b.dead; map = c.map; sources = c.sources }))
     (rw (z, k.long) l))
 
-never : {A : Type 0} (n : ℕ) (r : Refusal) → Refused r ≡ Count n → A
-never n r e = let z : ◌≡◌ {A = ℕ} 0 1 = cc in absurd (omega arith)
-
 -- a code that keeps the rules of one that passes them, and its length, passes too
-checks : (w w' : List ℕ) (n : ℕ) → Keeps w w' → chunk_check_of w ≡ Count n → chunk_check_of w' ≡ Count n
-unfolding chunk_check_of
-checks w w' n k e = go (uneven_chunk w) refl (ltb (first_bad_of w) (chunk_count w)) refl e
-  where
-    go : (u : Bool) → uneven_chunk w ≡ u → (b : Bool) → ltb (first_bad_of w) (chunk_count w) ≡ b → chunk_check_of w ≡ Count n → chunk_check_of w' ≡ Count n
-    go true p b q h = never n (Length (length w)) (rw p at h)
-    go false p true q h = never n (Record (first_bad_of w)) (rw (p, q) at h)
-    go false p false q h =
-        let z : Count (chunk_count w) ≡ Count n = rw (p, q) at h in
-        let l : length w % stride ≡ 0 = eqb-true (length w % stride) 0
-        (not-false _ (or_false (not (eqb (length w % stride) 0)) (ltb 65535 (chunk_count w)) p).0) in
-        let r : Ruled w' = k.ruled (ruled_of w (omega arith) (ltb-false (first_bad_of w) (chunk_count w) q)) in
-        let f : first_bad_of w' ≡ 0 + chunk_count w' = reaches (breaks_at w') (chunk_count w') 0 (λ j a b. ap not (r j)) in
-        let u : uneven_chunk w' ≡ false = rw k.long p in
-        sym (accepted w' (first_bad_of w') refl u (omega arith)) ∙ ap (λ (m : ℕ). Count (m / stride)) k.long ∙ z
+checks : (w w' : List ℕ) (n : ℕ) → Keeps w w' → chunk_check_of w ≡ Ok n → chunk_check_of w' ≡ Ok n
+checks w w' n k e =
+    let m = check_met n w (sym e) in
+    let r : Ruled w' = k.ruled (ruled_of w (omega (arith, m.even)) m.good) in
+    let f : first_bad_of w' ≡ 0 + chunk_count w' = reaches (breaks_at w') (chunk_count w') 0 (λ j a b. ap not (r j)) in
+    accepted w' n (rw k.long m.even) (rw k.long m.is) (omega (arith, m.is, m.few)) (omega (arith, f, k.long, m.is))
 
 -- tests 1 and 2 pass again after the folding call
-pub again : (strict : Bool) (b : Buffers) (tries landings : List ℕ) (c : Counts) (n : ℕ) → chunk_check_of b.code ≡ Count n
-    → chunk_check_of (fold_call strict b tries landings c).result.after.code ≡ Count n
+pub again : (strict : Bool) (b : Buffers) (tries landings : List ℕ) (c : Counts) (n : ℕ) → chunk_check_of b.code ≡ Ok n
+    → chunk_check_of (fold_call strict b tries landings c).result.after.code ≡ Ok n
 unfolding fold_call rejoined joined_buffers fold_lent
 again strict b tries landings c n e = go (ready_of b.code tries b.kinds b.words c (lens_of b) (length landings)) refl
   where
     go : (v : Checked) → v ≡ ready_of b.code tries b.kinds b.words c (lens_of b) (length landings)
-        → chunk_check_of (asked v (λ r. called (fold_outcome (No r) b) tries landings) (rejoined b landings c
-        (fold_lent strict tries (needed b c) c))).result.after.code ≡ Count n
-    go (Refused r) q = e
-    go (Count m) q =
-        let h = held_of b tries c (length landings) m (Count m) q refl in
+        → chunk_check_of (asked v (λ r. called (fold_outcome (Err r) b) tries landings) (rejoined b landings c
+        (fold_lent strict tries (needed b c) c))).result.after.code ≡ Ok n
+    go (Err r) q = e
+    go (Ok m) q =
+        let h = held_of b tries c (length landings) m (Ok m) q refl in
         let d : length (take (chunk_count b.code) b.dead) ≡ chunk_count b.code = length-take-le (chunk_count b.code) b.dead h.dead in
         checks b.code (constant_fold (by_scan strict tries) (needed b c) c).after.code n
         (fold_keeps (by_scan strict tries) (needed b c) c (omega arith) (omega (arith, h.whole))) e

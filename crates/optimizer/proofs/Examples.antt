@@ -22,7 +22,8 @@ use Rattle.fold.specs.Plan.{operator_page, kind_of, prev_live, skips_into, block
 use Rattle.fold.specs.Plan as plan
 use Rattle.fold.specs.Pass.{const_load, put, landed, applied, try_fold, folded, fold_all}
 use Rattle.finish.specs.Finish.{sources_after, renewed, finished}
-use Rattle.optimizer.specs.Fold.{buffers, fold_outcome, fold_pass, constant_fold, joined_buffers, fold_lent, called, rejoined, fold_call, Is}
+use Rattle.std.specs.declared.result.Result.TheVariants.{Ok}
+use Rattle.optimizer.specs.Fold.{buffers, fold_outcome, fold_pass, constant_fold, joined_buffers, fold_lent, called, rejoined, fold_call}
 
 -- 2 + 3 with the try (0, 2): its handler is the operator, so strict mode leaves all as lent and counts the landing
 pub handler_strict : fold_call true
@@ -31,7 +32,7 @@ pub handler_strict : fold_call true
     (0 ∷ 2 ∷ []) (replicate 5 9)
     (record { constants = 2; map = 0; sources = 0; stmts = 0; calls = 0 })
     ≡ called
-    (fold_outcome (Is (record { instructions = 3; constants = 2; map = 0; sources = 0 }))
+    (fold_outcome (Ok (record { instructions = 3; constants = 2; map = 0; sources = 0 }))
     (buffers (LoadConst ∷ 2 ∷ 0 ∷ 5 ∷ LoadConst ∷ 2 ∷ 1 ∷ 6 ∷ Add ∷ 0 ∷ 0 ∷ 7 ∷ []) (1 ∷ 1 ∷ 9 ∷ []) (2 ∷ 3 ∷ 9 ∷ []) (replicate 3 9) [] [] []
     (replicate 3 0) (replicate 4 9)))
     (0 ∷ 2 ∷ []) (0 ∷ 0 ∷ 1 ∷ 0 ∷ 9 ∷ [])
@@ -48,7 +49,7 @@ pub handler_plain : fold_call false
     (0 ∷ 2 ∷ []) (replicate 5 9)
     (record { constants = 2; map = 0; sources = 0; stmts = 0; calls = 0 })
     ≡ called
-    (fold_outcome (Is (record { instructions = 1; constants = 3; map = 0; sources = 0 }))
+    (fold_outcome (Ok (record { instructions = 1; constants = 3; map = 0; sources = 0 }))
     (buffers (LoadConst ∷ 2 ∷ 2 ∷ 5 ∷ replicate 8 0) (1 ∷ 1 ∷ 1 ∷ []) (2 ∷ 3 ∷ 5 ∷ []) (replicate 3 0) [] [] [] (0 ∷ 1 ∷ 1 ∷ []) (0 ∷ 1 ∷ 1 ∷ 1 ∷ [])))
     (0 ∷ 1 ∷ []) (0 ∷ 1 ∷ 0 ∷ 0 ∷ 9 ∷ [])
 unfolding fold_call rejoined fold_lent landings_of landings_at moved_all barred lands_any handles_any handles first_bad_try try_kept joined_buffers constant_fold fold_pass

@@ -26,7 +26,8 @@ use Rattle.positions.proofs.Mapped.{map_out, pair_kept, moved_long, moved_at}
 use Rattle.phi_pass.specs.Phi.{marked}
 use Rattle.phi_pass.proofs.Pairs.{marked_length}
 use Rattle.finish.specs.Finish.{Tables, tables, map_of, sources_of, renewed, finished}
-use Rattle.optimizer.specs.Fold.{Buffers, needed, fold_pass, constant_fold, joined_buffers, fold_lent, Called, rejoined, fold_call, Is}
+use Rattle.std.specs.declared.result.Result.TheVariants.{Ok}
+use Rattle.optimizer.specs.Fold.{Buffers, needed, fold_pass, constant_fold, joined_buffers, fold_lent, Called, rejoined, fold_call}
 use Rattle.optimizer.specs.Inner.{Exact}
 use Rattle.optimizer.specs.declared.Folded.{Folded}
 use Rattle.optimizer.proofs.Again.{fold_keeps}
@@ -134,7 +135,7 @@ module _ (bars : Bars) (b : Buffers) (c : Counts) (x : Exact b c) where
 
 -- ---- of the call
 
-module _ (strict : Bool) (b : Buffers) (tries landings : List ℕ) (c : Counts) (f : Folded) (e : (fold_call strict b tries landings c).result.answer ≡ Is f) where
+module _ (strict : Bool) (b : Buffers) (tries landings : List ℕ) (c : Counts) (f : Folded) (e : (fold_call strict b tries landings c).result.answer ≡ Ok f) where
   abbrev call : Called
   call = fold_call strict b tries landings c
 

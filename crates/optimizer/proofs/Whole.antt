@@ -1,5 +1,5 @@
 -- Laws of `constant_fold`, `joined_buffers` and `fold_call`, from what the parts ensure. Assumes nothing.
-use Prim.Native.Nat.{ℕ, ◌+◌, ◌-◌, ◌^◌, ◌≤◌, ◌<◌}
+use Prim.Native.Nat.{ℕ, ◌+◌, ◌^◌, ◌≤◌, ◌<◌}
 use native.Mathlib.Omega.{arith}
 use mathlib.Core.Path.{◌≡◌, refl, sym, ap, ◌∙◌, subst}
 use mathlib.Core.Bool.{Bool, true, false, cond}
@@ -10,8 +10,8 @@ use mir.Val.{bool_byte}
 use Rattle.laws.specs.All.{every}
 use Rattle.laws.proofs.Many.{many_few, many_fewer}
 use Rattle.refusals.specs.declared.Refusal.{Refusal}
-use Rattle.refusals.specs.declared.Checked.{Checked}
-use Rattle.refusals.specs.declared.Checked.TheVariants.{Count, No as Refused}
+use Rattle.refusals.specs.Stages.{Checked}
+use Rattle.std.specs.declared.result.Result.TheVariants.{Ok, Err}
 use Rattle.refusals.proofs.Answers.{refused, told}
 use Rattle.chunk.specs.Chunk.{chunk_count, is_phi}
 use Rattle.chunk.specs.Check.{source_room, tally_of, ready_of}
@@ -19,7 +19,7 @@ use Rattle.chunk.specs.declared.Counts.{Counts}
 use Rattle.chunk.specs.declared.Tally.{Tally}
 use Rattle.fold.specs.Plan.{Chunk, chunk}
 use Rattle.landings.specs.Landings.{landings_of, Unmarked}
-use Rattle.fold.specs.Pass.{Bars, by_scan, by_table, fold_all}
+use Rattle.fold.specs.Pass.{Bars, by_scan, by_table}
 use Rattle.fold.specs.Inner.{PassRoom}
 use Rattle.fold.proofs.Landed.{same_folds}
 use Rattle.positions.specs.Remap.{alive}
@@ -36,17 +36,8 @@ use Rattle.optimizer.specs.Fold.{Called, called, rejoined, fold_call}
 use Rattle.optimizer.specs.Inner.{FoldRoom, Exact, Mapped}
 use Rattle.finish.specs.declared.Left.{Left}
 use Rattle.optimizer.specs.declared.Folded.{Folded}
-use Rattle.optimizer.specs.Fold.{Is, No}
-
-pub cleared : (xs old : List ℕ) → xs ≡ take 0 old ++ replicate (length old - 0) 0 → xs ≡ replicate (length old) 0
-cleared xs old e = let z : length old - 0 ≡ length old = omega arith in rw z at e
 
 -- the pass
-pub pass_is : (bars : Bars) (code dead kinds words marks : List ℕ) (k : ℕ) (t : Chunk)
-    → marks ≡ replicate (length dead) 0 → t ≡ fold_all bars (chunk code marks kinds words k) → t ≡ fold_pass bars (chunk code dead kinds words k)
-unfolding fold_pass
-pass_is bars code dead kinds words marks k t e f = rw (← e) f
-
 pub pass_kept : (bars : Bars) (s t : Chunk) → chunk_count s.code ≤ length s.dead → t ≡ fold_pass bars s
     → Passed (chunk s.code (replicate (length s.dead) 0) s.kinds s.words s.constants) t
 unfolding fold_pass
@@ -159,7 +150,7 @@ module _ (code kinds words map sources stmts calls dead remap : List ℕ) (c : C
       (buffers code kinds words (take (chunk_count code) map) (take r sources) (take c.stmts stmts) (take c.calls calls) (take (chunk_count code) dead)
       (take (chunk_count code + 1) remap)) c
       → called
-      (fold_outcome (Is a)
+      (fold_outcome (Ok a)
       (buffers code' kinds' words' (map' ++ drop (chunk_count code) map) (sources' ++ drop r sources) (stmts' ++ drop c.stmts stmts)
       (calls' ++ drop c.calls calls)
       (dead' ++ drop (chunk_count code) dead) (remap' ++ drop (chunk_count code + 1) remap)))
@@ -198,14 +189,14 @@ module _ (dead : List ℕ) (t : Bool) (e : t ≡ every (alive dead) (length dead
 -- the call: a refusal leaves all that is lent as it is
 module _ (strict : Bool) (b : Buffers) (tries landings : List ℕ) (c : Counts) (v : Checked)
     (e : v ≡ ready_of b.code tries b.kinds b.words c (lens_of b) (length landings)) where
-  pub refused_by : (r : Refusal) → v ≡ Refused r → called (fold_outcome (No r) b) tries landings ≡ fold_call strict b tries landings c
+  pub refused_by : (r : Refusal) → v ≡ Err r → called (fold_outcome (Err r) b) tries landings ≡ fold_call strict b tries landings c
   unfolding fold_call
   refused_by r h =
-      refused v (ready_of b.code tries b.kinds b.words c (lens_of b) (length landings)) e (λ q. called (fold_outcome (No q) b) tries landings)
-      (rejoined b landings c (fold_lent strict tries (needed b c) c)) r (called (fold_outcome (No r) b) tries landings) h refl
+      refused v (ready_of b.code tries b.kinds b.words c (lens_of b) (length landings)) e (λ q. called (fold_outcome (Err q) b) tries landings)
+      (rejoined b landings c (fold_lent strict tries (needed b c) c)) r (called (fold_outcome (Err r) b) tries landings) h refl
 
-  pub told_by : (n : ℕ) (o : Called) → v ≡ Count n → o ≡ rejoined b landings c (fold_lent strict tries (needed b c) c) → o ≡ fold_call strict b tries landings c
+  pub told_by : (n : ℕ) (o : Called) → v ≡ Ok n → o ≡ rejoined b landings c (fold_lent strict tries (needed b c) c) → o ≡ fold_call strict b tries landings c
   unfolding fold_call
   told_by n o h z =
-      told v (ready_of b.code tries b.kinds b.words c (lens_of b) (length landings)) e (λ q. called (fold_outcome (No q) b) tries landings)
+      told v (ready_of b.code tries b.kinds b.words c (lens_of b) (length landings)) e (λ q. called (fold_outcome (Err q) b) tries landings)
       (rejoined b landings c (fold_lent strict tries (needed b c) c)) n o h z

@@ -1,5 +1,7 @@
 -- The folding call: what it answers, and what every lent buffer holds then. Assumes nothing.
 use Rattle.std.specs.Prelude.{ℕ, ◌+◌, Bool, List, ◌++◌, length, take, drop, replicate}
+use Rattle.std.specs.declared.result.Result.{Result}
+use Rattle.std.specs.declared.result.Result.TheVariants.{Ok, Err}
 use Rattle.refusals.specs.Answers.{asked}
 use Rattle.refusals.specs.declared.Refusal.{Refusal}
 use Rattle.chunk.specs.Chunk.{chunk_count}
@@ -14,9 +16,8 @@ use Rattle.finish.specs.Finish.{tables, finished}
 use Rattle.optimizer.specs.declared.Folded.{Folded}
 
 -- what the call answers: the counts of what is left, or a refusal
-pub data FoldAnswer : Type 0 where
-  Is : Folded → FoldAnswer
-  No : Refusal → FoldAnswer
+abbrev pub FoldAnswer : Type 0
+FoldAnswer = Result Folded Refusal
 
 -- the lent buffers, in the order of the call
 pub record Buffers : Type 0 where
@@ -91,7 +92,7 @@ constant_fold bars b c =
 unfoldable pub joined_buffers : Buffers → Counts → FoldOutcome Folded → FoldOutcome FoldAnswer
 joined_buffers b c o =
     let a = o.after in
-    fold_outcome (Is o.answer)
+    fold_outcome (Ok o.answer)
     (buffers a.code a.kinds a.words (a.map ++ drop (chunk_count b.code) b.map) (a.sources ++ drop (sources_needed b c) b.sources)
     (a.stmts ++ drop c.stmts b.stmts) (a.calls ++ drop c.calls b.calls) (a.dead ++ drop (chunk_count b.code) b.dead)
     (a.remap ++ drop (chunk_count b.code + 1) b.remap))
@@ -130,5 +131,5 @@ rejoined b landings c s = called (joined_buffers b c s.fold) s.tries (s.landings
 -- refusals 1, 2, 4, 7 and 5, which leave all that is lent untouched; else the fold
 unfoldable pub fold_call : Bool → Buffers → List ℕ → List ℕ → Counts → Called
 fold_call strict b tries landings c =
-    asked (ready_of b.code tries b.kinds b.words c (lens_of b) (length landings)) (λ r. called (fold_outcome (No r) b) tries landings)
+    asked (ready_of b.code tries b.kinds b.words c (lens_of b) (length landings)) (λ r. called (fold_outcome (Err r) b) tries landings)
     (rejoined b landings c (fold_lent strict tries (needed b c) c))

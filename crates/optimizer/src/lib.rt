@@ -1,7 +1,7 @@
 // The exact fold of one chunk: folding, the Phi pass and compaction under one statement, over buffers that are as long as needed.
 #![tactic(auto)]
 
-ghost use Rattle.std.specs.Prelude.{◌≡◌, ◌+◌, ◌≤◌, length, replicate};
+ghost use Rattle.std.specs.Prelude.{◌≡◌, ◌+◌, ◌≤◌, length};
 ghost use Rattle.chunk.specs.Chunk.{chunk_count};
 ghost use Rattle.fold.specs.Plan.{chunk};
 ghost use Rattle.fold.specs.Pass.{by_table};
@@ -22,18 +22,8 @@ pub struct Folded {
     pub sources: usize,
 }
 
-// Dead marks all 0.
-fn clear_marks(dead: &mut [u8])
-    ensures { dead.new ≡ replicate (length dead.old) 0 }
-{
-    let mut i: usize = 0;
-    while i < dead.len() {
-        dead[i] = 0;
-        i += 1;
-    }
-}
-
 // The folding pass, from marks that may hold anything. Answers the new count of constants.
+#[tactic(auto, unfolding(crate::specs::Fold::fold_pass))]
 fn fold_pass(
     code: &mut [u16],
     dead: &mut [u8],
@@ -48,11 +38,12 @@ fn fold_pass(
         ≡ fold_pass (by_table strict landings.now) (chunk code.old dead.old kinds.old words.old
         constants) }
 {
-    clear_marks(dead);
+    dead.fill(0);
     pass::fold_all(code, dead, kinds, words, constants, landings, strict)
 }
 
 // The tries follow, if anything died.
+#[tactic(auto, using(crate::proofs::Whole::tries_stay, crate::proofs::Whole::map_there))]
 fn move_tries(tries: &mut [u32], dead: &[u8], remap: &[u32])
     requires { Mapped dead.now remap.now }
     ensures { tries.new ≡ moved_all dead.now tries.old }

@@ -7,10 +7,10 @@ use native.Mathlib.Omega.{arith}
 use mathlib.Core.Path.{◌≡◌, refl, sym, ap, ◌∙◌}
 use mathlib.Core.Bool.{Bool, true, false, cond, ◌&&◌}
 use mathlib.Core.List.{List, [], ◌∷◌, ◌++◌, append-nil}
-use lib.Dec.{eqb, ltb}
+use lib.Dec.{eqb}
 use lib.ListN.{length, get_or, set, take, replicate}
 use lib.Seq.{take-suc, take-suc-set, set-get_or}
-use borrow.Author.Tests.{eq-eqb, ne_eqb, lt-ltb, le-ltb, ltb-true, eqb-true}
+use borrow.Author.Tests.{eq-eqb, ne_eqb, le-ltb, eqb-true}
 use mir.Val.{bool_byte}
 use Rattle.laws.specs.All.{many}
 use Rattle.laws.specs.Each.{each}
@@ -18,74 +18,21 @@ use Rattle.laws.proofs.Branch.{and-true}
 use Rattle.laws.proofs.Many.{many_more, many_few, counted_on}
 use Rattle.laws.proofs.Each.{each_more, each_word}
 use Rattle.laws.proofs.InPlace.{Walked, walk_none, walk_read, walk_two, walk_at, walk_as, walk_whole, word_put}
-use Rattle.chunk.specs.Chunk.{chunk_count, op_at, operand_at, is_phi}
+use Rattle.chunk.specs.Chunk.{chunk_count, op_at, is_phi}
 use Rattle.ops.specs.Op.{Phi}
 use Rattle.phi_pass.specs.Phi.{paired, left_source, right_source, noop, phi_mark_at, marked, pair_left, pairs_left, phi_entry, indexed}
 use Rattle.phi_pass.specs.Inner.{spread}
 
--- ---- which Phis have a pair, and which of them die
+-- ---- which Phis die
 
 module _ (w map sources : List ℕ) (i : ℕ) where
-  pub no_phi : (o : ℕ) → o ≡ op_at w i → (o ≡ Phi → ⊥) → false ≡ paired w map sources i
+  a_phi : paired w map sources i ≡ true → is_phi w i ≡ true
   unfolding paired
-  no_phi o e h = rw (ne_eqb (op_at w i) Phi (λ q. h (e ∙ q)))
+  a_phi h = (and-true (is_phi w i) _ h).0
 
-  pub no_entry : (o : ℕ) → o ≡ op_at w i → o ≡ Phi → length map ≤ i → false ≡ paired w map sources i
-  unfolding paired
-  no_entry o e h l = rw (eq-eqb (op_at w i) Phi (sym e ∙ h), le-ltb i (length map) l)
-
-  pub an_entry : (o r : ℕ) → o ≡ op_at w i → o ≡ Phi → i < length map → r ≡ get_or map i 0 → ltb r (length sources / 2) ≡ paired w map sources i
-  unfolding paired
-  an_entry o r e h l f = rw (f, eq-eqb (op_at w i) Phi (sym e ∙ h), lt-ltb i (length map) l)
-
-  module _ (t : Bool) (e : t ≡ paired w map sources i) (h : t ≡ true) where
-    both : (ltb i (length map) && ltb (get_or map i 0) (length sources / 2)) ≡ true
-    unfolding paired
-    both = (and-true (is_phi w i) _ (sym e ∙ h)).1
-
-    pub in_map : i < length map
-    in_map = ltb-true i (length map) (and-true (ltb i (length map)) _ both).0
-
-    pub in_sources : get_or map i 0 < length sources / 2
-    in_sources = ltb-true _ _ (and-true (ltb i (length map)) _ both).1
-
-    pub a_phi : is_phi w i ≡ true
-    unfolding paired
-    a_phi = (and-true (is_phi w i) _ (sym e ∙ h)).0
-
-    pub tells : (o : ℕ) (r : Bool) → o ≡ operand_at w i → r ≡ eqb (left_source map sources i) o && eqb (right_source map sources i) o → r ≡ noop w map sources i
-    unfolding noop
-    tells o r f g = let q : paired w map sources i ≡ true = sym e ∙ h in g ∙ rw (q, f)
-
-  pub tells_no : (t : Bool) → t ≡ paired w map sources i → t ≡ false → false ≡ noop w map sources i
-  unfolding noop
-  tells_no t e h = let q : paired w map sources i ≡ false = sym e ∙ h in rw q
-
-  module _ (dead : List ℕ) where
-    pub dead_stays : (get_or dead i 0 ≡ 0 → ⊥) → get_or dead i 0 ≡ phi_mark_at w map sources dead i
-    unfolding phi_mark_at
-    dead_stays h = rw (ne_eqb (get_or dead i 0) 0 h)
-
-    pub it_dies : (t : Bool) → get_or dead i 0 ≡ 0 → t ≡ noop w map sources i → t ≡ true → 1 ≡ phi_mark_at w map sources dead i
-    unfolding phi_mark_at
-    it_dies t z e h = let q : noop w map sources i ≡ true = sym e ∙ h in rw (eq-eqb (get_or dead i 0) 0 z, q)
-
-    pub it_lives : (t : Bool) → get_or dead i 0 ≡ 0 → t ≡ noop w map sources i → t ≡ false → 0 ≡ phi_mark_at w map sources dead i
-    unfolding phi_mark_at
-    it_lives t z e h = let q : noop w map sources i ≡ false = sym e ∙ h in rw (eq-eqb (get_or dead i 0) 0 z, q)
-
--- a pair read through phi_map, r
-module _ (map sources : List ℕ) (i r : ℕ) (e : r ≡ get_or map i 0) where
-  pub pair_tested : (o : ℕ) → eqb (get_or sources (2 * r) 0) o && eqb (get_or sources (2 * r + 1) 0) o
-      ≡ eqb (left_source map sources i) o && eqb (right_source map sources i) o
-  pair_tested o = rw e
-
-  module _ (a b : ℕ) (f : a ≡ get_or sources (2 * r) 0) (g : b ≡ get_or sources (2 * r + 1) 0) (h : b < 65536) where
-    pub pack_first : (a * 65536 + b) / 65536 ≡ left_source map sources i
-    pack_first = let q : (a * 65536 + b) / 65536 ≡ a = omega arith in q ∙ f ∙ rw e
-
-    pub pack_second : (a * 65536 + b) % 65536 ≡ right_source map sources i
-    pack_second = let q : (a * 65536 + b) % 65536 ≡ b = omega arith in q ∙ g ∙ rw e
+  pub dead_stays : (dead : List ℕ) → (get_or dead i 0 ≡ 0 → ⊥) → get_or dead i 0 ≡ phi_mark_at w map sources dead i
+  unfolding phi_mark_at
+  dead_stays dead h = rw (ne_eqb (get_or dead i 0) 0 h)
 
 -- where the marking stands at i
 pub record Marked (w map sources xs old : List ℕ) (i : ℕ) : Type 0 where
@@ -107,9 +54,6 @@ module _ {w map sources xs old : List ℕ} {i : ℕ} (m : Marked w map sources x
   pub marked_more : (v : ℕ) → v ≡ phi_mark_at w map sources xs i → i < length old → Marked w map sources (set xs i v) old (i + 1)
   marked_more v e h =
       record { walked = word_put (phi_mark_at w map sources old) m.walked h v (e ∙ mark_same w map sources xs old i (walk_read m.walked i (le_refl i))) }
-
-  pub marked_same : length xs ≡ length old
-  marked_same = m.walked.same
 
   pub marked_whole : length old ≤ i → i ≤ length old → xs ≡ marked w map sources old
   unfolding marked
@@ -179,20 +123,22 @@ module _ {w map sources dead queue : List ℕ} {to i : ℕ} (g : Gathered w map 
   pub gathered_dead : (get_or dead i 0 ≡ 0 → ⊥) → Gathered w map sources dead queue to (i + 1)
   gathered_dead h = record { pairs = g.pairs ∙ sym (pair_dead w map sources dead i h); few = omega (arith, g.few, many_more (is_phi w) i) }
 
-  pub gathered_skip : (t : Bool) → get_or dead i 0 ≡ 0 → t ≡ paired w map sources i → t ≡ false → Gathered w map sources dead queue to (i + 1)
-  gathered_skip t z e h =
-      record { pairs = g.pairs ∙ sym (pair_off w map sources dead i z (sym e ∙ h)); few = omega (arith, g.few, many_more (is_phi w) i) }
+  pub gathered_skip : get_or dead i 0 ≡ 0 → paired w map sources i ≡ false → Gathered w map sources dead queue to (i + 1)
+  gathered_skip z h =
+      record { pairs = g.pairs ∙ sym (pair_off w map sources dead i z h); few = omega (arith, g.few, many_more (is_phi w) i) }
 
-  pub gathered_put : (t : Bool) (v m : ℕ) → get_or dead i 0 ≡ 0 → t ≡ paired w map sources i → t ≡ true → v / 65536 ≡ left_source map sources i
-      → v % 65536 ≡ right_source map sources i → length queue ≡ m → length dead ≤ m → to ≤ i → i < length dead
-      → Gathered w map sources dead (set queue to v) (to + 1) (i + 1)
-  gathered_put t v m z e h a b p o x y =
+  pub gathered_put : (a b m : ℕ) → get_or dead i 0 ≡ 0 → paired w map sources i ≡ true → a ≡ left_source map sources i → b ≡ right_source map sources i
+      → b < 65536 → length queue ≡ m → length dead ≤ m → to ≤ i → i < length dead
+      → Gathered w map sources dead (set queue to (a * 65536 + b)) (to + 1) (i + 1)
+  gathered_put a b m z h e f n p o x y =
       let l : to < length queue = omega arith in
-      let f : many (is_phi w) (i + 1) ≡ many (is_phi w) i + 1 = many_more (is_phi w) i ∙ rw (a_phi w map sources i t e h) in
+      let q : (a * 65536 + b) / 65536 ≡ left_source map sources i = omega arith in
+      let r : (a * 65536 + b) % 65536 ≡ right_source map sources i = omega arith in
+      let s : many (is_phi w) (i + 1) ≡ many (is_phi w) i + 1 = many_more (is_phi w) i ∙ rw (a_phi w map sources i h) in
       record {
         pairs =
-            ap spread (rw (add-one to) (take-suc-set queue to v l)) ∙ spread_more (take to queue) v
-            ∙ rw (g.pairs, a, b) (sym (pair_on w map sources dead i z (sym e ∙ h)));
+            ap spread (rw (add-one to) (take-suc-set queue to (a * 65536 + b) l)) ∙ spread_more (take to queue) (a * 65536 + b)
+            ∙ rw (g.pairs, q, r) (sym (pair_on w map sources dead i z h));
         few = omega (arith, g.few);
       }
 
@@ -213,7 +159,7 @@ none_gathered w map sources dead queue e zero = gathered_none w map sources dead
 none_gathered w map sources dead queue e (suc i) = rw (add-one i) at (go (none_gathered w map sources dead queue e i) (ℕ_discrete (get_or dead i 0) 0))
   where
     go : Gathered w map sources dead queue 0 i → Dec (get_or dead i 0 ≡ 0) → Gathered w map sources dead queue 0 (i + 1)
-    go g (yes z) = gathered_skip g false z (sym (unpaired w map sources i e)) refl
+    go g (yes z) = gathered_skip g z (unpaired w map sources i e)
     go g (no z) = gathered_dead g z
 
 module _ (w map sources dead queue : List ℕ) (e : length map ≡ 0) where
@@ -237,9 +183,6 @@ module _ {queue xs old : List ℕ} {j : ℕ} (s : Spread queue xs old j) where
       let done : spread (take j queue) ++ (a ∷ b ∷ []) ≡ spread (take (j + 1) queue) = rw (e, f, add-one j, take-suc queue j 0 (omega arith))
       (sym (spread_more (take j queue) (get_or queue j 0))) in
       record { walked = walk_at (walk_as two (spread (take (j + 1) queue)) done) (2 * (j + 1)) (2 * (j + 1)) (omega arith) (omega arith) }
-
-  pub spread_same : length xs ≡ length old
-  spread_same = s.walked.same
 
   pub spread_whole : (m : ℕ) (end : List ℕ) → m ≤ j → j ≤ m → end ≡ take (2 * m) xs ++ replicate (length xs - 2 * m) 0
       → end ≡ spread (take m queue) ++ replicate (length old - 2 * m) 0
@@ -267,9 +210,6 @@ module _ {w xs old : List ℕ} {next i : ℕ} (x : Indexed w xs old next i) wher
   pub indexed_few : next ≤ i
   indexed_few = omega (arith, x.counts, many_few (is_phi w) i)
 
-  pub indexed_same : length xs ≡ length old
-  indexed_same = x.walked.same
-
   module _ (s : length old ≡ chunk_count w) (h : length old ≤ i) (l : i ≤ length old) where
     pub indexed_count : next ≡ many (is_phi w) (chunk_count w)
     indexed_count = let e : i ≡ chunk_count w = omega arith in x.counts ∙ ap (many (is_phi w)) e
@@ -277,3 +217,11 @@ module _ {w xs old : List ℕ} {next i : ℕ} (x : Indexed w xs old next i) wher
     pub indexed_whole : xs ≡ indexed w
     unfolding indexed
     indexed_whole = let e : i ≡ chunk_count w = omega arith in rw e at (walk_whole x.walked h)
+
+pub ruleset marking = (none_marked, marked_none, marked_more, marked_whole)
+
+pub ruleset gathering = (none_left, gathered_none, gathered_dead, gathered_skip, gathered_put, gathered_few, gathered_whole, gathered_all)
+
+pub ruleset spreading = (spread_none, spread_on, spread_whole)
+
+pub ruleset indexing = (indexed_none, indexed_more, indexed_few, indexed_count, indexed_whole)

@@ -6,7 +6,7 @@ use Prim.Native.Nat.{ℕ, ◌%◌, ◌^◌, ◌<◌}
 use lib.Ieee.{Float, nan, inf, fin, is_nan, binary64, of_bits, to_bits}
 use lib.Ieee.Bits.{nan_bits_is, nan_bits_above}
 use borrow.Author.Tests.{lt-ltb}
-use Rattle.values.specs.declared.Maybe.TheVariants.{Is}
+use Rattle.std.specs.declared.option.Option.TheVariants.{Some}
 use Rattle.values.specs.declared.Val.TheVariants.{Float as Real}
 use Rattle.pool.specs.Pool.{to_val, find_or_push, find_or_push_const}
 
@@ -22,9 +22,9 @@ only (inf s) e = absurd (false≢true e)
 only (fin s m d) e = absurd (false≢true e)
 
 -- any word above infinity's, its sign apart, is read as the single NaN
-pub nan_read : (w : ℕ) → 0x7ff0_0000_0000_0000 < w % 2 ^ 63 → to_val 2 w ≡ Is (Real nan)
+pub nan_read : (w : ℕ) → 0x7ff0_0000_0000_0000 < w % 2 ^ 63 → to_val 2 w ≡ Some (Real nan)
 unfolding to_val
-nan_read w h = ap (λ (x : Float). Is (Real x)) (only (of_bits binary64 w) (sym (nan_bits_is binary64 w) ∙ nan_bits_above binary64 w ∙ lt-ltb 0x7ff0_0000_0000_0000
+nan_read w h = ap (λ (x : Float). Some (Real x)) (only (of_bits binary64 w) (sym (nan_bits_is binary64 w) ∙ nan_bits_above binary64 w ∙ lt-ltb 0x7ff0_0000_0000_0000
     (w % 2 ^ 63) h))
 
 -- a result that is NaN is kept as a float of those bits: found where a float has them, else pushed with them

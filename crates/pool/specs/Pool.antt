@@ -8,22 +8,20 @@ use Rattle.laws.specs.Walk.{first}
 use Rattle.values.specs.Folds.{in_range}
 use Rattle.values.specs.declared.Val.{Val}
 use Rattle.values.specs.declared.Val.TheVariants.{Int, Float as Real, Bool as Truth}
-use Rattle.values.specs.declared.Maybe.{Maybe}
-use Rattle.values.specs.declared.Maybe.TheVariants.{Is, Nothing}
-use Rattle.pool.specs.declared.Kept.{Kept}
-use Rattle.pool.specs.declared.Kept.TheVariants.{At, Full}
+use Rattle.std.specs.declared.option.Option.{Option}
+use Rattle.std.specs.declared.option.Option.TheVariants.{Some, None}
 
 -- what a constant is as an operand: an int is its word in two's complement, where it is in range, and a float its word's, every NaN the single one
-unfoldable pub to_val : ℕ → ℕ → Maybe
+unfoldable pub to_val : ℕ → ℕ → Option Val
 to_val k w =
     cond (eqb k 1) (in_range (to_z w64 w))
-    (cond (eqb k 2) (Is (Real (of_bits binary64 w)))
-    (cond (eqb k 3) (Is (Truth (not (eqb w 0))))
-    Nothing))
+    (cond (eqb k 2) (Some (Real (of_bits binary64 w)))
+    (cond (eqb k 3) (Some (Truth (not (eqb w 0))))
+    None))
 
 -- one past the count is no operand
-unfoldable pub const_to_val : List ℕ → List ℕ → ℕ → ℕ → Maybe
-const_to_val kinds words count i = cond (ltb i count) (to_val (get_or kinds i 0) (get_or words i 0)) Nothing
+unfoldable pub const_to_val : List ℕ → List ℕ → ℕ → ℕ → Option Val
+const_to_val kinds words count i = cond (ltb i count) (to_val (get_or kinds i 0) (get_or words i 0)) None
 
 -- constants are equal by kind and word: ints by number, floats by bits, kinds never equal
 abbrev pub equals : List ℕ → List ℕ → ℕ → ℕ → ℕ → Bool
@@ -33,26 +31,26 @@ equals kinds words k w i = eqb (get_or kinds i 0) k && eqb (get_or words i 0) w
 abbrev pub position : List ℕ → List ℕ → ℕ → ℕ → ℕ → ℕ
 position kinds words count k w = first (equals kinds words k w) 0 count
 
--- where a result is kept, and the pool with it
+-- where a result is kept with the new count, or no room, and the pool with it
 pub record Stored : Type 0 where
-  pub kept : Kept
+  pub kept : Option (ℕ × ℕ)
   pub kinds : List ℕ
   pub words : List ℕ
 
 -- a result kept so, with the pool's kinds and words after it
-abbrev pub stored : Kept → List ℕ → List ℕ → Stored
+abbrev pub stored : Option (ℕ × ℕ) → List ℕ → List ℕ → Stored
 stored r kinds words = record { kept = r; kinds = kinds; words = words }
 
 -- the first equal constant; otherwise it is pushed, unless the pool already has 65,535 or more
 unfoldable pub find_or_push : List ℕ → List ℕ → ℕ → ℕ → ℕ → Stored
 find_or_push kinds words count k w =
-    cond (ltb (position kinds words count k w) count) (stored (At (position kinds words count k w) count) kinds words)
-    (cond (ltb count 65535) (stored (At count (count + 1)) (set kinds count k) (set words count w))
-    (stored Full kinds words))
+    cond (ltb (position kinds words count k w) count) (stored (Some (position kinds words count k w, count)) kinds words)
+    (cond (ltb count 65535) (stored (Some (count, count + 1)) (set kinds count k) (set words count w))
+    (stored None kinds words))
 
 -- an int's word is its two's complement, and a float's its bits, the single NaN's 0x7FF8_0000_0000_0000; a bool is never kept
 unfoldable pub find_or_push_const : List ℕ → List ℕ → ℕ → Val → Stored
 unfolding find_or_push
 find_or_push_const kinds words count (Int z) = find_or_push kinds words count 1 (of_z w64 z)
 find_or_push_const kinds words count (Real x) = find_or_push kinds words count 2 (to_bits binary64 x)
-find_or_push_const kinds words count (Truth b) = stored Full kinds words
+find_or_push_const kinds words count (Truth b) = stored None kinds words

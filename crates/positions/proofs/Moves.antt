@@ -1,10 +1,10 @@
--- Laws of remap, of what follows it and of what is cleared, for the loops that write them in place. Assumes nothing.
-use Prim.Native.Nat.{ℕ, ◌+◌, ◌-◌, ◌*◌, ◌/◌, ◌%◌, ◌≤◌, ◌<◌}
+-- Laws of remap and of what follows it, for the loops that write them in place. Assumes nothing.
+use Prim.Native.Nat.{ℕ, ◌+◌, ◌*◌, ◌/◌, ◌%◌, ◌≤◌, ◌<◌}
 use native.Mathlib.Nat.{le_refl}
 use native.Mathlib.Omega.{arith}
 use mathlib.Core.Path.{◌≡◌, refl, sym, ap, ◌∙◌}
 use mathlib.Core.List.{List, [], ◌∷◌, ◌++◌, append_assoc}
-use lib.ListN.{length, get_or, set, take, replicate}
+use lib.ListN.{length, get_or, set}
 use lib.Seq.{set-get_or}
 use borrow.Author.Tests.{eq-eqb, ne_eqb, le-leb, lt-leb}
 use mir.Val.{bool_byte}
@@ -12,7 +12,7 @@ use Rattle.laws.specs.All.{many}
 use Rattle.laws.specs.Each.{each}
 use Rattle.laws.proofs.Many.{many_more, many_few, counted_on}
 use Rattle.laws.proofs.Each.{each_more, each_word, each_at}
-use Rattle.laws.proofs.InPlace.{Walked, walk_none, walk_read, walk_put, walk_at, walk_as, walk_whole, word_put, Cleared}
+use Rattle.laws.proofs.InPlace.{Walked, walk_none, walk_read, walk_put, walk_at, walk_as, walk_whole, word_put}
 use Rattle.positions.specs.Remap.{alive, live, remap_of, mapped}
 use Rattle.positions.specs.Inner.{Remap}
 use Rattle.positions.specs.Moved.{pair_at, placed, moved_all}
@@ -62,9 +62,6 @@ module _ {dead xs old : List ℕ} {at i : ℕ} (c : Counted dead xs old at i) wh
     counts = counted_on (alive dead) i at r (alive dead i) c.counts e refl;
   }
 
-  pub counted_same : length xs ≡ length old
-  counted_same = c.walked.same
-
   pub counted_few : at ≤ i
   counted_few = omega (arith, c.counts, many_few (alive dead) i)
 
@@ -77,14 +74,9 @@ module _ {dead xs old : List ℕ} {at i : ℕ} (c : Counted dead xs old at i) wh
       (omega arith) in
       rw q at done
 
--- ---- what is cleared from a on, as far as i
+pub ruleset counting = (counted_none, counted_more, counted_few, counted_whole, remap_of_lem)
 
-module _ {xs old : List ℕ} {a i : ℕ} (c : Cleared xs old a i) where
-  pub cleared_whole : length xs ≤ i → i ≤ length old → xs ≡ take a old ++ replicate (length old - a) 0
-  cleared_whole h l =
-      let s = c.walked.same in
-      let e : i ≡ length old = omega arith in
-      rw e at (walk_whole c.walked (omega arith))
+pub ruleset reading = (moved_in, moved_less, moved_out)
 
 -- ---- position pairs
 
@@ -113,12 +105,11 @@ module _ {dead xs old : List ℕ} {k : ℕ} (p : Placed dead xs old k) where
       ∙ rw (b, a) (sym (each_more (pair_at dead old) k)) in
       record { walked = walk_at (walk_as two (each (pair_at dead old) (k + 1)) done) (2 * (k + 1)) (2 * (k + 1)) (omega arith) (omega arith) }
 
-  pub placed_same : length xs ≡ length old
-  placed_same = p.walked.same
-
   pub placed_whole : length old / 2 ≤ k → k ≤ length old / 2 → length old % 2 ≡ 0 → xs ≡ placed dead old
   unfolding placed
   placed_whole h l z = let e : k ≡ length old / 2 = omega arith in walk_whole p.walked (omega arith) ∙ ap (each (pair_at dead old)) e
+
+pub ruleset placing = (placed_none, placed_more, placed_whole)
 
 -- ---- every word
 
@@ -137,11 +128,10 @@ module _ {dead xs old : List ℕ} {k : ℕ} (p : Moving dead xs old k) where
             (e ∙ ap (mapped dead) (walk_read p.walked k (le_refl k)));
       }
 
-  pub moving_same : length xs ≡ length old
-  moving_same = p.walked.same
-
   pub moving_whole : length xs ≤ k → k ≤ length old → xs ≡ moved_all dead old
   unfolding moved_all
   moving_whole h l =
       let e : k ≡ length old = omega (arith, p.walked.same) in
       walk_whole p.walked (omega (arith, p.walked.same)) ∙ ap (each (λ j. mapped dead (get_or old j 0) ∷ [])) e
+
+pub ruleset moving = (moving_none, moving_more, moving_whole)

@@ -5,7 +5,7 @@ use mathlib.Core.Bool.{Bool}
 use mathlib.Core.List.{List}
 use lib.ListN.{length}
 use borrow.Author.Tests.{le-ltb}
-use Rattle.refusals.specs.declared.Checked.TheVariants.{Count}
+use Rattle.std.specs.declared.result.Result.TheVariants.{Ok}
 use Rattle.chunk.specs.declared.Counts.{Counts}
 use Rattle.optimizer.specs.Fold.{lens_of}
 use Rattle.optimizer.specs.declared.Folded.{Folded}
@@ -21,7 +21,7 @@ use Rattle.refold.specs.Lendable.{cut_at, counts_left, Lendable, clearable, clea
 use Rattle.refold.proofs.Lends.{o, all_left, call_answered, lends}
 
 -- an accepted chunk is folded
-pub folds : (strict : Bool) (l : Lending) (c : Counts) (n : ℕ) → ready_for l c ≡ Count n → (g : Folded) × (y : Lending) × Folds strict l c g y
+pub folds : (strict : Bool) (l : Lending) (c : Counts) (n : ℕ) → ready_for l c ≡ Ok n → (g : Folded) × (y : Lending) × Folds strict l c g y
 folds strict l c n e = ((o strict l c).answer, all_left strict l c, call_answered strict l c n e)
 
 module _ (f : Folded) (c : Counts) (a : Lending) (x : Lendable f c a) (scratch : List ℕ) (h : f.constants ≤ length scratch) where
@@ -29,7 +29,7 @@ module _ (f : Folded) (c : Counts) (a : Lending) (x : Lendable f c a) (scratch :
   b = clearable f a scratch
 
   -- the clearing call refuses nothing but a scratch that is too short
-  pub clears_after : clearing.clear_ready_of b f.constants ≡ Count f.instructions
+  pub clears_after : clearing.clear_ready_of b f.constants ≡ Ok f.instructions
   unfolding clearing.clear_ready_of
   clears_after = rw (x.code, x.pool, le-ltb (length scratch) f.constants h)
 
@@ -39,11 +39,11 @@ module _ (f : Folded) (c : Counts) (a : Lending) (x : Lendable f c a) (scratch :
       let w = b.code in
       let e = answered_call b m f.instructions clears_after in
       let y = answered b m (before w m) (clearing.cleared b m).after e in
-      let k = held_of b m (Count f.instructions) (sym clears_after) f.instructions refl in
+      let k = held_of b m (Ok f.instructions) (sym clears_after) f.instructions refl in
       let i = accepted_after f.instructions w a.tries a.buffers.kinds a.buffers.words (counts_left f c) (lens_of (cut_at f a).buffers)
       (length a.landings) x.ready in
       let d = cleared_buffers a (clearing.cleared b m).after in
-      let z : ready_for d (counts_cleared f c (before w m)) ≡ Count f.instructions =
+      let z : ready_for d (counts_cleared f c (before w m)) ≡ Ok f.instructions =
       rw (
         y.code,
         y.kinds,

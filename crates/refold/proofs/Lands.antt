@@ -27,7 +27,7 @@ use Rattle.refold.specs.Inner.{Folds}
 use Rattle.refold.specs.Left.{TriesLeft, LandingsLeft}
 use Rattle.refold.proofs.Lends.{o, before, after, all_left, all_settled, marks, end_marks, tries_left, n_is, few, after_code}
 use Rattle.refold.proofs.Lends.{check_count, call_answered, by_call}
-use Rattle.refusals.specs.declared.Checked.TheVariants.{Count}
+use Rattle.std.specs.declared.result.Result.TheVariants.{Ok}
 
 -- a test that fails from r on passes as often below r
 many_cut : (f : ℕ → Bool) (r n : ℕ) → r ≤ n → ((k : ℕ) → r ≤ k → k < n → f k ≡ false) → many f n ≡ many f r
@@ -77,7 +77,7 @@ finished_calm t e k = go (every (alive d) (length d))
     go false a b = rw (mark_past d t.code k a) refl
 
 module _ (strict : Bool) (l : Lending) (c : Counts) where
-  module _ (m : ℕ) (q : ready_for l c ≡ Count m) where
+  module _ (m : ℕ) (q : ready_for l c ≡ Ok m) where
     abbrev answer : Folds strict l c (o strict l c).answer (all_left strict l c)
     answer = call_answered strict l c m q
 

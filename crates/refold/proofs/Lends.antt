@@ -3,9 +3,9 @@ use Prim.Native.Nat.{ℕ, zero, suc, ◌+◌, ◌-◌, ◌*◌, ◌%◌, ◌≤�
 use native.Mathlib.Omega.{arith}
 use mathlib.Core.Path.{◌≡◌, refl, sym, ap, ◌∙◌, subst}
 use mathlib.Core.Logic.{◌⊎◌, inl, inr, ⊎_elim}
-use mathlib.Core.Bool.{Bool, true, false, cond, not, ◌&&◌, ◌||◌}
+use mathlib.Core.Bool.{Bool, true, false, not, ◌&&◌, ◌||◌}
 use mathlib.Core.List.{List, ◌++◌}
-use lib.Dec.{eqb, leb, ltb}
+use lib.Dec.{eqb, leb}
 use lib.ListN.{length, get_or, take, drop, replicate, length-append, length-drop, length-replicate, take-append-drop, get_or-append}
 use lib.Seq.{length-take-le, get_or-drop, ext_get_or, drop_at}
 use borrow.Author.Tests.{eqb-true, eq-eqb, le-leb, le-ltb}
@@ -16,13 +16,12 @@ use Rattle.laws.proofs.Branch.{and-true, or_true}
 use Rattle.laws.proofs.Many.{many_fewer}
 use Rattle.refusals.specs.Stages.{pairs, first_bad_try, tried_of, try_kept}
 use Rattle.refusals.specs.declared.Refusal.{Refusal}
-use Rattle.refusals.specs.declared.Refusal.TheVariants.{Length, Record, Try, Table}
-use Rattle.refusals.specs.declared.Checked.{Checked}
-use Rattle.refusals.specs.declared.Checked.TheVariants.{Count, No as Refused}
+use Rattle.refusals.specs.Stages.{Checked}
+use Rattle.std.specs.declared.result.Result.TheVariants.{Ok, Err}
 use Rattle.refusals.proofs.Stages.{room_before}
 use Rattle.chunk.specs.Chunk.{stride, chunk_count, op_at, folds, is_phi}
-use Rattle.chunk.specs.Tables.{constant_kept, within, constants_kept, map_kept, pairs_kept, table_of}
-use Rattle.chunk.specs.Check.{uneven_chunk, first_bad_of, chunk_check_of, tables_of, tally_of, constant_room, source_room, rooms_of, ready_of}
+use Rattle.chunk.specs.Tables.{constant_kept, within, constants_kept, map_kept, pairs_kept}
+use Rattle.chunk.specs.Check.{chunk_check_of, tables_of, tally_of, constant_room, source_room, rooms_of, ready_of}
 use Rattle.chunk.proofs.Kept.{kinds_there, words_there}
 use Rattle.chunk.specs.declared.Counts.{Counts}
 use Rattle.chunk.specs.declared.Lens.{Lens}
@@ -38,13 +37,13 @@ use Rattle.positions.proofs.Mapped.{moved_long, none_moved}
 use Rattle.finish.specs.Finish.{Tables, tables, finished}
 use Rattle.finish.specs.Inner.{TableRoom}
 use Rattle.optimizer.specs.Fold.{Buffers, lens_of, needed, sources_needed, FoldOutcome, fold_pass, constant_fold, joined_buffers}
-use Rattle.optimizer.specs.Fold.{fold_lent, Called, rejoined, fold_call, Is, No}
+use Rattle.optimizer.specs.Fold.{fold_lent, Called, rejoined, fold_call}
 use Rattle.optimizer.specs.Inner.{FoldRoom, Exact}
 use Rattle.optimizer.specs.declared.Folded.{Folded}
 use Rattle.optimizer.proofs.Whole.{pass_kept, exact_of, fit_of}
 use Rattle.optimizer.proofs.Again.{again}
 use Rattle.optimizer.proofs.Idle.{as_lent_lem}
-use Rattle.optimizer.proofs.Tested.{held_of, table_there}
+use Rattle.optimizer.proofs.Tested.{held_of, table_there, table_met, tried_met, check_met}
 use Rattle.optimizer.proofs.Tries.{tries_kept}
 use Rattle.clear.proofs.Accepts.{table_on, room_on}
 use Rattle.clear.proofs.Twice.{every_of}
@@ -57,36 +56,28 @@ use Rattle.refold.specs.Lending.{Lending, lending, ready_for, fold_leaving}
 use Rattle.refold.specs.Left.{PoolLeft, BuffersBeyond, FoldBeyond, NoneDied, as_lent}
 use Rattle.refold.specs.Lendable.{cut_code, counts_left, Lendable}
 
-never : {A : Type 0} (n : ℕ) (r : Refusal) → Refused r ≡ Count n → A
-never n r e = let z : ◌≡◌ {A = ℕ} 0 1 = cc in absurd (omega arith)
-
 -- ---- what the tests say
-
-table_kept : (n : ℕ) (v : Checked) (t : ℕ) (kept : Bool) → table_of v t kept ≡ Count n → (v ≡ Count n) × (kept ≡ true)
-table_kept n (Refused r) t kept e = never n r e
-table_kept n (Count m) t true e = (e, refl)
-table_kept n (Count m) t false e = never n (Table t) e
 
 -- the rules of all five tables
 pub record Kept (n k : ℕ) (v : Checked) (kinds words : List ℕ) (c : Counts) (l : Lens) : Type 0 where
-  pub before : v ≡ Count n
+  pub before : v ≡ Ok n
   pub constants : constants_kept kinds words c.constants ≡ true
   pub map : map_kept k c.map l.map ≡ true
   pub sources : pairs_kept c.sources l.sources ≡ true
   pub stmts : pairs_kept c.stmts l.stmts ≡ true
   pub calls : pairs_kept c.calls l.calls ≡ true
 
-tables_kept : (n k : ℕ) (v : Checked) (kinds words : List ℕ) (c : Counts) (l : Lens) → tables_of v k kinds words c l ≡ Count n → Kept n k v kinds words c l
+tables_kept : (n k : ℕ) (v : Checked) (kinds words : List ℕ) (c : Counts) (l : Lens) → tables_of v k kinds words c l ≡ Ok n → Kept n k v kinds words c l
 unfolding tables_of
 tables_kept n k v kinds words c l e =
-    let t₅ = table_kept n _ 5 (pairs_kept c.calls l.calls) e in
-    let t₄ = table_kept n _ 4 (pairs_kept c.stmts l.stmts) t₅.0 in
-    let t₃ = table_kept n _ 3 (pairs_kept c.sources l.sources) t₄.0 in
-    let t₂ = table_kept n _ 2 (map_kept k c.map l.map) t₃.0 in
-    let t₁ = table_kept n v 1 (constants_kept kinds words c.constants) t₂.0 in
+    let t₅ = table_met n _ 5 (pairs_kept c.calls l.calls) (sym e) in
+    let t₄ = table_met n _ 4 (pairs_kept c.stmts l.stmts) (sym t₅.0) in
+    let t₃ = table_met n _ 3 (pairs_kept c.sources l.sources) (sym t₄.0) in
+    let t₂ = table_met n _ 2 (map_kept k c.map l.map) (sym t₃.0) in
+    let t₁ = table_met n v 1 (constants_kept kinds words c.constants) (sym t₂.0) in
     record { before = t₁.0; constants = t₁.1; map = t₂.1; sources = t₃.1; stmts = t₄.1; calls = t₅.1 }
 
-rooms_kept : (n : ℕ) (v : Checked) (w : List ℕ) (c : Counts) (l : Lens) → rooms_of v w c l ≡ Count n → v ≡ Count n
+rooms_kept : (n : ℕ) (v : Checked) (w : List ℕ) (c : Counts) (l : Lens) → rooms_of v w c l ≡ Ok n → v ≡ Ok n
 unfolding rooms_of
 rooms_kept n v w c l e =
     let r₆ = room_before n _ 6 l.remap (chunk_count w + 1) (sym e) in
@@ -96,15 +87,7 @@ rooms_kept n v w c l e =
     let r₂ = room_before n _ 2 l.words (constant_room c.constants (tally_of w).folding) (sym r₃) in
     room_before n v 1 l.kinds (constant_room c.constants (tally_of w).folding) (sym r₂)
 
-tried_kept : (n : ℕ) (v : Checked) (t : List ℕ) → tried_of v t ≡ Count n → v ≡ Count n
-tried_kept n (Refused r) t e = never n r e
-tried_kept n (Count m) t e = go (ltb (first_bad_try t m) (pairs t)) e
-  where
-    go : (u : Bool) → cond u (Refused (Try (first_bad_try t m))) (Count m) ≡ Count n → Count m ≡ Count n
-    go true e = never n (Try (first_bad_try t m)) e
-    go false e = e
-
-ready_kept : (n : ℕ) (w tries kinds words : List ℕ) (c : Counts) (l : Lens) (landings : ℕ) → ready_of w tries kinds words c l landings ≡ Count n
+ready_kept : (n : ℕ) (w tries kinds words : List ℕ) (c : Counts) (l : Lens) (landings : ℕ) → ready_of w tries kinds words c l landings ≡ Ok n
     → Kept n (chunk_count w) (tried_of (chunk_check_of w) tries) kinds words c l
 unfolding ready_of
 ready_kept n w tries kinds words c l landings e =
@@ -112,18 +95,12 @@ ready_kept n w tries kinds words c l landings e =
     tables_kept n (chunk_count w) (tried_of (chunk_check_of w) tries) kinds words c l
     (rooms_kept n v w c l (room_before n (rooms_of v w c l) 7 landings (chunk_count w + 1) (sym e)))
 
-pub check_count : (w : List ℕ) (n : ℕ) → chunk_check_of w ≡ Count n → chunk_count w ≡ n
-unfolding chunk_check_of
-check_count w n e = go (uneven_chunk w) refl (ltb (first_bad_of w) (chunk_count w)) refl e
-  where
-    go : (u : Bool) → uneven_chunk w ≡ u → (b : Bool) → ltb (first_bad_of w) (chunk_count w) ≡ b → chunk_check_of w ≡ Count n → chunk_count w ≡ n
-    go true p b q g = never n (Length (length w)) (rw p at g)
-    go false p true q g = never n (Record (first_bad_of w)) (rw (p, q) at g)
-    go false p false q g = let z : Count (chunk_count w) ≡ Count n = rw (p, q) at g in cc
+pub check_count : (w : List ℕ) (n : ℕ) → chunk_check_of w ≡ Ok n → chunk_count w ≡ n
+check_count w n e = sym (check_met n w (sym e)).is
 
 -- ---- and what they ask for
 
-tables_on : (n k : ℕ) (v : Checked) (kinds words : List ℕ) (c : Counts) (l : Lens) → Kept n k v kinds words c l → tables_of v k kinds words c l ≡ Count n
+tables_on : (n k : ℕ) (v : Checked) (kinds words : List ℕ) (c : Counts) (l : Lens) → Kept n k v kinds words c l → tables_of v k kinds words c l ≡ Ok n
 unfolding tables_of
 tables_on n k v kinds words c l x =
     table_on n _ 5 (pairs_kept c.calls l.calls)
@@ -141,7 +118,7 @@ record Roomy (w : List ℕ) (c : Counts) (l : Lens) : Type 0 where
   dead : chunk_count w ≤ l.dead
   remap : chunk_count w + 1 ≤ l.remap
 
-rooms_on : (n : ℕ) (v : Checked) (w : List ℕ) (c : Counts) (l : Lens) → v ≡ Count n → Roomy w c l → rooms_of v w c l ≡ Count n
+rooms_on : (n : ℕ) (v : Checked) (w : List ℕ) (c : Counts) (l : Lens) → v ≡ Ok n → Roomy w c l → rooms_of v w c l ≡ Ok n
 unfolding rooms_of
 rooms_on n v w c l e r =
     room_on n _ 6 l.remap (chunk_count w + 1)
@@ -158,7 +135,7 @@ first_none_below f zero k h = omega arith
 first_none_below f (suc m) k h = rw (h k (omega arith)) (omega (arith, first_none_below f m (suc k) (λ j l. h j (omega arith))))
 
 -- no try breaks its rule
-tried_on : (n : ℕ) (v : Checked) (t : List ℕ) → v ≡ Count n → ((j : ℕ) → j < pairs t → try_kept t n j ≡ true) → tried_of v t ≡ Count n
+tried_on : (n : ℕ) (v : Checked) (t : List ℕ) → v ≡ Ok n → ((j : ℕ) → j < pairs t → try_kept t n j ≡ true) → tried_of v t ≡ Ok n
 unfolding first_bad_try
 tried_on n v t e h =
     let f = first_none_below (λ j. not (try_kept t n j)) (pairs t) 0 (λ j l. ap not (h j (omega arith))) in
@@ -166,7 +143,7 @@ tried_on n v t e h =
 
 ready_on : (n : ℕ) (w tries kinds words : List ℕ) (c : Counts) (l : Lens) (landings : ℕ) → Kept n (chunk_count w) (tried_of (chunk_check_of w) tries) kinds words c
     l
-    → Roomy w c l → chunk_count w + 1 ≤ landings → ready_of w tries kinds words c l landings ≡ Count n
+    → Roomy w c l → chunk_count w + 1 ≤ landings → ready_of w tries kinds words c l landings ≡ Ok n
 unfolding ready_of
 ready_on n w tries kinds words c l landings x r h =
     let v = tables_of (tried_of (chunk_check_of w) tries) (chunk_count w) kinds words c l in
@@ -225,11 +202,11 @@ module _ (strict : Bool) (l : Lending) (c : Counts) where
   abbrev pub all_left : Lending
   all_left = lending (joined_buffers b c o).after moved (landings_of o.after.code moved ++ drop (chunk_count b.code + 1) l.landings)
 
-  pub call_refused : (r : Refusal) → ready_for l c ≡ Refused r → fold_of strict l c ≡ fold_leaving (No r) l
+  pub call_refused : (r : Refusal) → ready_for l c ≡ Err r → fold_of strict l c ≡ fold_leaving (Err r) l
   unfolding fold_call
   call_refused r e = rw e
 
-  pub call_answered : (m : ℕ) → ready_for l c ≡ Count m → Folds strict l c o.answer all_left
+  pub call_answered : (m : ℕ) → ready_for l c ≡ Ok m → Folds strict l c o.answer all_left
   unfolding fold_call rejoined joined_buffers fold_lent
   call_answered m e = rw e
 
@@ -252,15 +229,15 @@ module _ (strict : Bool) (l : Lending) (c : Counts) where
   unfolding fold_pass
   end_is = refl
 
-  module _ (m : ℕ) (q : ready_for l c ≡ Count m) where
+  module _ (m : ℕ) (q : ready_for l c ≡ Ok m) where
     pub rules : Kept m (chunk_count b.code) (tried_of (chunk_check_of b.code) l.tries) b.kinds b.words c (lens_of b)
     rules = ready_kept m b.code l.tries b.kinds b.words c (lens_of b) (length l.landings) q
 
-    pub code_fine : chunk_check_of b.code ≡ Count m
-    code_fine = tried_kept m (chunk_check_of b.code) l.tries rules.before
+    pub code_fine : chunk_check_of b.code ≡ Ok m
+    code_fine = (tried_met m (chunk_check_of b.code) l.tries (sym rules.before)).0
 
     held : FoldRoom b c
-    held = held_of b l.tries c (length l.landings) m (Count m) (sym q) refl
+    held = held_of b l.tries c (length l.landings) m (Ok m) (sym q) refl
 
     pub n_is : chunk_count b.code ≡ m
     n_is = check_count b.code m code_fine
@@ -319,14 +296,14 @@ module _ (strict : Bool) (l : Lending) (c : Counts) where
     abbrev short : List ℕ
     short = take (stride * r) after.code
 
-    pub after_code : chunk_check_of after.code ≡ Count m
+    pub after_code : chunk_check_of after.code ≡ Ok m
     unfolding constant_fold joined_buffers
     after_code = sym (ap (λ (x : Called). chunk_check_of x.result.after.code) (call_answered m q)) ∙ again strict b l.tries l.landings c m code_fine
 
     pub few : r ≤ m
     few = omega (arith, all_settled.few, end_marks, n_is)
 
-    code_again : chunk_check_of short ≡ Count r
+    code_again : chunk_check_of short ≡ Ok r
     code_again = prefix after.code m r after_code few
 
     pool_kept : constants_kept end.kinds end.words end.constants ≡ true
@@ -465,11 +442,11 @@ module _ (strict : Bool) (l : Lending) (c : Counts) where
     table_held =
         let z : chunk_count after.code ≡ chunk_count b.code = check_count after.code m after_code ∙ sym n_is in
         front_held (chunk_count b.code + 1) (landings_of after.code moved) l.landings (table_long after.code moved ∙ ap (λ (x : ℕ). x + 1) z)
-        (table_there b l.tries c (length l.landings) m (Count m) (sym q) refl)
+        (table_there b l.tries c (length l.landings) m (Ok m) (sym q) refl)
 
     table_room : chunk_count short + 1 ≤ length all_left.landings
     table_room =
-        omega (arith, short_count, few, n_is, table_held.same, table_there b l.tries c (length l.landings) m (Count m) (sym q) refl)
+        omega (arith, short_count, few, n_is, table_held.same, table_there b l.tries c (length l.landings) m (Ok m) (sym q) refl)
 
     lendable : Lendable o.answer c all_left
     unfolding constant_fold joined_buffers
@@ -509,17 +486,17 @@ module _ (strict : Bool) (l : Lending) (c : Counts) where
     fold_beyond = record { buffers = buffers_beyond; tries = moved_long o.after.dead l.tries; landings = table_held }
 
   -- what holds of the answer holds of any answered call
-  pub by_call : (P : Folded → Lending → Type 0) → ((m : ℕ) → ready_for l c ≡ Count m → P o.answer all_left)
+  pub by_call : (P : Folded → Lending → Type 0) → ((m : ℕ) → ready_for l c ≡ Ok m → P o.answer all_left)
       → (f : Folded) (a : Lending) → Folds strict l c f a → P f a
   by_call P h f a e = go (ready_for l c) refl
     where
       go : (v : Checked) → ready_for l c ≡ v → P f a
-      go (Refused r) q =
-          let y : No r ≡ Is f = ap (λ (x : Called). x.result.answer) (sym (call_refused r q) ∙ e) in
-          absurd (let z : ◌≡◌ {A = ℕ} 0 1 = cc in omega arith)
-      go (Count m) q =
-          let y : fold_leaving (Is o.answer) all_left ≡ fold_leaving (Is f) a = sym (call_answered m q) ∙ e in
-          let i : Is o.answer ≡ Is f = ap (λ (x : Called). x.result.answer) y in
+      go (Err r) q =
+          let y : Err r ≡ Ok f = ap (λ (x : Called). x.result.answer) (sym (call_refused r q) ∙ e) in
+          cc
+      go (Ok m) q =
+          let y : fold_leaving (Ok o.answer) all_left ≡ fold_leaving (Ok f) a = sym (call_answered m q) ∙ e in
+          let i : Ok o.answer ≡ Ok f = ap (λ (x : Called). x.result.answer) y in
           let j : o.answer ≡ f = cc in
           let k : all_left ≡ a = ap (λ (x : Called). lending x.result.after x.tries x.landings) y in
           subst (λ (x : Lending). P f x) k (subst (λ (x : Folded). P x all_left) j (h m q))
@@ -537,18 +514,18 @@ module _ (strict : Bool) (l : Lending) (c : Counts) where
   stays_beyond = by_call (λ f a. FoldBeyond c l a) fold_beyond
 
   -- a refusal leaves all as lent
-  pub refusal_leaves : (r : Refusal) (a : Lending) → fold_of strict l c ≡ fold_leaving (No r) a → a ≡ l
+  pub refusal_leaves : (r : Refusal) (a : Lending) → fold_of strict l c ≡ fold_leaving (Err r) a → a ≡ l
   refusal_leaves r a e = go (ready_for l c) refl
     where
       go : (v : Checked) → ready_for l c ≡ v → a ≡ l
-      go (Refused s) q = ap (λ (x : Called). lending x.result.after x.tries x.landings) (sym e ∙ call_refused s q)
-      go (Count m) q =
-          let y : Is o.answer ≡ No r = ap (λ (x : Called). x.result.answer) (sym (call_answered m q) ∙ e) in
-          absurd (let z : ◌≡◌ {A = ℕ} 0 1 = cc in omega arith)
+      go (Err s) q = ap (λ (x : Called). lending x.result.after x.tries x.landings) (sym e ∙ call_refused s q)
+      go (Ok m) q =
+          let y : Ok o.answer ≡ Err r = ap (λ (x : Called). x.result.answer) (sym (call_answered m q) ∙ e) in
+          cc
 
   -- ---- if nothing died
 
-  module _ (m : ℕ) (q : ready_for l c ≡ Count m) where
+  module _ (m : ℕ) (q : ready_for l c ≡ Ok m) where
     all_alive : NoneDied b (joined_buffers b c o).after → every (alive o.after.dead) (length o.after.dead) ≡ true
     unfolding joined_buffers constant_fold
     all_alive e =
@@ -559,7 +536,7 @@ module _ (strict : Bool) (l : Lending) (c : Counts) where
         let z : get_or (after.dead ++ drop n b.dead) k 0 ≡ get_or after.dead k 0 = get_or-append after.dead (drop n b.dead) 0 k h in
         sym (ap (λ (x : ℕ). eqb x 0) z) ∙ every_at (alive (after.dead ++ drop n b.dead)) n k e (rw l at h))
 
-    idle : NoneDied b (joined_buffers b c o).after → fold_leaving (Is o.answer) all_left ≡ as_lent l c
+    idle : NoneDied b (joined_buffers b c o).after → fold_leaving (Ok o.answer) all_left ≡ as_lent l c
     unfolding joined_buffers
     idle e =
         let h : chunk_count b.code ≤ length (needed b c).dead = omega (arith, marks m q) in

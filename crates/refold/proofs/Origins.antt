@@ -9,16 +9,12 @@ use lib.ListN.{length, get_or, take}
 use lib.Seq.{get_or-take}
 use borrow.Author.Tests.{eqb-true, eq-eqb, ltb-true, ltb-false}
 use Rattle.laws.specs.All.{every}
-use Rattle.refusals.specs.declared.Checked.TheVariants.{Count}
+use Rattle.std.specs.declared.result.Result.TheVariants.{Ok}
 use Rattle.chunk.specs.Chunk.{stride, chunk_count, origin_at}
 use Rattle.chunk.specs.declared.Counts.{Counts}
 use Rattle.laws.proofs.Counting.{many_le, many_all, every_le}
 use Rattle.fold.specs.Plan.{Chunk, plan_at}
 use Rattle.fold.specs.Pass.{const_load, landed, applied, try_fold, Bars, by_scan, folded, fold_all}
-use Rattle.fold.specs.declared.Loaded.{Loaded}
-use Rattle.fold.specs.declared.Loaded.TheVariants.{As, No}
-use Rattle.fold.specs.declared.Plan.{Plan}
-use Rattle.fold.specs.declared.Plan.TheVariants.{Stay, Put}
 use Rattle.fold.proofs.Put.{put_origin}
 use Rattle.positions.specs.Remap.{alive, live}
 use Rattle.compact.proofs.Left.{live_less, from, origin_left}
@@ -32,21 +28,27 @@ use Rattle.refold.specs.Inner.{Folds}
 use Rattle.refold.specs.Origins.{Survive, OriginsLeft, Carried}
 use Rattle.refold.proofs.Lends.{o, clean, end, before, after, all_left, end_is, marks, end_marks, by_call}
 use Rattle.refold.proofs.Lands.{front}
+use Rattle.std.specs.declared.option.Option.{Option}
+use Rattle.std.specs.declared.option.Option.TheVariants.{Some, None}
+use Rattle.fold.specs.declared.Plan.{Plan}
+use Rattle.fold.specs.declared.Load.{Load}
+use Rattle.fold.specs.Plan.{to_put}
+use Rattle.fold.specs.Pass.{to_load}
 
 -- ---- the pass changes no origin
 
 module _ (k : ℕ) where
-  landed_origin : (a : Loaded) (kinds words : List ℕ) (p q i : ℕ) (s : Chunk) → origin_at (landed a kinds words p q i s).code k ≡ origin_at s.code k
+  landed_origin : (a : Option Load) (kinds words : List ℕ) (p q i : ℕ) (s : Chunk) → origin_at (landed a kinds words p q i s).code k ≡ origin_at s.code k
   unfolding landed
-  landed_origin (As o x m) kinds words p q i s = put_origin s.code p o x k
-  landed_origin No kinds words p q i s = refl
+  landed_origin (Some l) kinds words p q i s = put_origin s.code p l.opcode l.operand k
+  landed_origin None kinds words p q i s = refl
 
-  applied_origin : (plan : Plan) (i : ℕ) (s : Chunk) → origin_at (applied plan i s).code k ≡ origin_at s.code k
+  applied_origin : (plan : Option Plan) (i : ℕ) (s : Chunk) → origin_at (applied plan i s).code k ≡ origin_at s.code k
   unfolding applied
-  applied_origin Stay i s = refl
-  applied_origin (Put p q v) i s =
-      let r = const_load v s.kinds s.words s.constants in
-      landed_origin r.load r.kinds r.words p q i s
+  applied_origin None i s = refl
+  applied_origin (Some f) i s =
+      let r = const_load f.value s.kinds s.words s.constants in
+      landed_origin r.load r.kinds r.words f.at f.dies i s
 
   try_origin : (bars : ℕ → Bool) (i : ℕ) (s : Chunk) → origin_at (try_fold bars i s).code k ≡ origin_at s.code k
   unfolding try_fold
@@ -120,7 +122,7 @@ module _ (t : Tables) (all : t.left.instructions ≡ length t.dead) where
 -- ---- the call
 
 module _ (strict : Bool) (l : Lending) (c : Counts) where
-  module _ (n : ℕ) (q : ready_for l c ≡ Count n) where
+  module _ (n : ℕ) (q : ready_for l c ≡ Ok n) where
     end_origin : (k : ℕ) → origin_at (end strict l c).code k ≡ origin_at l.buffers.code k
     end_origin k = ap (λ (s : Chunk). origin_at s.code k) (end_is strict l c) ∙ pass_origin k (by_scan strict l.tries) (clean strict l c)
 

@@ -27,13 +27,14 @@ use Rattle.fold.proofs.Grown.{Held, held_none, held_more}
 use Rattle.values.specs.declared.Val.{Val}
 use Rattle.values.specs.declared.Val.TheVariants.{Int, Float as Real, Bool as Truth}
 use Rattle.pool.specs.Pool.{Stored, stored, position, find_or_push, find_or_push_const}
-use Rattle.pool.specs.declared.Kept.TheVariants.{At, Full}
 use Rattle.fold.specs.Plan.{Chunk, chunk, plan_at}
 use Rattle.fold.specs.Pass.{load_of, const_load, put, landed, applied, try_fold, Bars, folded, fold_all}
 use Rattle.fold.specs.Inner.{PassRoom}
-use Rattle.fold.specs.declared.Plan.{Plan}
-use Rattle.fold.specs.declared.Plan.TheVariants.{Stay, Put}
 use Rattle.refold.specs.Inner.{Pushed}
+use Rattle.std.specs.declared.option.Option.{Option}
+use Rattle.std.specs.declared.option.Option.TheVariants.{Some, None}
+use Rattle.fold.specs.declared.Plan.{Plan}
+use Rattle.fold.specs.Plan.{to_put}
 
 idle : (s : Chunk) (code dead : List ℕ) → length code ≡ length s.code → length dead ≡ length s.dead
     → Pushed s (chunk code dead s.kinds s.words s.constants)
@@ -127,15 +128,15 @@ module _ (p q i : ℕ) (s : Chunk) where
       go : (a b : Bool)
           → Pushed s
           (settled
-          (cond a (stored (At (position s.kinds s.words m k w) m) s.kinds s.words)
-          (cond b (stored (At m (m + 1)) (set s.kinds m k) (set s.words m w)) (stored Full s.kinds s.words))))
+          (cond a (stored (Some (position s.kinds s.words m k w, m)) s.kinds s.words)
+          (cond b (stored (Some (m, m + 1)) (set s.kinds m k) (set s.words m w)) (stored None s.kinds s.words))))
       go true b = idle s (put s.code p LoadConst (position s.kinds s.words m k w)) (set (set s.dead q 1) i 1)
           (put_long s.code p LoadConst (position s.kinds s.words m k w)) (length-set (set s.dead q 1) i 1 ∙ length-set s.dead q 1)
       go false true = pushed s (put s.code p LoadConst m) (set (set s.dead q 1) i 1) (put_long s.code p LoadConst m)
           (length-set (set s.dead q 1) i 1 ∙ length-set s.dead q 1) k w f
       go false false = same s
 
-  put_pushed : (v : Val) → Pushed s (applied (Put p q v) i s)
+  put_pushed : (v : Val) → Pushed s (applied (to_put p q v) i s)
   unfolding applied landed const_load find_or_push_const
   put_pushed (Int x) = pool 1 (of_z w64 x) (λ y. refl)
   put_pushed (Real x) = pool 2 (to_bits binary64 x) (λ y. refl)
@@ -144,10 +145,10 @@ module _ (p q i : ℕ) (s : Chunk) where
   put_pushed (Truth false) = idle s (put s.code p LoadFalse 0) (set (set s.dead q 1) i 1) (put_long s.code p LoadFalse 0)
       (length-set (set s.dead q 1) i 1 ∙ length-set s.dead q 1)
 
-by_plan : (plan : Plan) (i : ℕ) (s : Chunk) → Pushed s (applied plan i s)
+by_plan : (plan : Option Plan) (i : ℕ) (s : Chunk) → Pushed s (applied plan i s)
 unfolding applied
-by_plan Stay i s = same s
-by_plan (Put p q v) i s = put_pushed p q i s v
+by_plan None i s = same s
+by_plan (Some f) i s = put_pushed f.at f.dies i s f.value
 
 try_pushed : (bars : ℕ → Bool) (i : ℕ) (s : Chunk) → Pushed s (try_fold bars i s)
 unfolding try_fold

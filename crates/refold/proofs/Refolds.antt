@@ -7,7 +7,7 @@ use mathlib.Core.Bool.{Bool}
 use mathlib.Core.List.{List, [], ◌∷◌, ◌++◌}
 use lib.ListN.{length, get_or, drop}
 use borrow.Author.Tests.{lt-ltb, le-ltb}
-use Rattle.refusals.specs.declared.Checked.TheVariants.{Count}
+use Rattle.std.specs.declared.result.Result.TheVariants.{Ok}
 use Rattle.chunk.specs.Chunk.{chunk_count, operand_at}
 use Rattle.chunk.specs.Tables.{constant_kept, within}
 use Rattle.chunk.specs.Check.{source_room}
@@ -61,7 +61,7 @@ module _ (s t : Chunk) (fewer : t.constants ≤ s.constants) (v u : ℕ) (x : Lo
 tail_same : {x y : List ℕ} {i j : ℕ} (l : List ℕ) → x ≡ y → i ≡ j → x ++ drop i l ≡ y ++ drop j l
 tail_same l e f = rw (e, f)
 
-module _ (strict : Bool) (l : Lending) (c : Counts) (n : ℕ) (q : ready_for l c ≡ Count n)
+module _ (strict : Bool) (l : Lending) (c : Counts) (n : ℕ) (q : ready_for l c ≡ Ok n)
     (near : AllNear l.buffers.code c.constants (fold_all (by_scan strict l.tries) (clean strict l c)).constants)
     (few : (fold_all (by_scan strict l.tries) (clean strict l c)).constants < 65535) where
   abbrev b : Buffers
@@ -176,7 +176,7 @@ module _ (strict : Bool) (l : Lending) (c : Counts) (n : ℕ) (q : ready_for l c
     abbrev lent : clearing.PoolBuffers
     lent = clearing.pool_buffers b.code b.kinds b.words scratch
 
-    clear_ready : clearing.clear_ready_of lent m ≡ Count n
+    clear_ready : clearing.clear_ready_of lent m ≡ Ok n
     unfolding clearing.clear_ready_of
     clear_ready = rw (code_fine strict l c n q, (rules strict l c n q).constants, le-ltb (length scratch) m room)
 
@@ -184,8 +184,8 @@ module _ (strict : Bool) (l : Lending) (c : Counts) (n : ℕ) (q : ready_for l c
     refolds =
         let e = answered_call lent m n clear_ready in
         let y = answered lent m (number w m) (clearing.cleared lent m).after e in
-        let k = held_of lent m (Count n) (sym clear_ready) n refl in
-        let z : ready_for l' c' ≡ Count n =
+        let k = held_of lent m (Ok n) (sym clear_ready) n refl in
+        let z : ready_for l' c' ≡ Ok n =
         rw (pooled_length (constant_named w) m b.kinds k.kinds, pooled_length (constant_named w) m b.words k.words)
         (accepted_after n w l.tries b.kinds b.words c (lens_of b) (length l.landings) q) in
         record {
@@ -219,14 +219,14 @@ module _ (strict : Bool) (l : Lending) (c : Counts) (f : Folded) (a : Lending) (
   abbrev Answered : Type 0
   Answered = (g : Folded) × (y : Lending) × Folds strict' (cleared_buffers l x) (with_constants left c) g y
 
-  by_ready : (n : ℕ) → ready_for l c ≡ Count n → Answered
+  by_ready : (n : ℕ) → ready_for l c ≡ Ok n → Answered
   by_ready n q =
       let b = l.buffers in
       let w = b.code in
       let m = c.constants in
       let h = rules strict l c n q in
       let i = (and-true (within m (length b.kinds) (length b.words)) (every (constant_kept b.kinds b.words) m) h.constants).0 in
-      let z : ready_for (cleared_buffers l x) (with_constants left c) ≡ Count n =
+      let z : ready_for (cleared_buffers l x) (with_constants left c) ≡ Ok n =
       rw (
         code,
         kinds,

@@ -20,18 +20,18 @@ use Rattle.positions.specs.Remap.{alive}
 use Rattle.values.specs.declared.Val.{Val}
 use Rattle.values.specs.declared.Val.TheVariants.{Int, Float as Real, Bool as Truth}
 use Rattle.pool.specs.Pool.{Stored, find_or_push_const}
-use Rattle.pool.specs.declared.Kept.{Kept}
-use Rattle.pool.specs.declared.Kept.TheVariants.{At, Full}
 use Rattle.pool.proofs.Store.{kept_few}
 use Rattle.fold.specs.Plan.{Chunk, plan_at}
 use Rattle.fold.specs.Pass.{load_of, const_load, put, landed, applied, try_fold, Bars, folded, fold_all}
-use Rattle.fold.specs.declared.Loaded.{Loaded}
-use Rattle.fold.specs.declared.Loaded.TheVariants.{As, No}
-use Rattle.fold.specs.declared.Plan.{Plan}
-use Rattle.fold.specs.declared.Plan.TheVariants.{Stay, Put}
 use Rattle.fold.proofs.Put.{put_other, put_here}
 use Rattle.fold.proofs.Planned.{Planned, planned}
 use Rattle.refold.proofs.Pushes.{some_pushed}
+use Rattle.std.specs.declared.option.Option.{Option}
+use Rattle.std.specs.declared.option.Option.TheVariants.{Some, None}
+use Rattle.fold.specs.declared.Plan.{Plan}
+use Rattle.fold.specs.declared.Load.{Load}
+use Rattle.fold.specs.Plan.{to_put}
+use Rattle.fold.specs.Pass.{to_load}
 
 -- an operator that may still fold: it is not dead
 abbrev pub waiting : List ℕ → List ℕ → ℕ → Bool
@@ -67,9 +67,9 @@ alive_set (x ∷ xs) (suc q) (suc k) e = alive_set xs q k e
 
 -- ---- a load is no operator, and pushes one constant at most
 
-abbrev Modest : Loaded → ℕ → Type 0
-Modest (As o x m) n = (folds o ≡ false) × (m ≤ n + 1)
-Modest No n = Unit {0}
+abbrev Modest : Option Load → ℕ → Type 0
+Modest (Some l) n = (folds l.opcode ≡ false) × (l.constants ≤ n + 1)
+Modest None n = Unit {0}
 
 const_folds : folds LoadConst ≡ false
 unfolding folds
@@ -83,9 +83,9 @@ truth_folds false = refl
 pool_modest : (s : Stored) (kinds words : List ℕ) (n : ℕ) (v : Val) → s ≡ find_or_push_const kinds words n v → Modest (load_of s.kept) n
 pool_modest s kinds words n v e = go s.kept refl
   where
-    go : (k : Kept) → s.kept ≡ k → Modest (load_of k) n
-    go (At i m) h = (const_folds, omega (arith, kept_few {k = s.kept} {ks = s.kinds} {ws = s.words} kinds words n v e h))
-    go Full h = tt
+    go : (k : Option (ℕ × ℕ)) → s.kept ≡ k → Modest (load_of k) n
+    go (Some k) h = (const_folds, omega (arith, kept_few {k = s.kept} {ks = s.kinds} {ws = s.words} kinds words n v e h))
+    go None h = tt
 
 load_modest : (v : Val) (kinds words : List ℕ) (n : ℕ) → Modest (const_load v kinds words n).load n
 unfolding const_load
@@ -125,24 +125,24 @@ module _ (n i : ℕ) (s : Chunk) (l : i < n) (c : i < chunk_count s.code) (d : i
         off true = refl
         off false = refl
 
-    landed_spent : (a : Loaded) (kinds words : List ℕ) → Modest a s.constants → Spent n s (landed a kinds words p q i s)
+    landed_spent : (a : Option Load) (kinds words : List ℕ) → Modest a s.constants → Spent n s (landed a kinds words p q i s)
     unfolding landed
-    landed_spent (As o x m) kinds words h =
+    landed_spent (Some a) kinds words h =
         let here : waiting s.code s.dead i ≡ true = rw plan.operator live in
         omega (
           arith,
           h.1,
-          many_less (waiting (put s.code p o x) (set (set s.dead q 1) i 1)) (waiting s.code s.dead) (λ k. narrower o x k h.0) i n l
-              (gone (put s.code p o x)) here,
+          many_less (waiting (put s.code p a.opcode a.operand) (set (set s.dead q 1) i 1)) (waiting s.code s.dead) (λ k. narrower a.opcode a.operand k h.0) i n l
+              (gone (put s.code p a.opcode a.operand)) here,
         )
-    landed_spent No kinds words h = omega arith
+    landed_spent None kinds words h = omega arith
 
-  applied_spent : (bars : ℕ → Bool) (plan : Plan) → plan_at bars i s ≡ plan → Spent n s (applied plan i s)
+  applied_spent : (bars : ℕ → Bool) (plan : Option Plan) → plan_at bars i s ≡ plan → Spent n s (applied plan i s)
   unfolding applied
-  applied_spent bars Stay e = omega arith
-  applied_spent bars (Put p q v) e =
-      let r = const_load v s.kinds s.words s.constants in
-      landed_spent p q (planned bars i s e) r.load r.kinds r.words (load_modest v s.kinds s.words s.constants)
+  applied_spent bars None e = omega arith
+  applied_spent bars (Some f) e =
+      let r = const_load f.value s.kinds s.words s.constants in
+      landed_spent f.at f.dies (planned bars i s e) r.load r.kinds r.words (load_modest f.value s.kinds s.words s.constants)
 
 try_spent : (bars : ℕ → Bool) (n i : ℕ) (s : Chunk) → i < n → i < chunk_count s.code → i < length s.dead → Spent n s (try_fold bars i s)
 unfolding try_fold

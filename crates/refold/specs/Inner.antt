@@ -1,7 +1,8 @@
 -- What only the inside of `refold` needs: contracts of inner functions and proofs cite it, no promise does. Assumes nothing.
 use Rattle.std.specs.Prelude.{◌≡◌, Bool, true, ℕ, ◌≤◌, ◌<◌, length, get_or, List}
 use Rattle.chunk.specs.declared.Counts.{Counts}
-use Rattle.optimizer.specs.Fold.{Called, fold_call, Is}
+use Rattle.std.specs.declared.result.Result.TheVariants.{Ok}
+use Rattle.optimizer.specs.Fold.{Called, fold_call}
 use Rattle.optimizer.specs.declared.Folded.{Folded}
 use Rattle.refold.specs.Lending.{Lending, fold_leaving}
 use Rattle.chunk.specs.Tables.{constant_kept}
@@ -17,7 +18,7 @@ fold_of strict l c = fold_call strict l.buffers l.tries l.landings c
 
 -- the call answers f and leaves a
 abbrev pub Folds : Bool → Lending → Counts → Folded → Lending → Type 0
-Folds strict l c f a = fold_of strict l c ≡ fold_leaving (Is f) a
+Folds strict l c f a = fold_of strict l c ≡ fold_leaving (Ok f) a
 
 -- constants were only pushed from s to t: old ones stay, so do entries past the new count and all lengths, and new ones keep the rule
 pub record Pushed (s t : Chunk) : Type 0 where

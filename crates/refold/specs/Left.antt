@@ -12,7 +12,8 @@ use Rattle.positions.specs.Remap.{alive}
 use Rattle.positions.specs.Moved.{moved_all}
 use Rattle.fold.specs.declared.Kind.{Kind}
 use Rattle.fold.specs.declared.Kind.TheVariants.{Binop, Not, Minus, Other}
-use Rattle.optimizer.specs.Fold.{Buffers, buffers, sources_needed, Called, Is}
+use Rattle.std.specs.declared.result.Result.TheVariants.{Ok}
+use Rattle.optimizer.specs.Fold.{Buffers, buffers, sources_needed, Called}
 use Rattle.optimizer.specs.declared.Folded.{Folded}
 use Rattle.refold.specs.Lending.{Lending, lending, fold_leaving}
 
@@ -53,7 +54,7 @@ abbrev pub as_lent : Lending → Counts → Called
 as_lent l c =
     let b = l.buffers in
     let n = chunk_count b.code in
-    fold_leaving (Is (record { instructions = n; constants = c.constants; map = c.map; sources = c.sources }))
+    fold_leaving (Ok (record { instructions = n; constants = c.constants; map = c.map; sources = c.sources }))
     (lending
     (buffers b.code b.kinds b.words b.map b.sources b.stmts b.calls (replicate n 0 ++ drop n b.dead) b.remap)
     l.tries (landings_of b.code l.tries ++ drop (n + 1) l.landings))

@@ -1,6 +1,6 @@
 -- What a host lends next after a fold: the code cut at the answered count, the counts as answered, and every other buffer as it was left. Assumes nothing.
 use Rattle.std.specs.Prelude.{◌≡◌, true, List, ℕ, ◌*◌, take}
-use Rattle.refusals.specs.declared.Checked.TheVariants.{Count}
+use Rattle.std.specs.declared.result.Result.TheVariants.{Ok}
 use Rattle.chunk.specs.Chunk.{stride}
 use Rattle.chunk.specs.Tables.{constants_kept}
 use Rattle.chunk.specs.Check.{chunk_check_of}
@@ -25,11 +25,11 @@ counts_left f c = record { constants = f.constants; map = f.map; sources = f.sou
 -- the next call finds nothing to refuse
 pub record Lendable (f : Folded) (c : Counts) (a : Lending) : Type 0 where
   -- the code passes tests 1 and 2
-  pub code : chunk_check_of (take (stride * f.instructions) a.buffers.code) ≡ Count f.instructions
+  pub code : chunk_check_of (take (stride * f.instructions) a.buffers.code) ≡ Ok f.instructions
   -- the constants keep their table's rule
   pub pool : constants_kept a.buffers.kinds a.buffers.words f.constants ≡ true
   -- all tests of the folding call pass, those of the tries and of room too
-  pub ready : ready_for (cut_at f a) (counts_left f c) ≡ Count f.instructions
+  pub ready : ready_for (cut_at f a) (counts_left f c) ≡ Ok f.instructions
 
 -- what the clearing call is lent then
 abbrev pub clearable : Folded → Lending → List ℕ → clearing.PoolBuffers

@@ -1,6 +1,6 @@
 -- All that the folding call is lent, as one: the buffers, the tries and the table of landings. Assumes nothing.
 use Rattle.std.specs.Prelude.{List, ℕ, length}
-use Rattle.refusals.specs.declared.Checked.{Checked}
+use Rattle.refusals.specs.Stages.{Checked}
 use Rattle.chunk.specs.Check.{ready_of}
 use Rattle.chunk.specs.declared.Counts.{Counts}
 use Rattle.optimizer.specs.Fold.{Buffers, lens_of, fold_outcome, Called, called, FoldAnswer}

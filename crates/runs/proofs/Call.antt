@@ -23,7 +23,8 @@ use Rattle.positions.specs.Remap.{alive, live}
 use Rattle.compact.specs.Tables.{compacted}
 use Rattle.phi_pass.specs.Phi.{paired, noop, phi_mark_at, marked}
 use Rattle.finish.specs.Finish.{Tables, tables, map_of, sources_of, renewed, finished}
-use Rattle.optimizer.specs.Fold.{Buffers, needed, fold_pass, constant_fold, joined_buffers, fold_lent, rejoined, fold_call, Is}
+use Rattle.std.specs.declared.result.Result.TheVariants.{Ok}
+use Rattle.optimizer.specs.Fold.{Buffers, needed, fold_pass, constant_fold, joined_buffers, fold_lent, rejoined, fold_call}
 use Rattle.optimizer.specs.Inner.{Exact}
 use Rattle.optimizer.specs.declared.Folded.{Folded}
 use Rattle.optimizer.proofs.Answered.{answered}
@@ -131,7 +132,7 @@ module _ (b : Buffers) (c : Counts) (x : Exact b c) (rule : WishRule b.code c.co
       rule
 
 module _ (b : Buffers) (tries landings : List ℕ) (c : Counts) (rule : WishRule b.code c.constants) (f : Folded)
-    (e : (fold_call true b tries landings c).result.answer ≡ Is f) where
+    (e : (fold_call true b tries landings c).result.answer ≡ Ok f) where
   keeps_all : RunsAs b.code b.kinds b.words (chunk_count b.code) (fold_call true b tries landings c).result.after.code
       (fold_call true b tries landings c).result.after.kinds (fold_call true b tries landings c).result.after.words f.constants f.instructions
   unfolding rejoined joined_buffers fold_lent

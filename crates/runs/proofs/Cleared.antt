@@ -8,8 +8,8 @@ use lib.Dec.{eqb}
 use lib.ListN.{length}
 use borrow.Author.Tests.{eq-eqb}
 use Rattle.ops.specs.Op.{Jump, JumpIfFalse, LoadConst}
-use Rattle.refusals.specs.declared.Checked.{Checked}
-use Rattle.refusals.specs.declared.Checked.TheVariants.{Count, No as Refused}
+use Rattle.refusals.specs.Stages.{Checked}
+use Rattle.std.specs.declared.result.Result.TheVariants.{Ok, Err}
 use Rattle.refusals.proofs.Stages.{room_before}
 use Rattle.chunk.specs.Chunk.{chunk_count, op_at, mark_at, operand_at, names}
 use Rattle.chunk.specs.Tables.{constants_kept, table_of}
@@ -29,7 +29,7 @@ use Rattle.runs.specs.Inner.{RunsAs}
 use Rattle.runs.proofs.Pass.{alike}
 use Rattle.runs.proofs.Alike.{SameEntry, read_both}
 
-module _ (w kinds words : List ℕ) (m n : ℕ) (ok : chunk_check_of w ≡ Count n) (rule : WishRule w m) where
+module _ (w kinds words : List ℕ) (m n : ℕ) (ok : chunk_check_of w ≡ Ok n) (rule : WishRule w m) where
   abbrev w' : List ℕ
   w' = recoded (before w) m w
 
@@ -98,7 +98,7 @@ module _ (w kinds words : List ℕ) (m n : ℕ) (ok : chunk_check_of w ≡ Count
 
 module _ (b : clearing.PoolBuffers) (m : ℕ) where
   -- an answered call was lent a code that passes tests 1 and 2
-  tested : (n : ℕ) → clear_ready_of b m ≡ Count n → chunk_check_of b.code ≡ Count n
+  tested : (n : ℕ) → clear_ready_of b m ≡ Ok n → chunk_check_of b.code ≡ Ok n
   unfolding clear_ready_of
   tested n e =
       let pool = constants_kept b.kinds b.words m in
@@ -112,10 +112,10 @@ module _ (b : clearing.PoolBuffers) (m : ℕ) where
     where
       go : (v : Checked) → clear_ready_of b m ≡ v
           → RunsAs b.code b.kinds b.words (chunk_count b.code) a.code a.kinds a.words r (chunk_count b.code)
-      go (Refused q) f =
+      go (Err q) f =
           let y : No q ≡ Is r = ap (λ (x : clearing.ClearOutcome). x.answer) (sym (refused_call b m q f) ∙ e) in
           absurd (let z : ◌≡◌ {A = ℕ} 0 1 = cc in omega arith)
-      go (Count n) f =
+      go (Ok n) f =
           let y = answered b m r a e in
           rw (y.code, y.kinds, y.words, y.count) (cleared_same b.code b.kinds b.words m n (tested n f) rule)
 

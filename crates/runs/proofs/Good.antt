@@ -15,10 +15,8 @@ use Rattle.values.specs.Python.{and_z, or_z, xor_z, shift_up, shift_down}
 use Rattle.values.specs.Folds.{in_range, divmod, quotient, remainder, shifted, ints, is_zero, floats, fold_binop, fold_not, fold_neg}
 use Rattle.values.specs.declared.Val.{Val}
 use Rattle.values.specs.declared.Val.TheVariants.{Int, Float as Real, Bool as Truth}
-use Rattle.values.specs.declared.Maybe.{Maybe}
-use Rattle.values.specs.declared.Maybe.TheVariants.{Is, Nothing}
-use Rattle.values.specs.declared.Divmod.{Divmod}
-use Rattle.values.specs.declared.Divmod.TheVariants.{Into, ByZero}
+use Rattle.std.specs.declared.option.Option.{Option}
+use Rattle.std.specs.declared.option.Option.TheVariants.{Some, None}
 use Rattle.values.specs.declared.Op.{Op}
 use Rattle.values.specs.declared.Op.TheVariants.{Add, Sub, Mul, Div, Mod, FloorDiv, Eq, NotEq, Lt, Gt, LtEq, GtEq, BitAnd, BitOr, BitXor, Shl, Shr}
 use Rattle.pool.specs.Pool.{to_val}
@@ -29,36 +27,36 @@ Good (Real x) = T (fits binary64 x)
 Good (Truth b) = Unit {0}
 
 -- a result, if there is one
-abbrev GoodM : Maybe → Type 0
-GoodM (Is v) = Good v
-GoodM Nothing = Unit {0}
+abbrev GoodM : Option Val → Type 0
+GoodM (Some v) = Good v
+GoodM None = Unit {0}
 
-pub good_of : {f : Maybe} {v : Val} → f ≡ Is v → GoodM f → Good v
+pub good_of : {f : Option Val} {v : Val} → f ≡ Some v → GoodM f → Good v
 good_of e h = subst GoodM e h
 
 range_good : (z : ℤ) → GoodM (in_range z)
 unfolding in_range
 range_good z = go (ltb (mag z) (2 ^ 47)) refl
   where
-    go : (t : Bool) → ltb (mag z) (2 ^ 47) ≡ t → GoodM (cond t (Is (Int z)) Nothing)
+    go : (t : Bool) → ltb (mag z) (2 ^ 47) ≡ t → GoodM (cond t (Some (Int z)) None)
     go true e = ltb-true (mag z) (2 ^ 47) e
     go false e = tt
 
-quotient_good : (d : Divmod) → GoodM (quotient d)
+quotient_good : (d : Option (ℤ × ℤ)) → GoodM (quotient d)
 unfolding quotient
-quotient_good (Into q r) = range_good q
-quotient_good ByZero = tt
+quotient_good (Some p) = range_good p.0
+quotient_good None = tt
 
-remainder_good : (d : Divmod) → GoodM (remainder d)
+remainder_good : (d : Option (ℤ × ℤ)) → GoodM (remainder d)
 unfolding remainder
-remainder_good (Into q r) = range_good r
-remainder_good ByZero = tt
+remainder_good (Some p) = range_good p.1
+remainder_good None = tt
 
 shifted_good : (n : ℤ) (f : ℕ → ℤ) → GoodM (shifted n f)
 unfolding shifted
 shifted_good (pos n) f = go (ltb n 63)
   where
-    go : (t : Bool) → GoodM (cond t (in_range (f n)) Nothing)
+    go : (t : Bool) → GoodM (cond t (in_range (f n)) None)
     go true = range_good (f n)
     go false = tt
 shifted_good (negsuc n) f = tt
@@ -90,7 +88,7 @@ floats_good Sub x y = sub-fits binary64 x y
 floats_good Mul x y = mul-fits binary64 x y
 floats_good Div x y = go (is_zero y)
   where
-    go : (t : Bool) → GoodM (cond t Nothing (Is (Real (div binary64 x y))))
+    go : (t : Bool) → GoodM (cond t None (Some (Real (div binary64 x y))))
     go true = tt
     go false = div-fits binary64 x y
 floats_good Mod x y = tt
@@ -135,11 +133,11 @@ val_is_good : (k w : ℕ) → GoodM (to_val k w)
 unfolding to_val
 val_is_good k w = go (eqb k 1) (eqb k 2) (eqb k 3)
   where
-    go : (a b d : Bool) → GoodM (cond a (in_range (to_z w64 w)) (cond b (Is (Real (of_bits binary64 w))) (cond d (Is (Truth (not (eqb w 0)))) Nothing)))
+    go : (a b d : Bool) → GoodM (cond a (in_range (to_z w64 w)) (cond b (Some (Real (of_bits binary64 w))) (cond d (Some (Truth (not (eqb w 0)))) None)))
     go true b d = range_good (to_z w64 w)
     go false true d = of_bits-fits binary64 w
     go false false true = tt
     go false false false = tt
 
-pub val_good : (k w : ℕ) {v : Val} → to_val k w ≡ Is v → Good v
+pub val_good : (k w : ℕ) {v : Val} → to_val k w ≡ Some v → Good v
 val_good k w e = good_of e (val_is_good k w)

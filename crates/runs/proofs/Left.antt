@@ -11,8 +11,9 @@ use borrow.Author.Tests.{eqb-true, eqb-false}
 use Rattle.ops.specs.Op as op
 use Rattle.chunk.specs.Chunk.{op_at, operand_at, marks_jump}
 use Rattle.values.specs.declared.Val.TheVariants.{Bool as Truth}
-use Rattle.values.specs.declared.Maybe.{Maybe}
-use Rattle.values.specs.declared.Maybe.TheVariants.{Is, Nothing}
+use Rattle.std.specs.declared.option.Option.{Option}
+use Rattle.values.specs.declared.Val.{Val}
+use Rattle.std.specs.declared.option.Option.TheVariants.{Some, None}
 use Rattle.pool.specs.Pool.{to_val}
 use Rattle.fold.specs.declared.Kind.{Kind}
 use Rattle.fold.specs.declared.Kind.TheVariants.{Binop, Not, Minus, Other}
@@ -29,10 +30,10 @@ use Rattle.runs.proofs.Step.{living, living_on, living_off}
 
 -- ---- read
 
-push_turn : (g : ℕ → ℕ) (o : Maybe) (k w : ℕ) → push_of o k w ≡ turn g (push_of o k w)
+push_turn : (g : ℕ → ℕ) (o : Option Val) (k w : ℕ) → push_of o k w ≡ turn g (push_of o k w)
 unfolding push_of
-push_turn g (Is v) k w = refl
-push_turn g Nothing k w = refl
+push_turn g (Some v) k w = refl
+push_turn g None k w = refl
 
 plain_turn : (g : ℕ → ℕ) (c x : ℕ) (kinds words : List ℕ)
     → plain c (cond (eqb c op.Jump || eqb c op.JumpIfFalse) (g x) x) kinds words ≡ turn g (plain c x kinds words)

@@ -7,8 +7,9 @@ use mathlib.Core.List.{[], ◌∷◌, ◌++◌}
 use mathlib.Core.Logic.{◌⊎◌, inl, inr}
 use lib.Dec.{ltb}
 use borrow.Author.Tests.{ltb-true, ltb-false}
-use Rattle.values.specs.declared.Maybe.{Maybe}
-use Rattle.values.specs.declared.Maybe.TheVariants.{Is, Nothing}
+use Rattle.std.specs.declared.option.Option.{Option}
+use Rattle.values.specs.declared.Val.{Val}
+use Rattle.std.specs.declared.option.Option.TheVariants.{Some, None}
 use Rattle.fold.specs.declared.Kind.{Kind}
 use Rattle.fold.specs.declared.Kind.TheVariants.{Binop, Not, Minus, Other}
 use Rattle.runs.specs.Machine.{Value, Stack, is_true, Ins, Push, Unread, Apply, Jump, JumpIfFalse, Pass, End, Onto, At, Stop, answer, apply, test, act}
@@ -36,10 +37,10 @@ module _ (p i k : ℕ) (on : Outside p i (suc k)) where
   next : {s t : Stack} {j : ℕ} → At (suc k) s ≡ At j t → Outside p i j
   next {j = j} e = let q : suc k ≡ j = cc in rw (← q) on
 
-  answer_clear : (kind : Kind) (operands : Stack) (f : Maybe) (s : Stack) {j : ℕ} {t : Stack} → answer kind operands f s k ≡ At j t → Outside p i j
+  answer_clear : (kind : Kind) (operands : Stack) (f : Option Val) (s : Stack) {j : ℕ} {t : Stack} → answer kind operands f s k ≡ At j t → Outside p i j
   unfolding answer
-  answer_clear kind operands (Is v) s e = next e
-  answer_clear kind operands Nothing s e = stop_at e
+  answer_clear kind operands (Some v) s e = next e
+  answer_clear kind operands None s e = stop_at e
 
   apply_clear : (kind : Kind) (s : Stack) {j : ℕ} {t : Stack} → apply kind s k ≡ At j t → Outside p i j
   unfolding apply

@@ -6,8 +6,9 @@ use native.Mathlib.Omega.{arith}
 use mathlib.Core.Path.{◌≡◌, refl, sym, ap, ◌∙◌}
 use mathlib.Core.Bool.{Bool, true, false, cond}
 use mathlib.Core.List.{[], ◌∷◌}
-use Rattle.values.specs.declared.Maybe.{Maybe}
-use Rattle.values.specs.declared.Maybe.TheVariants.{Is, Nothing}
+use Rattle.std.specs.declared.option.Option.{Option}
+use Rattle.values.specs.declared.Val.{Val}
+use Rattle.std.specs.declared.option.Option.TheVariants.{Some, None}
 use Rattle.fold.specs.declared.Kind.{Kind}
 use Rattle.fold.specs.declared.Kind.TheVariants.{Binop, Not, Minus, Other}
 use Rattle.runs.specs.Machine.{Stack, is_true, Ins, Push, Unread, Apply, Jump, JumpIfFalse, Pass, End, Onto, At, Stop, answer, apply, test, act, Run}
@@ -27,10 +28,10 @@ onward g (At j t) = At (g j) t
 onward g (Stop e) = Stop e
 
 module _ (g : ℕ → ℕ) (k k₂ : ℕ) (on : g (suc k) ≡ suc k₂) where
-  answer_turn : (kind : Kind) (operands : Stack) (f : Maybe) (s : Stack) → answer kind operands f s k₂ ≡ onward g (answer kind operands f s k)
+  answer_turn : (kind : Kind) (operands : Stack) (f : Option Val) (s : Stack) → answer kind operands f s k₂ ≡ onward g (answer kind operands f s k)
   unfolding answer
-  answer_turn kind operands (Is v) s = rw on refl
-  answer_turn kind operands Nothing s = refl
+  answer_turn kind operands (Some v) s = rw on refl
+  answer_turn kind operands None s = refl
 
   apply_turn : (kind : Kind) (s : Stack) → apply kind s k₂ ≡ onward g (apply kind s k)
   unfolding apply

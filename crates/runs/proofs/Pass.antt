@@ -12,15 +12,11 @@ use Rattle.chunk.specs.Chunk.{stride, chunk_count, op_at, operand_at}
 use Rattle.landings.specs.Landings.{lands_any}
 use Rattle.values.specs.declared.Val.{Val}
 use Rattle.values.specs.declared.Op.{Op}
-use Rattle.values.specs.declared.Maybe.TheVariants.{Is}
+use Rattle.std.specs.declared.option.Option.TheVariants.{Some, None}
 use Rattle.values.specs.Folds.{fold_binop}
 use Rattle.pool.specs.Inner.{PushRoom}
 use Rattle.fold.specs.declared.Kind.{Kind}
 use Rattle.fold.specs.declared.Kind.TheVariants.{Binop, Not, Minus, Other}
-use Rattle.fold.specs.declared.Plan.{Plan}
-use Rattle.fold.specs.declared.Plan.TheVariants.{Stay, Put}
-use Rattle.fold.specs.declared.Loaded.{Loaded}
-use Rattle.fold.specs.declared.Loaded.TheVariants.{As, No}
 use Rattle.fold.specs.Plan.{Chunk, chunk, kind_of, fold_unary, plan_at}
 use Rattle.fold.specs.Pass.{const_load, put, landed, applied, try_fold, Bars, folded}
 use Rattle.fold.specs.Inner.{OperatorRoom, PassRoom}
@@ -33,6 +29,11 @@ use Rattle.runs.proofs.Good.{Good, good_of, binop_good}
 use Rattle.runs.proofs.Pool.{Loads, load_back, load_grows}
 use Rattle.runs.proofs.Told.{Near, Told, two, one, told}
 use Rattle.runs.proofs.Step.{living, code_of, Fine, living_on, living_off, read_same, kill, Operates, operates, one_acts, two_acts, one_good, Kept, keeps}
+use Rattle.std.specs.declared.option.Option.{Option}
+use Rattle.fold.specs.declared.Plan.{Plan}
+use Rattle.fold.specs.declared.Load.{Load}
+use Rattle.fold.specs.Plan.{to_put}
+use Rattle.fold.specs.Pass.{to_load}
 
 -- two codes that are one below n
 pub alike : {code code' : ℕ → Ins} {n : ℕ} → ((k : ℕ) → k < n → code' k ≡ code k) → {k : ℕ} {s : Stack} {o : End} → Run code n k s o → Run code' n k s o
@@ -73,7 +74,7 @@ module _ {n i : ℕ} {code dead kinds words : List ℕ} {constants : ℕ} (fine 
   passes k d s = rw (living_off code dead kinds words k d) refl
 
   module _ (p q : ℕ) (v : Val)
-      (none : lands_any code p i ≡ false) (room : PushRoom kinds words constants) (c x m : ℕ) (e : (const_load v kinds words constants).load ≡ As c x m) where
+      (none : lands_any code p i ≡ false) (room : PushRoom kinds words constants) (c x m : ℕ) (e : (const_load v kinds words constants).load ≡ to_load c x m) where
     abbrev Done : Type 0
     Done =
         Kept n (chunk code dead kinds words constants)
@@ -83,7 +84,7 @@ module _ {n i : ℕ} {code dead kinds words : List ℕ} {constants : ℕ} (fine 
     load g = load_back v g constants kinds words room c x m e
 
     two_after : (o : Op) (a b : Val) → kind_of (op_at code i) ≡ Binop o → Near dead i q → Near dead q p
-        → Operates code kinds words p a → Operates code kinds words q b → fold_binop o a b ≡ Is v → Done
+        → Operates code kinds words p a → Operates code kinds words q b → fold_binop o a b ≡ Some v → Done
     two_after o a b k nq np oa ob f =
         keeps fine whole hi p q v np.below (omega (arith, nq.below)) np.alive gap (const_load v kinds words constants).kinds
         (const_load v kinds words constants).words c x m
@@ -119,7 +120,7 @@ module _ {n i : ℕ} {code dead kinds words : List ℕ} {constants : ℕ} (fine 
             (two_acts o a b v s i f)
 
     one_after : (minus : Bool) (a : Val) → kind_of (op_at code i) ≡ cond minus Minus Not → Near dead i p → i ≡ q
-        → Operates code kinds words p a → fold_unary minus a ≡ Is v → Done
+        → Operates code kinds words p a → fold_unary minus a ≡ Some v → Done
     one_after minus a k np iq oa f =
         keeps fine whole hi p q v (omega (arith, np.below)) (omega arith) np.alive gap (const_load v kinds words constants).kinds
         (const_load v kinds words constants).words c x m
@@ -180,7 +181,7 @@ module _ {n i : ℕ} (s : Chunk) (fine : Fine n s) (whole : n ≡ chunk_count s.
           s.constants).words
           (load_grows v s.kinds s.words s.constants) (kind_of (op_at s.code k)) (op_at s.code k) (operand_at s.code k) (fine.each k h).there)
 
-  told_after : (di : get_or s.dead i 0 ≡ 0) (p q : ℕ) (v : Val) (c x m : ℕ) → (const_load v s.kinds s.words s.constants).load ≡ As c x m
+  told_after : (di : get_or s.dead i 0 ≡ 0) (p q : ℕ) (v : Val) (c x m : ℕ) → (const_load v s.kinds s.words s.constants).load ≡ to_load c x m
       → PushRoom s.kinds s.words s.constants
       → Told bars i s p q v
       → Kept n s (chunk (put s.code p c x) (kill s.dead q i) (const_load v s.kinds s.words s.constants).kinds (const_load v s.kinds
@@ -191,15 +192,15 @@ module _ {n i : ℕ} (s : Chunk) (fine : Fine n s) (whole : n ≡ chunk_count s.
   told_after di p q v c x m e room (one minus a k np iq ea f free) =
       one_after fine whole hi di p q v (strict p free) room c x m e minus a k np iq (operates s.code s.kinds s.words s.constants p a ea) f
 
-  attempt : get_or s.dead i 0 ≡ 0 → (plan : Plan) → plan_at bars i s ≡ plan → Kept n s (applied plan i s)
+  attempt : get_or s.dead i 0 ≡ 0 → (plan : Option Plan) → plan_at bars i s ≡ plan → Kept n s (applied plan i s)
   unfolding applied landed
-  attempt d Stay e = stay
-  attempt d (Put p q v) e = go (const_load v s.kinds s.words s.constants).load refl
+  attempt d None e = stay
+  attempt d (Some f) e = go (const_load f.value s.kinds s.words s.constants).load refl
     where
-      go : (l : Loaded) → (const_load v s.kinds s.words s.constants).load ≡ l
-          → Kept n s (landed l (const_load v s.kinds s.words s.constants).kinds (const_load v s.kinds s.words s.constants).words p q i s)
-      go (As c x m) b = told_after d p q v c x m b (ready.room (planned bars i s e).operator) (told bars i s e)
-      go No b = full v
+      go : (l : Option Load) → (const_load f.value s.kinds s.words s.constants).load ≡ l
+          → Kept n s (landed l (const_load f.value s.kinds s.words s.constants).kinds (const_load f.value s.kinds s.words s.constants).words f.at f.dies i s)
+      go (Some l) b = told_after d f.at f.dies f.value l.opcode l.operand l.constants b (ready.room (planned bars i s e).operator) (told bars i s e)
+      go None b = full f.value
 
   pub step : Kept n s (try_fold bars i s)
   unfolding try_fold

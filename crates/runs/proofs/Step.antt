@@ -16,8 +16,8 @@ use Rattle.landings.specs.Landings.{lands_any}
 use Rattle.values.specs.declared.Val.{Val}
 use Rattle.values.specs.declared.Val.TheVariants.{Int, Float as Real, Bool as Truth}
 use Rattle.values.specs.declared.Op.{Op}
-use Rattle.values.specs.declared.Maybe.{Maybe}
-use Rattle.values.specs.declared.Maybe.TheVariants.{Is, Nothing}
+use Rattle.std.specs.declared.option.Option.{Option}
+use Rattle.std.specs.declared.option.Option.TheVariants.{Some, None}
 use Rattle.values.specs.Folds.{fold_binop, fold_not}
 use Rattle.pool.specs.Pool.{to_val, const_to_val}
 use Rattle.fold.specs.declared.Kind.{Kind}
@@ -103,16 +103,16 @@ module _ (code : List ℕ) (p i : ℕ) (none : lands_any code p i ≡ false) whe
       go true false ea eb e = inr (leb-false _ _ eb)
       go false b ea eb e = inl (ltb-false _ _ ea)
 
-  push_clear : (o : Maybe) (k w : ℕ) → Clear p i (push_of o k w)
+  push_clear : (o : Option Val) (k w : ℕ) → Clear p i (push_of o k w)
   unfolding push_of
-  push_clear (Is v) k w = tt
-  push_clear Nothing k w = tt
+  push_clear (Some v) k w = tt
+  push_clear None k w = tt
 
   plain_clear : (c x : ℕ) (kinds words : List ℕ) → (eqb c op.Jump || eqb c op.JumpIfFalse ≡ true → Outside p i x) → Clear p i (plain c x kinds words)
   unfolding plain
   plain_clear c x kinds words h = go (eqb c op.Jump) (eqb c op.JumpIfFalse) (eqb c op.LoadConst) (eqb c op.LoadTrue) (eqb c op.LoadFalse) (eqb c op.LoadNone) h
     where
-      o : Maybe
+      o : Option Val
       o = to_val (get_or kinds x 0) (get_or words x 0)
 
       go : (a b d e f g : Bool) → (a || b ≡ true → Outside p i x)
@@ -147,19 +147,19 @@ module _ (code : List ℕ) (p i : ℕ) (none : lands_any code p i ≡ false) whe
 
 -- ---- an operand
 
-no_operand : {X : Type 0} {a : Val} → Nothing ≡ Is a → X
+no_operand : {X : Type 0} {a : Val} → None ≡ Some a → X
 no_operand e = absurd (let z : ◌≡◌ {A = ℕ} 0 1 = cc in omega arith)
 
 pub record Operates (code kinds words : List ℕ) (p : ℕ) (a : Val) : Type 0 where
   pub pushes : ins code kinds words p ≡ Push (Known a)
   pub good : Good a
 
-pub operates : (code kinds words : List ℕ) (n p : ℕ) (a : Val) → operand_of code kinds words n p ≡ Is a → Operates code kinds words p a
+pub operates : (code kinds words : List ℕ) (n p : ℕ) (a : Val) → operand_of code kinds words n p ≡ Some a → Operates code kinds words p a
 unfolding operand_of const_to_val ins read plain push_of kind_of operator_page
 operates code kinds words n p a e = go (eqb (op_at code p) op.LoadConst) (ltb (operand_at code p) n) refl e
   where
     go : (s t : Bool) → eqb (op_at code p) op.LoadConst ≡ s
-        → cond s (cond t (to_val (get_or kinds (operand_at code p) 0) (get_or words (operand_at code p) 0)) Nothing) Nothing ≡ Is a → Operates code kinds words p a
+        → cond s (cond t (to_val (get_or kinds (operand_at code p) 0) (get_or words (operand_at code p) 0)) None) None ≡ Some a → Operates code kinds words p a
     go true true q e = record { pushes = rw (eqb-true (op_at code p) op.LoadConst q, e) refl; good = val_good _ _ e }
     go true false q e = no_operand e
     go false t q e = no_operand e
@@ -170,13 +170,13 @@ not_not : (b : Bool) → not (not b) ≡ b
 not_not true = refl
 not_not false = refl
 
-not_is : (a : Val) → fold_not a ≡ Is (Truth (not (is_true (Known a))))
+not_is : (a : Val) → fold_not a ≡ Some (Truth (not (is_true (Known a))))
 unfolding fold_not is_true
 not_is (Int z) = rw (not_not _) refl
 not_is (Real x) = rw (not_not _) refl
 not_is (Truth b) = refl
 
-pub one_acts : (minus : Bool) (a v : Val) (s : Stack) (k : ℕ) → fold_unary minus a ≡ Is v
+pub one_acts : (minus : Bool) (a v : Val) (s : Stack) (k : ℕ) → fold_unary minus a ≡ Some v
     → act (Apply (cond minus Minus Not)) (Known a ∷ s) k ≡ At (suc k) (Known v ∷ s)
 unfolding act apply answer neg_v fold_unary
 one_acts true a v s k e = rw e refl
@@ -184,11 +184,11 @@ one_acts false a v s k e =
     let w : Truth (not (is_true (Known a))) ≡ v = cc (not_is a) in
     ap (λ (u : Val). At (suc k) (Known u ∷ s)) w
 
-pub two_acts : (o : Op) (a b v : Val) (s : Stack) (k : ℕ) → fold_binop o a b ≡ Is v → act (Apply (Binop o)) (Known b ∷ Known a ∷ s) k ≡ At (suc k) (Known v ∷ s)
+pub two_acts : (o : Op) (a b v : Val) (s : Stack) (k : ℕ) → fold_binop o a b ≡ Some v → act (Apply (Binop o)) (Known b ∷ Known a ∷ s) k ≡ At (suc k) (Known v ∷ s)
 unfolding act apply answer binop_v
 two_acts o a b v s k e = rw e refl
 
-pub one_good : (minus : Bool) (a v : Val) → Good a → fold_unary minus a ≡ Is v → Good v
+pub one_good : (minus : Bool) (a v : Val) → Good a → fold_unary minus a ≡ Some v → Good v
 unfolding fold_unary
 one_good true a v h e = good_of e (neg_good a h)
 one_good false a v h e = good_of e (not_good a)

@@ -6,8 +6,8 @@ use Rattle.values.specs.Python.{eq_z}
 use Rattle.values.specs.Folds.{fold_binop, fold_neg, is_zero}
 use Rattle.values.specs.declared.Val.{Val}
 use Rattle.values.specs.declared.Val.TheVariants.{Int, Float as Real, Bool as Truth}
-use Rattle.values.specs.declared.Maybe.{Maybe}
-use Rattle.values.specs.declared.Maybe.TheVariants.{Is, Nothing}
+use Rattle.std.specs.declared.option.Option.{Option}
+use Rattle.std.specs.declared.option.Option.TheVariants.{Some, None as Nothing}
 use Rattle.values.specs.declared.Op.{Op}
 use Rattle.pool.specs.Pool.{to_val}
 use Rattle.fold.specs.declared.Kind.{Kind}
@@ -52,19 +52,19 @@ pub data Onto : Type 0 where
   Stop : End → Onto
 
 -- an operator works by the fold rules; none is no operand
-unfoldable pub binop_v : Op → Value → Value → Maybe
+unfoldable pub binop_v : Op → Value → Value → Option Val
 binop_v o (Known a) (Known b) = fold_binop o a b
 binop_v o (Known a) None = Nothing
 binop_v o None b = Nothing
 
 -- Minus works by the fold rules too, and none is no operand of it
-unfoldable pub neg_v : Value → Maybe
+unfoldable pub neg_v : Value → Option Val
 neg_v (Known a) = fold_neg a
 neg_v None = Nothing
 
 -- after an operator at k: a result is pushed and the run goes on; without one it stops, with the operator and its operands
-unfoldable pub answer : Kind → Stack → Maybe → Stack → ℕ → Onto
-answer kind operands (Is v) s k = At (suc k) (Known v ∷ s)
+unfoldable pub answer : Kind → Stack → Option Val → Stack → ℕ → Onto
+answer kind operands (Some v) s k = At (suc k) (Known v ∷ s)
 answer kind operands Nothing s k = Stop (NoResult kind operands)
 
 -- an operator on a stack, its top first; Not answers the opposite of the truth
@@ -104,8 +104,8 @@ pub data Run (code : ℕ → Ins) (n : ℕ) : ℕ → Stack → End → Type 0 w
 -- ---- a chunk's instructions
 
 -- a load of a constant; `to_val` makes every NaN one
-unfoldable pub push_of : Maybe → ℕ → ℕ → Ins
-push_of (Is v) kind w = Push (Known v)
+unfoldable pub push_of : Option Val → ℕ → ℕ → Ins
+push_of (Some v) kind w = Push (Known v)
 push_of Nothing kind w = Unread kind w
 
 -- an instruction that is no operator: a jump, a load, or an opcode that the machine has not

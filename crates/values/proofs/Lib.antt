@@ -4,4 +4,3 @@ pub mod Digits
 pub mod Complement
 pub mod Word
 pub mod Order
-pub mod Arms

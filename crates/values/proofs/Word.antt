@@ -1,26 +1,24 @@
 -- Ints in 64 bits: what an operation of the machine gives is the operation of ℤ, where it fits. Assumes nothing.
-use Prim.Native.Nat.{ℕ, zero, suc, ◌+◌, ◌-◌, ◌*◌, ◌/◌, ◌%◌, ◌^◌, ◌≤◌, ◌<◌}
-use native.Mathlib.Nat.{div-lt_iff_lt-mul, div-le_self, mod-le, mul-le-mul_right, div-mul-le_self, le_trans, one-mul}
+use Prim.Native.Nat.{ℕ, zero, suc, ◌+◌, ◌-◌, ◌*◌, ◌%◌, ◌^◌, ◌≤◌, ◌<◌}
+use native.Mathlib.Nat.{div-le_self, mod-le, one-mul}
 use native.Mathlib.Omega.{arith}
-use mathlib.Core.Logic.{◌⊎◌, inl, inr}
 use mathlib.Core.Path.{◌≡◌, refl, sym, ap, ◌∙◌, subst}
 use mathlib.Core.Bool.{Bool, true, false, cond}
-use lib.Dec.{T, ltb, eqb, le→leb, lt→ltb, lit<}
+use lib.Dec.{T, ltb, leb, eqb, le→leb, lt→ltb, lit<}
 use lib.Pow.{shl_exact, pow-lt}
 use lib.Ieee.{binary64, in_float}
-use lib.IntN.{ℤ, pos, negsuc, neg_ℤ, nat_abs, +ℤ_idl, ◌+ℤ◌, ◌-ℤ◌, ◌*ℤ◌, sub_ℕ}
+use lib.IntN.{ℤ, pos, negsuc, neg_ℤ, nat_abs, +ℤ_idl, ◌+ℤ◌, ◌-ℤ◌, sub_ℕ}
 use lib.Signed.{mag, lt_z, non_neg, quot_z, rem_z, shr_z, mag_shr}
 use lib.Bits.{bit_and, bit_or, bit_xor, and_comm, or_comm, xor_comm, and_lt, or_lt, xor_lt}
 use mir.Syntax.{w64}
-use mir.Val.{Fits, SFits, to_z, of_z}
+use mir.Val.{SFits, to_z, of_z}
 use mir.ValLaws.{to_z_pos, to_z-neg, to_z-of_z}
-use borrow.Author.Tests.{lt-ltb, le-ltb, ltb-true, ltb-false, eq-eqb, ne_eqb}
+use borrow.Author.Tests.{leb-true, leb-false, lt-ltb, le-ltb, ltb-true, ltb-false, eq-eqb, ne_eqb}
 use Rattle.values.specs.Python.{and_z, or_z, xor_z, shift_down, floor_div, down_div, eq_z}
 use Rattle.values.specs.Folds.{SmallInt, in_range, divmod, shifted}
 use Rattle.values.specs.declared.Val.TheVariants.{Int}
-use Rattle.values.specs.declared.Divmod.TheVariants.{Into, ByZero}
-use Rattle.values.specs.declared.Maybe.TheVariants.{Is, Nothing}
-use Rattle.values.proofs.Division.{Same, abs_neg, abs_quot, abs_rem}
+use Rattle.std.specs.declared.option.Option.TheVariants.{Some, None}
+use Rattle.values.proofs.Division.{Same, abs_quot, abs_rem}
 use Rattle.values.proofs.Complement.{and_pn, or_pn, xor_pn, and_nn, or_nn, xor_nn}
 
 -- what the machine reads back from an int's bits
@@ -39,13 +37,20 @@ positive (suc n) h = omega arith
 
 -- ---- the range
 
-pub out : (z : ℤ) → 2 ^ 47 ≤ mag z → Nothing ≡ in_range z
+pub out : (z : ℤ) → 2 ^ 47 ≤ mag z → None ≡ in_range z
 unfolding in_range
-out z h = ap (λ (t : Bool). cond t (Is (Int z)) Nothing) (sym (le-ltb (mag z) (2 ^ 47) h))
+out z h = ap (λ (t : Bool). cond t (Some (Int z)) None) (sym (le-ltb (mag z) (2 ^ 47) h))
 
-pub within : (z : ℤ) → mag z < 2 ^ 47 → Is (Int z) ≡ in_range z
+pub within : (z : ℤ) → mag z < 2 ^ 47 → Some (Int z) ≡ in_range z
 unfolding in_range
-within z h = ap (λ (t : Bool). cond t (Is (Int z)) Nothing) (sym (lt-ltb (mag z) (2 ^ 47) h))
+within z h = ap (λ (t : Bool). cond t (Some (Int z)) None) (sym (lt-ltb (mag z) (2 ^ 47) h))
+
+pub overflown : (z : ℤ) → (SFits w64 z → ⊥) → None ≡ in_range z
+overflown z h = out z (far (leb (2 ^ 47) (mag z)) refl)
+  where
+    far : (t : Bool) → leb (2 ^ 47) (mag z) ≡ t → 2 ^ 47 ≤ mag z
+    far true e = leb-true (2 ^ 47) (mag z) e
+    far false e = absurd (h (record { sfits = omega (arith, leb-false (2 ^ 47) (mag z) e) }))
 
 pub below_least : (z : ℤ) → lt_z z (negsuc 140737488355327) ≡ true → 2 ^ 47 ≤ mag z
 below_least (pos n) e = no e
@@ -109,33 +114,6 @@ abs_le : (z : ℤ) → nat_abs z ≤ suc (mag z)
 abs_le (pos n) = omega arith
 abs_le (negsuc n) = omega arith
 
--- -1 - a has a's digits, each turned over
-pub not_pos : (n : ℕ) → negsuc 0 -ℤ pos n ≡ negsuc n
-not_pos zero = refl
-not_pos (suc n) = ap (λ (k : ℕ). negsuc k) (omega arith)
-
-pub not_neg : (n : ℕ) → negsuc 0 -ℤ negsuc n ≡ pos n
-not_neg n = ap (λ (t : Bool). cond t (negsuc (1 - suc (suc n))) (pos (suc n - 1))) (le-ltb (suc n) 1 (omega arith)) ∙ ap pos (omega arith)
-
-not_mag : (a : ℤ) → mag (negsuc 0 -ℤ a) ≡ mag a
-not_mag (pos n) = rw (not_pos n) refl
-not_mag (negsuc n) = rw (not_neg n) refl
-
-pub not_fits : {a : ℤ} → SFits w64 a → SFits w64 (negsuc 0 -ℤ a)
-not_fits {a} f = record { sfits = rw (not_mag a) f.sfits }
-
-pub abs_fits : (a : ℤ) → mag a < 2 ^ 63 → Fits w64 (nat_abs a)
-abs_fits a h = record { fits = omega (arith, abs_le a) }
-
--- a below 0
-pub not_up : (a : ℤ) → lt_z a (pos 0) ≡ true → T (non_neg (negsuc 0 -ℤ a))
-not_up (pos n) e = absurd (let k : n < 0 = ltb-true n 0 e in omega arith)
-not_up (negsuc n) e = rw (not_neg n) tt
-
-pub not_size : (a : ℤ) → lt_z a (pos 0) ≡ true → nat_abs (negsuc 0 -ℤ a) + 1 ≡ nat_abs a
-not_size (pos n) e = absurd (let k : n < 0 = ltb-true n 0 e in omega arith)
-not_size (negsuc n) e = rw (not_neg n) (omega arith)
-
 -- a not below 0
 pub up : (a : ℤ) → lt_z a (pos 0) ≡ false → T (non_neg a)
 up (pos n) e = tt
@@ -146,23 +124,6 @@ pub zero_bits : {z : ℤ} → SFits w64 z → eqb (of_z w64 z) 0 ≡ eq_z z (pos
 zero_bits {z = pos n} f = refl
 zero_bits {z = negsuc n} f = ne_eqb (2 ^ 64 - suc n) 0 (λ h. omega (arith, f.sfits))
 
--- a product is out of range, or fits
-pub abs_mul : (a b : ℤ) → nat_abs (a *ℤ b) ≡ nat_abs a * nat_abs b
-abs_mul (pos a) (pos b) = refl
-abs_mul (pos a) (negsuc b) = abs_neg (a * suc b)
-abs_mul (negsuc a) (pos b) = abs_neg (suc a * b)
-abs_mul (negsuc a) (negsuc b) = refl
-
-pub product_out : (a b : ℤ) → 0 < nat_abs b → 140737488355328 / nat_abs b < nat_abs a → 2 ^ 47 ≤ mag (a *ℤ b)
-product_out a b p h = omega (arith, abs_mul a b, abs_le (a *ℤ b), (div-lt_iff_lt-mul p).0 h)
-
-pub product_fits : (a b : ℤ) → (nat_abs b ≡ 0) ⊎ (nat_abs a ≤ 140737488355328 / nat_abs b) → SFits w64 (a *ℤ b)
-product_fits a b h = record { sfits = omega (arith, mag_le (a *ℤ b), near h) }
-  where
-    near : (nat_abs b ≡ 0) ⊎ (nat_abs a ≤ 140737488355328 / nat_abs b) → nat_abs (a *ℤ b) ≤ 140737488355328
-    near (inl e) = rw (abs_mul a b, e) (omega arith)
-    near (inr k) = rw (abs_mul a b) (le_trans (mul-le-mul_right (nat_abs b) k) (div-mul-le_self 140737488355328 (nat_abs b)))
-
 -- ---- division
 
 pub bits_up : {d : ℤ} → SFits w64 d → (of_z w64 d ≡ 0 → ⊥) → 0 < nat_abs d
@@ -170,11 +131,11 @@ bits_up {d = pos zero} f n = absurd (n refl)
 bits_up {d = pos (suc d)} f n = omega arith
 bits_up {d = negsuc d} f n = omega arith
 
-pub zero_divisor : (a : ℤ) {d : ℤ} → SFits w64 d → of_z w64 d ≡ 0 → ByZero ≡ divmod a d
+pub zero_divisor : (a : ℤ) {d : ℤ} → SFits w64 d → of_z w64 d ≡ 0 → None ≡ divmod a d
 unfolding divmod
 zero_divisor a f e = rw (sym (zero_bits f), eq-eqb _ 0 e) refl
 
-pub same_divmod : (a d q r : ℤ) → 0 < nat_abs d → Same a d q r → Into q r ≡ divmod a d
+pub same_divmod : (a d q r : ℤ) → 0 < nat_abs d → Same a d q r → Some (q, r) ≡ divmod a d
 unfolding divmod
 same_divmod a d q r h s = rw (not_zero d h, s.quotient, s.remainder) refl
   where
@@ -243,34 +204,24 @@ xor64 (negsuc a) (negsuc b) s t = low (bit_xor a b) (xor_nn 64 a b _ _ (turn t.s
 
 -- ---- shifts
 
-pub shift_low : (n : ℤ) (f : ℕ → ℤ) → lt_z n (pos 0) ≡ true → Nothing ≡ shifted n f
+pub shift_low : (n : ℤ) (f : ℕ → ℤ) → lt_z n (pos 0) ≡ true → None ≡ shifted n f
 unfolding shifted
 shift_low (pos n) f e = absurd (let k : n < 0 = ltb-true n 0 e in omega arith)
 shift_low (negsuc n) f e = refl
 
-pub shift_far : (n : ℤ) (f : ℕ → ℤ) → lt_z (pos 62) n ≡ true → Nothing ≡ shifted n f
+pub shift_far : (n : ℤ) (f : ℕ → ℤ) → lt_z (pos 62) n ≡ true → None ≡ shifted n f
 unfolding shifted
-shift_far (pos n) f e = ap (λ (t : Bool). cond t (in_range (f n)) Nothing) (sym (le-ltb n 63 (omega (arith, ltb-true 62 n e))))
+shift_far (pos n) f e = ap (λ (t : Bool). cond t (in_range (f n)) None) (sym (le-ltb n 63 (omega (arith, ltb-true 62 n e))))
 shift_far (negsuc n) f e = refl
 
 pub shift_is : (n : ℤ) (f : ℕ → ℤ) → lt_z n (pos 0) ≡ false → lt_z (pos 62) n ≡ false → in_range (f (nat_abs n)) ≡ shifted n f
 unfolding shifted
-shift_is (pos n) f e h = ap (λ (t : Bool). cond t (in_range (f n)) Nothing) (sym (lt-ltb n 63 (omega (arith, ltb-false 62 n h))))
+shift_is (pos n) f e h = ap (λ (t : Bool). cond t (in_range (f n)) None) (sym (lt-ltb n 63 (omega (arith, ltb-false 62 n h))))
 shift_is (negsuc n) f e h = no (sym e)
 
 pub shift_near : (n : ℤ) → lt_z n (pos 0) ≡ false → lt_z (pos 62) n ≡ false → nat_abs n ≤ 62
 shift_near (pos n) e h = ltb-false 62 n h
 shift_near (negsuc n) e h = no (sym e)
-
--- as the machine's count
-pub count_cast : (n : ℤ) → lt_z n (pos 0) ≡ false → lt_z (pos 62) n ≡ false → Fits w64 (nat_abs n)
-count_cast n e h = record { fits = omega (arith, shift_near n e h) }
-
-pub count_fits : (n : ℤ) → lt_z n (pos 0) ≡ false → lt_z (pos 62) n ≡ false → SFits w64 (pos (nat_abs n))
-count_fits n e h = record { sfits = omega (arith, shift_near n e h) }
-
-pub count_below : (n : ℤ) → lt_z n (pos 0) ≡ false → lt_z (pos 62) n ≡ false → nat_abs n < 64
-count_below n e h = omega (arith, shift_near n e h)
 
 -- 1 moved up by n is 2 ^ n
 pub one_up : (n : ℕ) → n ≤ 62 → to_z w64 ((1 * 2 ^ n) % 2 ^ 64) ≡ pos (2 ^ n)
@@ -281,8 +232,12 @@ unfolding shift_down floor_div down_div
 shift_down_lem (pos a) n = refl
 shift_down_lem (negsuc a) n = refl
 
-pub shift_fits : (a : ℤ) (m : ℕ) → mag a < 2 ^ 63 → SFits w64 (shr_z a m)
-shift_fits a m h = record { sfits = omega (arith, mag_shr a m) }
+-- 62 places at most, or none
+pub shift_back : {a : ℤ} (n : ℤ) → SFits w64 a → lt_z n (pos 0) ≡ false → lt_z (pos 62) n ≡ false
+    → in_range (to_z w64 (of_z w64 (shr_z a (2 ^ of_z w64 n)))) ≡ shifted n (shift_down a)
+shift_back {a} (pos n) s e f =
+    ap in_range (back_ok (shr_z a (2 ^ n)) (omega (arith, mag_shr a (2 ^ n), s.sfits)) ∙ shift_down_lem a n) ∙ shift_is (pos n) (shift_down a) e f
+shift_back (negsuc n) s e f = no (sym e)
 
 -- ---- floats
 
@@ -290,3 +245,15 @@ pub exact : (a : ℤ) → SmallInt a → T (in_float binary64 a)
 unfolding in_float
 exact (pos n) h = le→leb n (2 ^ 53) (omega (arith, h.small))
 exact (negsuc n) h = lt→ltb n (2 ^ 53) (omega (arith, h.small))
+
+-- what the contracts of `values` need of the machine's ints: their bits and ranges, and what fits
+pub ruleset ranges = (back, small_fits, overflown, below_least, above_most, between, sum_fits, difference_fits, minus_is, minus_fits, zero_bits, exact)
+
+-- the shifts
+pub ruleset shifts = (shift_low, shift_far, shift_is, shift_near, shift_back, one_up, up)
+
+-- the division
+pub ruleset division = (positive, bits_up, zero_divisor, same_divmod, quot_fits, rem_fits, quot_less_fits, rem_more_fits)
+
+-- all of them, and the bit operators
+pub ruleset word = (ranges, and64, or64, xor64, shifts, division)

@@ -1,5 +1,5 @@
 // What folds compute: each constant is an int, a float or a bool, with its number inside.
-#![tactic(auto)]
+#![tactic(auto, using(crate::proofs::Word::word), unfolding(crate::specs::Folds::ints, crate::specs::Folds::quotient, crate::specs::Folds::remainder))]
 
 ghost use Rattle.std.specs.Prelude.{◌≡◌, nat_abs, neg_ℤ};
 ghost use Rattle.std.specs.Float.{binary64};
@@ -14,13 +14,6 @@ pub enum Val {
     Int(i64),
     Float(f64),
     Bool(bool),
-}
-
-// An operand or a result, where there is one.
-#[derive(Clone, Copy)]
-pub enum Maybe {
-    Is(Val),
-    Nothing,
 }
 
 // The operators of two operands.
@@ -45,13 +38,6 @@ pub enum Op {
     Shr,
 }
 
-// A quotient and what it leaves, unless the divisor is 0.
-#[derive(Clone, Copy)]
-pub enum Divmod {
-    Into(i64, i64),
-    ByZero,
-}
-
 // The least int in range.
 const INT_MIN: i64 = -140_737_488_355_328;
 
@@ -62,46 +48,43 @@ const INT_MAX: i64 = 140_737_488_355_327;
 const MAX_SHIFT: i64 = 62;
 
 // Not: whether a number is zero, and the opposite of a bool.
-pub fn fold_not(v: Val) -> Maybe
+#[tactic(auto, using(crate::proofs::Word::word), unfolding(crate::specs::Folds::fold_not))]
+pub fn fold_not(v: Val) -> Option<Val>
     requires { SoundInt v }
     ensures { result ≡ fold_not v }
 {
     match v {
-        Val::Bool(b) => Maybe::Is(Val::Bool(!b)),
-        Val::Int(i) => Maybe::Is(Val::Bool(i == 0)),
-        Val::Float(f) => Maybe::Is(Val::Bool(f == 0.0)),
+        Val::Bool(b) => Some(Val::Bool(!b)),
+        Val::Int(i) => Some(Val::Bool(i == 0)),
+        Val::Float(f) => Some(Val::Bool(f == 0.0)),
     }
 }
 
 // Minus: the opposite of a number, an int's within the range; a bool has none.
-pub fn fold_neg(v: Val) -> Maybe
+#[tactic(auto, using(crate::proofs::Word::word), unfolding(crate::specs::Folds::fold_neg))]
+pub fn fold_neg(v: Val) -> Option<Val>
     requires { SoundInt v }
     ensures { result ≡ fold_neg v }
 {
     match v {
         Val::Int(i) => checked_neg(i),
-        Val::Float(f) => Maybe::Is(Val::Float(-f)),
-        Val::Bool(_) => Maybe::Nothing,
+        Val::Float(f) => Some(Val::Float(-f)),
+        Val::Bool(_) => None,
     }
 }
 
 // An operator over two operands: an int beside a float becomes one, and a bool is no operand.
-pub fn fold_binop(op: Op, a: Val, b: Val) -> Maybe
+#[tactic(auto, using(crate::proofs::Word::word), unfolding(crate::specs::Folds::fold_binop))]
+pub fn fold_binop(op: Op, a: Val, b: Val) -> Option<Val>
     requires { SoundInt a × SoundInt b }
     ensures { result ≡ fold_binop op a b }
 {
-    match a {
-        Val::Int(ai) => match b {
-            Val::Int(bi) => fold_ints(op, ai, bi),
-            Val::Float(bf) => fold_floats(op, as_f64(ai), bf),
-            Val::Bool(_) => Maybe::Nothing,
-        },
-        Val::Float(af) => match b {
-            Val::Int(bi) => fold_floats(op, af, as_f64(bi)),
-            Val::Float(bf) => fold_floats(op, af, bf),
-            Val::Bool(_) => Maybe::Nothing,
-        },
-        Val::Bool(_) => Maybe::Nothing,
+    match (a, b) {
+        (Val::Int(a), Val::Int(b)) => fold_ints(op, a, b),
+        (Val::Int(a), Val::Float(b)) => fold_floats(op, as_f64(a), b),
+        (Val::Float(a), Val::Int(b)) => fold_floats(op, a, as_f64(b)),
+        (Val::Float(a), Val::Float(b)) => fold_floats(op, a, b),
+        _ => None,
     }
 }
 
@@ -114,7 +97,7 @@ fn as_f64(i: i64) -> f64
 }
 
 // Two ints, by Python's rules.
-fn fold_ints(op: Op, a: i64, b: i64) -> Maybe
+fn fold_ints(op: Op, a: i64, b: i64) -> Option<Val>
     requires { SmallInt a × SmallInt b }
     ensures { result ≡ ints op a b }
 {
@@ -122,15 +105,15 @@ fn fold_ints(op: Op, a: i64, b: i64) -> Maybe
         Op::Add => checked_add(a, b),
         Op::Sub => checked_sub(a, b),
         Op::Mul => checked_mul(a, b),
-        Op::Div => Maybe::Nothing,
+        Op::Div => None,
         Op::Mod => checked_mod(a, b),
         Op::FloorDiv => checked_div(a, b),
-        Op::Eq => compare(op, a, b),
-        Op::NotEq => compare(op, a, b),
-        Op::Lt => compare(op, a, b),
-        Op::Gt => compare(op, a, b),
-        Op::LtEq => compare(op, a, b),
-        Op::GtEq => compare(op, a, b),
+        Op::Eq => Some(Val::Bool(a == b)),
+        Op::NotEq => Some(Val::Bool(a != b)),
+        Op::Lt => Some(Val::Bool(a < b)),
+        Op::Gt => Some(Val::Bool(a > b)),
+        Op::LtEq => Some(Val::Bool(a <= b)),
+        Op::GtEq => Some(Val::Bool(a >= b)),
         Op::BitAnd => in_range(a & b),
         Op::BitOr => in_range(a | b),
         Op::BitXor => in_range(a ^ b),
@@ -139,60 +122,46 @@ fn fold_ints(op: Op, a: i64, b: i64) -> Maybe
     }
 }
 
-// Two ints are compared through their floats.
-fn compare(op: Op, a: i64, b: i64) -> Maybe
-    requires { SmallInt a × SmallInt b }
-    ensures { result ≡ floats op (of_int binary64 a) (of_int binary64 b) }
-{
-    fold_floats(op, as_f64(a), as_f64(b))
-}
-
 // Two floats, by IEEE 754: each operation rounds once.
-fn fold_floats(op: Op, x: f64, y: f64) -> Maybe
+#[tactic(auto, unfolding(crate::specs::Folds::floats))]
+fn fold_floats(op: Op, x: f64, y: f64) -> Option<Val>
     ensures { result ≡ floats op x y }
 {
     match op {
-        Op::Add => Maybe::Is(Val::Float(x + y)),
-        Op::Sub => Maybe::Is(Val::Float(x - y)),
-        Op::Mul => Maybe::Is(Val::Float(x * y)),
+        Op::Add => Some(Val::Float(x + y)),
+        Op::Sub => Some(Val::Float(x - y)),
+        Op::Mul => Some(Val::Float(x * y)),
         Op::Div => {
             if y == 0.0 {
-                Maybe::Nothing
+                None
             } else {
-                Maybe::Is(Val::Float(x / y))
+                Some(Val::Float(x / y))
             }
         }
-        Op::Mod => Maybe::Nothing,
-        Op::FloorDiv => Maybe::Nothing,
-        Op::Eq => Maybe::Is(Val::Bool(x == y)),
-        Op::NotEq => Maybe::Is(Val::Bool(x != y)),
-        Op::Lt => Maybe::Is(Val::Bool(x < y)),
-        Op::Gt => Maybe::Is(Val::Bool(x > y)),
-        Op::LtEq => Maybe::Is(Val::Bool(x <= y)),
-        Op::GtEq => Maybe::Is(Val::Bool(x >= y)),
-        Op::BitAnd => Maybe::Nothing,
-        Op::BitOr => Maybe::Nothing,
-        Op::BitXor => Maybe::Nothing,
-        Op::Shl => Maybe::Nothing,
-        Op::Shr => Maybe::Nothing,
+        Op::Eq => Some(Val::Bool(x == y)),
+        Op::NotEq => Some(Val::Bool(x != y)),
+        Op::Lt => Some(Val::Bool(x < y)),
+        Op::Gt => Some(Val::Bool(x > y)),
+        Op::LtEq => Some(Val::Bool(x <= y)),
+        Op::GtEq => Some(Val::Bool(x >= y)),
+        Op::Mod | Op::FloorDiv | Op::BitAnd | Op::BitOr | Op::BitXor | Op::Shl | Op::Shr => None,
     }
 }
 
 // An int result stays within 48 bits.
-fn in_range(z: i64) -> Maybe
+#[inline]
+#[tactic(auto, using(crate::proofs::Word::word), unfolding(crate::specs::Folds::in_range))]
+pub fn in_range(z: i64) -> Option<Val>
     ensures { result ≡ in_range z }
 {
-    if z < INT_MIN {
-        return Maybe::Nothing;
+    if z < INT_MIN || INT_MAX < z {
+        return None;
     }
-    if z > INT_MAX {
-        return Maybe::Nothing;
-    }
-    Maybe::Is(Val::Int(z))
+    Some(Val::Int(z))
 }
 
 // The opposite of an int, if it is in range.
-fn checked_neg(a: i64) -> Maybe
+fn checked_neg(a: i64) -> Option<Val>
     requires { SmallInt a }
     ensures { result ≡ in_range (neg_ℤ a) }
 {
@@ -200,7 +169,7 @@ fn checked_neg(a: i64) -> Maybe
 }
 
 // The sum of two ints, if it is in range.
-fn checked_add(a: i64, b: i64) -> Maybe
+fn checked_add(a: i64, b: i64) -> Option<Val>
     requires { SmallInt a × SmallInt b }
     ensures { result ≡ ints Op.Add a b }
 {
@@ -208,7 +177,7 @@ fn checked_add(a: i64, b: i64) -> Maybe
 }
 
 // The difference of two ints, if it is in range.
-fn checked_sub(a: i64, b: i64) -> Maybe
+fn checked_sub(a: i64, b: i64) -> Option<Val>
     requires { SmallInt a × SmallInt b }
     ensures { result ≡ ints Op.Sub a b }
 {
@@ -216,87 +185,64 @@ fn checked_sub(a: i64, b: i64) -> Maybe
 }
 
 // A product out of range is found before it is made.
-fn checked_mul(a: i64, b: i64) -> Maybe
+fn checked_mul(a: i64, b: i64) -> Option<Val>
     ensures { result ≡ ints Op.Mul a b }
 {
-    let m = unsigned_abs(a);
-    let n = unsigned_abs(b);
-    if n != 0 {
-        if 140_737_488_355_328 / n < m {
-            return Maybe::Nothing;
-        }
-    }
-    in_range(a * b)
-}
-
-// How far from 0.
-fn unsigned_abs(a: i64) -> u64
-    ensures { result ≡ nat_abs a }
-{
-    if a < 0 { (-1 - a) as u64 + 1 } else { a as u64 }
+    in_range(a.checked_mul(b)?)
 }
 
 // Floor quotient and remainder, none for a zero divisor.
-fn int_divmod(a: i64, b: i64) -> Divmod
+fn int_divmod(a: i64, b: i64) -> Option<(i64, i64)>
     requires { SmallInt a × SmallInt b }
     ensures { result ≡ divmod a b }
 {
     if b == 0 {
-        return Divmod::ByZero;
+        return None;
     }
     let q = a / b;
     let r = a % b;
     if (r != 0) & ((r < 0) != (b < 0)) {
-        Divmod::Into(q - 1, r + b)
+        Some((q - 1, r + b))
     } else {
-        Divmod::Into(q, r)
+        Some((q, r))
     }
 }
 
 // The quotient of two ints rounded down, if it is in range; none by zero.
-fn checked_div(a: i64, b: i64) -> Maybe
+fn checked_div(a: i64, b: i64) -> Option<Val>
     requires { SmallInt a × SmallInt b }
     ensures { result ≡ ints Op.FloorDiv a b }
 {
-    let Divmod::Into(q, _) = int_divmod(a, b) else {
-        return Maybe::Nothing;
-    };
+    let (q, _) = int_divmod(a, b)?;
     in_range(q)
 }
 
 // What the quotient of two ints rounded down leaves, if it is in range; none by zero.
-fn checked_mod(a: i64, b: i64) -> Maybe
+fn checked_mod(a: i64, b: i64) -> Option<Val>
     requires { SmallInt a × SmallInt b }
     ensures { result ≡ ints Op.Mod a b }
 {
-    let Divmod::Into(_, r) = int_divmod(a, b) else {
-        return Maybe::Nothing;
-    };
+    let (_, r) = int_divmod(a, b)?;
     in_range(r)
 }
 
 // A shift up is a product with a power of two.
-fn checked_shl(a: i64, n: i64) -> Maybe
+#[tactic(auto, using(crate::proofs::Word::word), unfolding(crate::specs::Folds::ints, crate::specs::Python::shift_up))]
+fn checked_shl(a: i64, n: i64) -> Option<Val>
     ensures { result ≡ shifted n (shift_up a) }
 {
-    if n < 0 {
-        return Maybe::Nothing;
+    if n < 0 || MAX_SHIFT < n {
+        return None;
     }
-    if n > MAX_SHIFT {
-        return Maybe::Nothing;
-    }
-    checked_mul(a, 1i64 << (n as u64))
+    checked_mul(a, 1 << n)
 }
 
 // A shift down by 0 to 62 places, rounded down; none by any other number of places.
-fn checked_shr(a: i64, n: i64) -> Maybe
+fn checked_shr(a: i64, n: i64) -> Option<Val>
     ensures { result ≡ shifted n (shift_down a) }
 {
-    if n < 0 {
-        return Maybe::Nothing;
+    if n < 0 || MAX_SHIFT < n {
+        return None;
     }
-    if n > MAX_SHIFT {
-        return Maybe::Nothing;
-    }
-    in_range(a >> (n as u64))
+    in_range(a >> n)
 }

@@ -2,7 +2,7 @@
 use mathlib.Core.Path.{◌≡◌}
 use mathlib.Core.Bool.{Bool}
 use mathlib.Core.List.{List}
-use Prim.Native.Nat.{ℕ, ◌-◌, ◌≤◌}
+use Prim.Native.Nat.{ℕ}
 use Rattle.laws.specs.All.{many}
 use Rattle.chunk.specs.Chunk.{op_at, is_phi, folds}
 use Rattle.chunk.proofs.tallied.Given as goal
@@ -12,8 +12,4 @@ abbrev pub folding_at : List ℕ → ℕ → Bool
 folding_at w k = folds (op_at w k)
 
 abbrev pub invariant-loop-k : goal.invariant-loop-k
-invariant-loop-k l =
-    (l.k ≤ l.n) × (l.folding ≤ l.k) × (l.phis ≤ l.k) × (l.folding ≡ many (folding_at l.code) l.k) × (l.phis ≡ many (is_phi l.code) l.k)
-
-abbrev pub decreases-loop-k : goal.decreases-loop-k
-decreases-loop-k l = l.n - l.k
+invariant-loop-k l = (l.folding ≡ many (folding_at l.code) l.k) × (l.phis ≡ many (is_phi l.code) l.k)

@@ -1,10 +1,6 @@
 -- `compact::retain` meets its contract. Assumes nothing.
-use Prim.Native.Nat.{◌≤◌, ◌-◌}
 use Rattle.compact.proofs.Moves.{Kept}
 use Rattle.compact.proofs.retain.Given as goal
 
 abbrev pub invariant-loop-i : goal.invariant-loop-i
-invariant-loop-i l = Kept l.dead l.code l.initial.code l.to l.i × (l.to ≤ l.i) × (l.i ≤ l.n)
-
-abbrev pub decreases-loop-i : goal.decreases-loop-i
-decreases-loop-i l = l.n - l.i
+invariant-loop-i l = Kept l.dead l.code l.initial.code l.to l.i

@@ -1,4 +1,4 @@
--- `optimizer::renew` meets its contract. Assumes nothing.
+-- `finish::renew` meets its contract. Assumes nothing.
 use Rattle.finish.proofs.Anew.{renews}
 use Rattle.finish.proofs.renew.Goals as goal
 

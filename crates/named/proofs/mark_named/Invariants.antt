@@ -1,10 +1,6 @@
 -- `named::mark_named` meets its contract. Assumes nothing.
-use Prim.Native.Nat.{◌≤◌, ◌-◌}
 use Rattle.named.proofs.Marking.{Marking}
 use Rattle.named.proofs.mark_named.Given as goal
 
 abbrev pub invariant-loop-k : goal.invariant-loop-k
-invariant-loop-k l = Marking l.code l.m l.initial.scratch l.scratch l.k × (l.k ≤ l.n)
-
-abbrev pub decreases-loop-k : goal.decreases-loop-k
-decreases-loop-k l = l.n - l.k
+invariant-loop-k l = Marking l.code l.m l.initial.scratch l.scratch l.k

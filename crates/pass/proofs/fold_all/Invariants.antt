@@ -1,14 +1,8 @@
 -- `pass::fold_all` meets its contract: after ip attempts the chunk is the definition's. Assumes nothing.
-use mathlib.Core.Path.{◌≡◌}
-use Prim.Native.Nat.{◌≤◌, ◌-◌}
-use Rattle.chunk.specs.Chunk.{chunk_count}
 use Rattle.fold.specs.Plan.{chunk}
 use Rattle.fold.proofs.Grown.{Asked}
 use Rattle.pass.proofs.fold_all.Given as goal
 
 abbrev pub invariant-loop-ip : goal.invariant-loop-ip
 invariant-loop-ip l =
-    (l.n ≡ chunk_count l.initial.code) × (l.ip ≤ l.n) × Asked l.strict l.landings (chunk l.initial.code l.initial.dead l.initial.kinds l.initial.words l.constants) (chunk l.code l.dead l.kinds l.words l.held) l.last l.ip
-
-abbrev pub decreases-loop-ip : goal.decreases-loop-ip
-decreases-loop-ip l = l.n - l.ip
+    Asked l.strict l.landings (chunk l.initial.code l.initial.dead l.initial.kinds l.initial.words l.constants) (chunk l.code l.dead l.kinds l.words l.held) l.last l.ip

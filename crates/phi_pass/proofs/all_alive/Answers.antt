@@ -1,25 +1,24 @@
 -- `phi_pass::all_alive` meets its contract. Assumes nothing.
-use borrow.Author.Rules.{rules}
-use Rattle.laws.proofs.Every.{all}
+use Rattle.std.proofs.Common.{rules, ◌≡◌, ◌<◌, ◌↔◌, ℕ, zero, suc, Bool, true, false, length, arith, refl, sym}
+use Rattle.std.proofs.iter.runs.Made.{chains}
+use Rattle.laws.specs.All.{every}
+use Rattle.laws.proofs.Counting.{every_at}
+use Rattle.positions.specs.Remap.{alive}
 use Rattle.phi_pass.proofs.all_alive.Goals as goal
 
-pub loop-i-init : goal.loop-i-init
-loop-i-init c = search (rules, all)
+module _ (f : ℕ → Bool) where
+  every_true : (n : ℕ) → ((k : ℕ) → k < n → f k ≡ true) → every f n ≡ true
+  unfolding every
+  every_true zero h = refl
+  every_true (suc n) h = rw (every_true n (λ k l. h k (omega arith)), h n (omega arith))
 
-pub bounds-dead-i : goal.bounds-dead-i
-bounds-dead-i c = search (rules, all)
-
-pub returns-then-not-live : goal.returns-then-not-live
-returns-then-not-live c = search (rules, all)
-
-pub overflow_add-i : goal.overflow_add-i
-overflow_add-i c = search (rules, all)
-
-pub loop-i-smaller : goal.loop-i-smaller
-loop-i-smaller c = search (rules, all)
-
-pub loop-i-preserved : goal.loop-i-preserved
-loop-i-preserved c = search (rules, all)
+  every_when : (n : ℕ) (r : Bool) → (r ≡ true) ↔ ((k : ℕ) → k < n → f k ≡ true) → r ≡ every f n
+  every_when n r h = same r (every f n) (λ e. every_true n (h.0 e)) (λ e. h.1 (λ k l. every_at f n k e l))
+    where
+      same : (a b : Bool) → (a ≡ true → b ≡ true) → (b ≡ true → a ≡ true) → a ≡ b
+      same true b p q = sym (p refl)
+      same false true p q = q refl
+      same false false p q = refl
 
 pub returns : goal.returns
-returns c = search (rules, all)
+returns c = every_when (alive c.args.dead.now) (length c.args.dead.now) c.all.result (search (rules, chains))

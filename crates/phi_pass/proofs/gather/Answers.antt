@@ -1,58 +1,25 @@
 -- `phi_pass::gather` meets its contract. Assumes nothing.
 use borrow.Author.Rules.{rules}
-use Rattle.phi_pass.proofs.Pairs.{none_left, in_map, in_sources, gathered_none, gathered_dead, gathered_skip, gathered_put, gathered_few}
-use Rattle.phi_pass.proofs.Pairs.{gathered_whole, gathered_all}
+use mathlib.Core.Path.{◌≡◌, ◌∙◌}
+use Prim.Native.Nat.{◌<◌, ◌+◌, ◌*◌}
+use native.Mathlib.Omega.{arith}
+use lib.ListN.{get_or}
+use Rattle.phi_pass.specs.Phi.{right_source}
+use Rattle.phi_pass.proofs.Pairs.{gathered_put, gathered_few, gathered_skip, gathered_dead}
 use Rattle.phi_pass.proofs.gather.Goals as goal
+use Rattle.phi_pass.proofs.gather.Goals.{then-dead-k-eq0+in-Some, then-dead-k-eq0+in_default, else-dead-k-eq0}
 
-ruleset own = (gathered_none, gathered_dead, gathered_skip, gathered_put, gathered_few, gathered_whole, gathered_all)
-
-pub pack-v-requires : goal.pack-v-requires
-pack-v-requires c = let h = c.has_pair.ensures in let t = c.if-has_pair.true in (in_map _ _ _ _ _ h t, in_sources _ _ _ _ _ h t)
-
-pub loop-i-preserved-then-has_pair : goal.loop-i-preserved-then-has_pair
-loop-i-preserved-then-has_pair c = (search gathered_put, search rules, search rules, search rules)
-
-pub returns-then-map-eq0 : goal.returns-then-map-eq0
-returns-then-map-eq0 c = search (rules, none_left)
-
-pub loop-i-init : goal.loop-i-init
-loop-i-init c = search (rules, own)
-
-pub overflow_add-i : goal.overflow_add-i
-overflow_add-i c = search (rules, own)
-
-pub bounds-dead-k : goal.bounds-dead-k
-bounds-dead-k c = search (rules, own)
-
-pub loop-i-smaller-then-dead-k-ne0 : goal.loop-i-smaller-then-dead-k-ne0
-loop-i-smaller-then-dead-k-ne0 c = search (rules, own)
-
-pub loop-i-preserved-then-dead-k-ne0 : goal.loop-i-preserved-then-dead-k-ne0
-loop-i-preserved-then-dead-k-ne0 c = search (rules, own)
-
-pub has_pair-requires : goal.has_pair-requires
-has_pair-requires c = search (rules, own)
-
-pub offset_bounds-queue-to : goal.offset_bounds-queue-to
-offset_bounds-queue-to c = search (rules, own)
-
-pub bounds-queue-to : goal.bounds-queue-to
-bounds-queue-to c = search (rules, own)
-
-pub overflow_add-to : goal.overflow_add-to
-overflow_add-to c = search (rules, own)
-
-pub loop-i-smaller-then-has_pair : goal.loop-i-smaller-then-has_pair
-loop-i-smaller-then-has_pair c = search (rules, own)
-
-pub loop-i-smaller : goal.loop-i-smaller
-loop-i-smaller c = search (rules, own)
-
-pub loop-i-preserved : goal.loop-i-preserved
-loop-i-preserved c = search (rules, own)
-
-pub shape_of-queue : goal.shape_of-queue
-shape_of-queue c = search (rules, own)
-
-pub returns : goal.returns
-returns c = search (rules, own)
+pub loop-k-preserved : goal.loop-k-preserved
+loop-k-preserved c =
+    let g = c.loop-k.invariant.0 in
+    let n = c.loop-k.invariant.1 in
+    elim c.if-dead-k-eq0.branch [
+      | then-dead-k-eq0+in-Some w ↦
+          let p = w.in-Some.ensures in
+          let b : w.from-in-Some.result ≡ right_source c.args.map.now c.args.sources.now c.loop-k.k = w.from-in-Some.ensures ∙ p.2 in
+          let l : w.from-in-Some.result < 65536 = omega (arith, c.type_inv.sources (2 * get_or c.args.map.now c.loop-k.k 0 + 1)) in
+          let q = gathered_put g _ _ _ w.if-dead-k-eq0.true p.0 (w.from.ensures ∙ p.1) b l n c.requires.1 (gathered_few g) c.loop-k-test.true in
+          rw (w.queue-is, w.to-is) (q, search rules)
+      | then-dead-k-eq0+in_default w ↦ rw (w.queue-is, w.to-is) (gathered_skip g w.if-dead-k-eq0.true w.in_default.ensures, n)
+      | else-dead-k-eq0 w ↦ rw (w.queue-is, w.to-is) (gathered_dead g w.if-dead-k-eq0.false, n)
+    ]

@@ -1,10 +1,6 @@
 -- `positions::fill_remap` meets its contract. Assumes nothing.
-use Prim.Native.Nat.{◌≤◌, ◌-◌}
 use Rattle.positions.proofs.Moves.{Counted}
 use Rattle.positions.proofs.fill_remap.Given as goal
 
 abbrev pub invariant-loop-i : goal.invariant-loop-i
-invariant-loop-i l = Counted l.dead l.remap l.initial.remap l.at l.i × (l.at ≤ l.i) × (l.i ≤ l.n)
-
-abbrev pub decreases-loop-i : goal.decreases-loop-i
-decreases-loop-i l = l.n - l.i
+invariant-loop-i l = Counted l.dead l.remap l.initial.remap l.at l.i

@@ -1,28 +1,8 @@
 -- `values::int_divmod` meets its contract: the quotient toward 0, turned where what is left has the wrong sign, satisfies the law of floor division. Assumes
 -- nothing.
 use Rattle.values.proofs.Division.{kept, turned}
-use Rattle.values.proofs.Word.{back, positive, zero_bits, bits_up, zero_divisor, same_divmod, quot_fits, rem_fits, quot_less_fits, rem_more_fits}
+use Rattle.values.proofs.Word.{back, zero_bits, bits_up, same_divmod, quot_fits, rem_fits, quot_less_fits, rem_more_fits}
 use Rattle.values.proofs.int_divmod.Goals as goal
-
-pub returns-then-b-eq0 : goal.returns-then-b-eq0
-returns-then-b-eq0 c = zero_divisor c.args.a c.ranges.b c.if-b-eq0.true
-
-pub nonzero_div-q : goal.nonzero_div-q
-nonzero_div-q c =
-    (positive _ c.if-b-eq0.false, rw (back c.ranges.a, back c.ranges.b) (quot_fits c.args.a c.args.b c.requires.0 c.requires.1))
-
-pub nonzero_rem-r : goal.nonzero_rem-r
-nonzero_rem-r c = nonzero_div-q c
-
-pub overflow_sub-result : goal.overflow_sub-result
-overflow_sub-result c =
-    rw (back c.ranges.a, back c.ranges.b, back (quot_fits c.args.a c.args.b c.requires.0 c.requires.1)) (quot_less_fits c.args.a c.args.b
-    c.requires.0 c.requires.1)
-
-pub overflow_add-result : goal.overflow_add-result
-overflow_add-result c =
-    rw (back c.ranges.a, back c.ranges.b, back (rem_fits c.args.a c.args.b c.requires.0 c.requires.1)) (rem_more_fits c.args.a c.args.b
-    c.requires.0 c.requires.1)
 
 pub returns-then-r-b : goal.returns-then-r-b
 returns-then-r-b c =

@@ -2,37 +2,22 @@
 #![tactic(auto)]
 
 ghost use Rattle.std.specs.Prelude.{◌≡◌, ◌≤◌, length};
-ghost use Rattle.laws.specs.Page.{among};
 ghost use Rattle.exposes.specs.Answers.{ExposedLeft};
 ghost use Rattle.exposes.specs.Inner.{Exposes};
 
-use refusals::{Checked, Refusal};
+use refusals::Refusal;
 
 // The registers of a list that another has not, in order, from the front of `out` on: how many; or refusal 5, where `out` is shorter than the list.
-pub fn exposed(plain: &[u16], list: &[u16], out: &mut [u16]) -> Checked
+pub fn exposed(plain: &[u16], list: &[u16], out: &mut [u16]) -> Result<usize, Refusal>
     ensures { ExposedLeft plain.now list.now out.old out.new result }
 {
     if out.len() < list.len() {
-        return Checked::No(Refusal::Short {
+        return Err(Refusal::Short {
             buffer: 1,
             needed: list.len(),
         });
     }
-    Checked::Count(expose(plain, list, out))
-}
-
-// Whether a list has r.
-fn has_reg(l: &[u16], r: u16) -> bool
-    ensures { result ≡ among r l.now }
-{
-    let mut i = 0;
-    while i < l.len() {
-        if l[i] == r {
-            return true;
-        }
-        i += 1;
-    }
-    false
+    Ok(expose(plain, list, out))
 }
 
 // The same, where `out` is long enough.
@@ -41,16 +26,12 @@ fn expose(plain: &[u16], list: &[u16], out: &mut [u16]) -> usize
     ensures { Exposes plain.now list.now out.old out.new result }
 {
     let mut m = 0;
-    let mut i = 0;
-    while i < list.len() {
+    for i in 0..list.len() {
         let r = list[i];
-        if has_reg(plain, r) {
-            i += 1;
-            continue;
+        if !plain.contains(&r) {
+            out[m] = r;
+            m += 1;
         }
-        out[m] = r;
-        m += 1;
-        i += 1;
     }
     m
 }

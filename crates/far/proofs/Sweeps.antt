@@ -1,15 +1,13 @@
 -- A row of several words is found, and the sweeps of the wide route, step by step. Assumes nothing.
 use mathlib.Core.Path.{◌≡◌, refl, sym, ap, ap₂, ◌∙◌}
-use mathlib.Core.Bool.{Bool, true, false, not, cond, ◌&&◌, ◌||◌}
+use mathlib.Core.Bool.{Bool, true, false, not, cond, ◌||◌}
 use mathlib.Core.List.{List, [], ◌++◌}
 use Prim.Native.Nat.{ℕ, suc, ◌+◌, ◌-◌, ◌*◌, ◌/◌, ◌%◌, ◌≤◌, ◌<◌, zero-le}
 use native.Mathlib.Nat.{zero-lt-suc}
 use native.Mathlib.Omega.{arith}
-use borrow.Author.Tests.{ne_eqb, not-true}
+use borrow.Author.Tests.{not-true}
 use lib.Bits.{bit_or, or_zero_r}
-use lib.Dec.{eqb}
 use lib.ListN.{length, replicate}
-use Rattle.ops.specs.Op.{ReturnR, Jump, UnpackR, WithEnter, WithExit}
 use Rattle.code.specs.Ins.{ins_at, count}
 use Rattle.code.specs.Inner.{Valid}
 use Rattle.code.specs.declared.Ins.{Ins}
@@ -33,7 +31,7 @@ use Rattle.steps.proofs.Follows.{below_step}
 use Rattle.sets.proofs.Sets.{or_assoc, joined_append, set_lt}
 use Rattle.nested.specs.Raising.{stranded, leaving, raises_at, raising, mays}
 use Rattle.far.specs.Inner.{raising_step, Quiet}
-use Rattle.sweeps.proofs.Sweeps.{onto_is, Between, Turn, go_on}
+use Rattle.sweeps.proofs.Sweeps.{onto_is, unmarked, Between, Turn, go_on}
 
 -- ---- a row is found
 
@@ -66,10 +64,7 @@ module _ (words n k : ℕ) (tries rows a : List ℕ) (may past : Bool) where
 
 module _ (all : Bool) (i : Ins) (tries : List ℕ) (plain : i.marks / 2 % 2 ≡ 1 → ⊥) where
   not_past : stranded i ≡ false
-  not_past = ap (λ (t : Bool). t && rest) (ne_eqb (i.marks / 2 % 2) 1 plain)
-    where
-      rest : Bool
-      rest = let o = i.op in eqb o ReturnR || eqb o Jump || eqb o UnpackR || eqb o WithEnter || eqb o WithExit
+  not_past = unmarked i plain
 
   pub quiet_none : length tries < 2 → Quiet all i tries
   quiet_none l n k =
@@ -155,9 +150,12 @@ pub step : {all : Bool} {w : List ℕ} {regs : ℕ} {tries : List ℕ} {full : �
     → Turn all w regs tries 0 0 full 0 0 rows₀ rows changed back k
     → {s : Step} → StepAt w (k - 1) s → 0 < k → {i : Ins} → i ≡ ins_at w (k - 1)
     → {out : List ℕ} {changed' back' : Bool}
-    → Put (raising_step (all || is_level i) (stranded i) (count w) regs tries s) rows (k - 1) out changed' → back' ≡ goes_before s k
+    → Put (raising_step (all || is_level i) (stranded i) (count w) regs tries s) rows (k - 1) out changed' → back' ≡ goes_before s (k - 1 + 1)
     → Turn all w regs tries 0 0 full 0 0 rows₀ out (changed' || changed) (back' || back) (k - 1)
 step {all} {w} {regs} {tries} {k = k} p {s} h l {i} place {out} {changed'} put b =
     go_on p l (below_zero (raises_at (mays all w) w tries (k - 1) ++ after_at w (k - 1)))
     (put_same all w tries regs (k - 1) s (all || is_level i) (stranded i) _ out changed' (ap (λ (j : Ins). all || is_level j) place) (ap stranded place) h put)
-    (b ∙ below_step w (k - 1) s k h (omega arith))
+    (b ∙ ap (goes_before s) one ∙ below_step w (k - 1) s k h (omega arith))
+  where
+    one : k - 1 + 1 ≡ k
+    one = omega arith

@@ -14,6 +14,7 @@ ghost use Rattle.nested.specs.Raising.{stranded, leaving, raising, mays};
 ghost use Rattle.far.specs.Inner.{raising_step, Quiet};
 
 use code::Ins;
+use sets::Word;
 use steps::Step;
 
 // The rows after a step at k, together.
@@ -31,9 +32,9 @@ fn row_wide(s: Step, regs: usize, rows: &[u64], n: usize, words: usize, k: usize
     ensures { Holds 64 result (row_at (step_flow regs s) (row (rows_of 64 words (suc n) rows.now)) k) }
 {
     let after = after_wide(s, rows, n, words, k);
-    let rest = sets::without_named(after, regs, s.given, s.a, s.b, s.c);
-    let left = sets::without_run(rest, regs, s.b as usize, s.run);
-    sets::with_named(left, regs, s.used, s.a, s.b, s.c)
+    let rest = sets::without_named::<u64>(after, regs, s.given, s.a, s.b, s.c);
+    let left = sets::without_run::<u64>(rest, regs, s.b as usize, s.run);
+    sets::with_named::<u64>(left, regs, s.used, s.a, s.b, s.c)
 }
 
 // A row as it is by itself, and where it is stranded with the next row, and where it may raise with those of the handlers around it.
@@ -114,17 +115,15 @@ pub fn live_raising(
 {
     let n = code.len() / 6;
     let mut full: u32 = 0;
-    rows::clear(rows);
+    u64::clear(rows);
     loop {
         let mut changed = false;
         let mut back = false;
-        let mut k = n;
-        while 0 < k {
-            let i = code::ins_in(code, k - 1);
-            let s = steps::step_of(code, n, k - 1);
-            changed = put_raising(s, i, all, regs, tries, rows, n, words, k - 1) | changed;
-            back = steps::goes_before(s, k) | back;
-            k -= 1;
+        for k in (0..n).rev() {
+            let i = code::ins_in(code, k);
+            let s = steps::step_of(code, n, k);
+            changed = put_raising(s, i, all, regs, tries, rows, n, words, k) | changed;
+            back = steps::goes_before(s, k + 1) | back;
         }
         full += 1;
         if !(changed & back) {

@@ -8,8 +8,8 @@ use lib.ListN.{length, take, drop, length-drop, take-append-drop}
 use lib.Seq.{ext_get_or, drop-drop, get_or-drop, length-take-le}
 use Rattle.code.specs.Ins.{count}
 use Rattle.refusals.specs.declared.Refusal.{Refusal}
-use Rattle.refusals.specs.declared.Checked.{Checked}
-use Rattle.refusals.specs.declared.Checked.TheVariants as stage
+use Rattle.refusals.specs.Stages.{Checked}
+use Rattle.std.specs.declared.result.Result.TheVariants.{Ok, Err}
 use Rattle.refusals.specs.declared.Refusal.TheVariants.{Short}
 use Rattle.flow.specs.Flow.{Flow}
 use Rattle.flow.specs.Words.{value, rows_of, Small}
@@ -60,7 +60,7 @@ buffer_one bits some words (suc m) a b e sa sb l q d =
         sum : suc m * words ≡ m * words + words → words + m * words ≡ suc m * words
         sum g = omega arith
 
-never : {A : Type 0} (v : Checked) (n : ℕ) (r : Refusal) → v ≡ stage.Count n → v ≡ stage.No r → A
+never : {A : Type 0} (v : Checked) (n : ℕ) (r : Refusal) → v ≡ Ok n → v ≡ Err r → A
 never v n r p q = let z : ◌≡◌ {A = ℕ} 0 1 = cc in absurd (omega arith)
 
 module _ (f : Flow) (start bits : ℕ) (some : 0 < bits) (w : List ℕ) (regs : ℕ) (tries rows offsets list : List ℕ) where
@@ -71,7 +71,7 @@ module _ (f : Flow) (start bits : ℕ) (some : 0 < bits) (w : List ℕ) (regs : 
       let (r, x, y) = found_one f start p.found q.found in
       (buffer_one bits some (words_for bits regs) (suc (count w)) a b (p.long ∙ sym q.long) sa sb (omega (arith, p.long)) r (p.past ∙ sym q.past), x, y)
 
-  refusal_one : (v : Checked) (r s : Refusal) → v ≡ stage.No r → v ≡ stage.No s → No r ≡ No s
+  refusal_one : (v : Checked) (r s : Refusal) → v ≡ Err r → v ≡ Err s → No r ≡ No s
   refusal_one v r s p q = cc
 
   -- the scratch being words of so many bits, any two outcomes by the same equations are the same

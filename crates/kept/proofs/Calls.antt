@@ -11,10 +11,11 @@ use mir.Val.{Fits}
 use lib.ListN.{length, take, drop, length-append, length-drop}
 use lib.Seq.{take-append-le, drop-append-le, length-take-le, drop_at}
 use Rattle.code.specs.Ins.{count}
-use Rattle.refusals.specs.declared.Checked.{Checked}
-use Rattle.refusals.specs.declared.Checked.TheVariants as stage
+use Rattle.refusals.specs.Stages.{Checked}
+use Rattle.std.specs.declared.result.Result.TheVariants.{Ok, Err}
 use Rattle.refusals.specs.declared.Refusal.{Refusal}
 use Rattle.refusals.specs.declared.Refusal.TheVariants.{Short}
+use Rattle.sets.specs.Word.{Numbered}
 use Rattle.flow.specs.Flow.{Flow}
 use Rattle.flow.specs.Sweep.{row, Found}
 use Rattle.flow.specs.Words.{value, rows_of, Small}
@@ -30,6 +31,21 @@ use Rattle.kept.specs.declared.KeptAnswer.TheVariants.{Is, No}
 use Rattle.lists.proofs.Less.{scaled}
 use Rattle.kept.proofs.Tests.{accepted_scratch, accepted_few, accepted_valid, accepted_count}
 
+-- the numbers of a buffer whose first words are others
+module _ {W : Type 0} {num : W → ℕ} {nums : List W → List ℕ} (n : Numbered num nums) (k : ℕ) (rows : List W) where
+  pub take_nums : length (take k rows) ≡ length (take k (nums rows))
+  take_nums = sym (n.long (take k rows)) ∙ ap length (n.first k rows)
+
+  module _ (part : List W) where
+    pub part_nums : length part ≡ length (take k rows) → length (nums part) ≡ length (take k (nums rows))
+    part_nums e = n.long part ∙ e ∙ take_nums
+
+    pub whole_nums : nums (part ++ drop k rows) ≡ nums part ++ drop k (nums rows)
+    whole_nums = n.both part (drop k rows) ∙ ap (λ (l : List ℕ). nums part ++ l) (n.later k rows)
+
+    pub new_nums : length (nums part ++ drop k (nums rows)) ≡ length (nums rows) → length (part ++ drop k rows) ≡ length rows
+    new_nums e = sym (n.long (part ++ drop k rows)) ∙ ap length whole_nums ∙ e ∙ n.long rows
+
 -- rows lie in the first words of a buffer
 rows_front : (bits words m : ℕ) (part rest : List ℕ) → m * words ≤ length part → rows_of bits words m (part ++ rest) ≡ rows_of bits words m part
 unfolding rows_of
@@ -41,7 +57,7 @@ rows_front bits words (suc m) part rest l =
     (omega (arith, suc-mul m words, length-drop words part)))
 
 module _ (bits hand : ℕ) (width : Width bits hand) (regs : ℕ) (w tries rows offsets : List ℕ) (n : ℕ) (h : stages_of bits w regs tries (length rows)
-    (length offsets) ≡ stage.Count n) (m : ℕ) (e : m ≡ words_for bits regs) where
+    (length offsets) ≡ Ok n) (m : ℕ) (e : m ≡ words_for bits regs) where
   narrow : m ≤ hand
   narrow = words_few bits regs m e hand width.some width.more (omega (
     arith,
@@ -155,13 +171,13 @@ module _ (bits hand : ℕ) (width : Width bits hand) (regs : ℕ) (w tries rows 
 -- the tests decide
 module _ (bits : ℕ) (w : List ℕ) (regs : ℕ) (tries rows offsets : List ℕ) (v : Checked)
     (e : v ≡ stages_of bits w regs tries (length rows) (length offsets)) where
-  pub go_on : (n : ℕ) → v ≡ stage.Count n → stages_of bits w regs tries (length rows) (length offsets) ≡ stage.Count (count w)
+  pub go_on : (n : ℕ) → v ≡ Ok n → stages_of bits w regs tries (length rows) (length offsets) ≡ Ok (count w)
   go_on n h = accepted_count bits w regs tries (length rows) (length offsets) n (sym e ∙ h)
 
-  pub no_by : (r : Refusal) → v ≡ stage.No r → (f : Flow) (start : ℕ) (list : List ℕ) → ListsLeft f start bits w regs tries rows offsets list rows offsets
+  pub no_by : (r : Refusal) → v ≡ Err r → (f : Flow) (start : ℕ) (list : List ℕ) → ListsLeft f start bits w regs tries rows offsets list rows offsets
       list
       (No r)
   no_by r h f start list = refused (sym e ∙ h)
 
-  pub go_no : (r : Refusal) → v ≡ stage.No r → (wide : Bool) (list : List ℕ) → Outcome bits w regs tries wide rows offsets list rows offsets list (No r)
+  pub go_no : (r : Refusal) → v ≡ Err r → (wide : Bool) (list : List ℕ) → Outcome bits w regs tries wide rows offsets list rows offsets list (No r)
   go_no r h wide list = no_by r h (flow regs w) (route_start bits wide regs w) list

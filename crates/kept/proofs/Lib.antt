@@ -8,3 +8,4 @@ pub mod Demand
 pub mod Alone
 pub mod Widths
 pub mod Counts
+pub mod Examples

@@ -13,8 +13,8 @@ use Rattle.code.specs.Check.{check_of}
 use Rattle.refusals.specs.Stages.{registers_of, tried_of, room_of}
 use Rattle.code.specs.Inner.{Valid}
 use Rattle.refusals.specs.declared.Refusal.{Refusal}
-use Rattle.refusals.specs.declared.Checked.{Checked}
-use Rattle.refusals.specs.declared.Checked.TheVariants.{Count, No}
+use Rattle.refusals.specs.Stages.{Checked}
+use Rattle.std.specs.declared.result.Result.TheVariants.{Ok, Err}
 use Rattle.code.proofs.Checks.{counted, checked}
 use Rattle.refusals.proofs.Stages.{regs_before, regs_few, tries_before, room_before, room_there}
 use Rattle.rows.specs.Route.{words_for}
@@ -23,11 +23,11 @@ use Rattle.kept.specs.Answers.{scratch_for, stages_of}
 use Rattle.lists.proofs.Less.{scaled}
 
 -- what is known once refusals 1 to 4 are past
-module _ (w : List ℕ) (regs : ℕ) (tries : List ℕ) (n : ℕ) (h : tried_of (registers_of (check_of w) regs) tries ≡ Count n) where
-  third : registers_of (check_of w) regs ≡ Count n
+module _ (w : List ℕ) (regs : ℕ) (tries : List ℕ) (n : ℕ) (h : tried_of (registers_of (check_of w) regs) tries ≡ Ok n) where
+  third : registers_of (check_of w) regs ≡ Ok n
   third = tries_before n (registers_of (check_of w) regs) tries (sym h)
 
-  first : check_of w ≡ Count n
+  first : check_of w ≡ Ok n
   first = regs_before n (check_of w) regs (sym third)
 
   pub past_few : regs ≤ 1024
@@ -45,11 +45,11 @@ module _ (w : List ℕ) (regs : ℕ) (tries : List ℕ) (v u t : Checked) (e : v
   chain : tried_of (registers_of (check_of w) regs) tries ≡ t
   chain = sym (g ∙ ap (λ (x : Checked). tried_of x tries) (f ∙ ap (λ (x : Checked). registers_of x regs) e))
 
-  pub stage_no : (bits : ℕ) (r : Refusal) → t ≡ No r → (a b : ℕ) → No r ≡ stages_of bits w regs tries a b
+  pub stage_no : (bits : ℕ) (r : Refusal) → t ≡ Err r → (a b : ℕ) → Err r ≡ stages_of bits w regs tries a b
   unfolding stages_of
   stage_no bits r h a b = sym (ap (λ (x : Checked). room_of (room_of x 1 a (scratch_for bits regs w)) 2 b (suc (count w))) (chain ∙ h))
 
-  module _ (n : ℕ) (h : t ≡ Count n) where
+  module _ (n : ℕ) (h : t ≡ Ok n) where
     pub stage_few : regs ≤ 1024
     stage_few = past_few w regs tries n (chain ∙ h)
 
@@ -64,27 +64,27 @@ module _ (w : List ℕ) (regs : ℕ) (tries : List ℕ) (v u t : Checked) (e : v
       stage_mul wide = scaled (n + 1) m (omega (arith, past_count w regs tries n (chain ∙ h), (past_valid w regs tries n (chain ∙ h)).few))
           (words_few bits regs m q 1024 wide (zero-lt-suc 1023) (far wide stage_few))
 
-      pub stage_yes : (x y : Checked) (a b : ℕ) → x ≡ room_of (Count n) 1 a ((n + 1) * m) → y ≡ room_of x 2 b (n + 1) → y ≡ stages_of bits w regs tries a b
+      pub stage_yes : (x y : Checked) (a b : ℕ) → x ≡ room_of (Ok n) 1 a ((n + 1) * m) → y ≡ room_of x 2 b (n + 1) → y ≡ stages_of bits w regs tries a b
       unfolding stages_of
       stage_yes x y a b p z =
           z ∙ ap (λ (s : Checked). room_of s 2 b (n + 1)) p
-          ∙ ap (λ (s : ℕ). room_of (room_of (Count n) 1 a (s * m)) 2 b s) (add-one n ∙ ap suc (past_count w regs tries n (chain ∙ h)))
-          ∙ ap (λ (s : ℕ). room_of (room_of (Count n) 1 a (suc (count w) * s)) 2 b (suc (count w))) q
+          ∙ ap (λ (s : ℕ). room_of (room_of (Ok n) 1 a (s * m)) 2 b s) (add-one n ∙ ap suc (past_count w regs tries n (chain ∙ h)))
+          ∙ ap (λ (s : ℕ). room_of (room_of (Ok n) 1 a (suc (count w) * s)) 2 b (suc (count w))) q
           ∙ ap (λ (s : Checked). room_of (room_of s 1 a (scratch_for bits regs w)) 2 b (suc (count w))) (sym (chain ∙ h))
 
 pub ruleset tests = (stage_no, stage_few, stage_add, stage_mul, stage_yes)
 
 -- ---- what an accepted input keeps
 
-module _ (bits : ℕ) (w : List ℕ) (regs : ℕ) (tries : List ℕ) (a b n : ℕ) (h : stages_of bits w regs tries a b ≡ Count n) where
-  whole : Count n ≡ room_of (room_of (tried_of (registers_of (check_of w) regs) tries) 1 a (scratch_for bits regs w)) 2 b (suc (count w))
+module _ (bits : ℕ) (w : List ℕ) (regs : ℕ) (tries : List ℕ) (a b n : ℕ) (h : stages_of bits w regs tries a b ≡ Ok n) where
+  whole : Ok n ≡ room_of (room_of (tried_of (registers_of (check_of w) regs) tries) 1 a (scratch_for bits regs w)) 2 b (suc (count w))
   unfolding stages_of
   whole = sym h
 
-  one : room_of (tried_of (registers_of (check_of w) regs) tries) 1 a (scratch_for bits regs w) ≡ Count n
+  one : room_of (tried_of (registers_of (check_of w) regs) tries) 1 a (scratch_for bits regs w) ≡ Ok n
   one = room_before n (room_of (tried_of (registers_of (check_of w) regs) tries) 1 a (scratch_for bits regs w)) 2 b (suc (count w)) whole
 
-  past : tried_of (registers_of (check_of w) regs) tries ≡ Count n
+  past : tried_of (registers_of (check_of w) regs) tries ≡ Ok n
   past = room_before n (tried_of (registers_of (check_of w) regs) tries) 1 a (scratch_for bits regs w) (sym one)
 
   pub accepted_offsets : count w < b
@@ -99,5 +99,5 @@ module _ (bits : ℕ) (w : List ℕ) (regs : ℕ) (tries : List ℕ) (a b n : �
   pub accepted_valid : Valid w
   accepted_valid = past_valid w regs tries n past
 
-  pub accepted_count : stages_of bits w regs tries a b ≡ Count (count w)
-  accepted_count = h ∙ ap Count (past_count w regs tries n past)
+  pub accepted_count : stages_of bits w regs tries a b ≡ Ok (count w)
+  accepted_count = h ∙ ap Ok (past_count w regs tries n past)

@@ -3,8 +3,8 @@ use Rattle.std.specs.Prelude.{ℕ, suc, ◌*◌, ◌≤◌, ◌<◌, ◌≡◌, 
 use Rattle.code.specs.Ins.{count}
 use Rattle.code.specs.Check.{check_of}
 use Rattle.refusals.specs.Stages.{registers_of, tried_of, room_of}
-use Rattle.refusals.specs.declared.Checked.{Checked}
-use Rattle.refusals.specs.declared.Checked.TheVariants as stage
+use Rattle.refusals.specs.Stages.{Checked}
+use Rattle.std.specs.declared.result.Result.TheVariants.{Ok, Err}
 use Rattle.refusals.specs.declared.Refusal.{Refusal}
 use Rattle.refusals.specs.declared.Refusal.TheVariants.{Short}
 use Rattle.flow.specs.Flow.{Flow}
@@ -43,13 +43,13 @@ module _ (f : Flow) (start bits : ℕ) (w : List ℕ) (regs : ℕ) (tries rows o
   -- what a call by these equations leaves in scratch, offsets and list, and what it answers
   pub data ListsLeft : List ℕ → List ℕ → List ℕ → KeptAnswer → Type 0 where
     -- a refusal leaves all buffers untouched
-    refused : {r : Refusal} → stages_of bits w regs tries (length rows) (length offsets) ≡ stage.No r → ListsLeft rows offsets list (No r)
+    refused : {r : Refusal} → stages_of bits w regs tries (length rows) (length offsets) ≡ Err r → ListsLeft rows offsets list (No r)
     -- but for one: 5 for the list, after the rows are found
-    short : {new : List ℕ} {full abandoned : ℕ} → stages_of bits w regs tries (length rows) (length offsets) ≡ stage.Count (count w)
+    short : {new : List ℕ} {full abandoned : ℕ} → stages_of bits w regs tries (length rows) (length offsets) ≡ Ok (count w)
         → RowsLeft f start bits regs w rows new full abandoned
         → length list < length (list_of bits w regs tries new) → ListsLeft new offsets list (No (Short 3 (length (list_of bits w regs tries new))))
     -- the list's length and the two sweep counts
-    told : {new : List ℕ} {full abandoned : ℕ} → stages_of bits w regs tries (length rows) (length offsets) ≡ stage.Count (count w)
+    told : {new : List ℕ} {full abandoned : ℕ} → stages_of bits w regs tries (length rows) (length offsets) ≡ Ok (count w)
         → RowsLeft f start bits regs w rows new full abandoned → length (list_of bits w regs tries new) ≤ length list
         → ListsLeft new (over (offsets_of bits w regs tries new) offsets) (over (list_of bits w regs tries new) list)
         (Is (length (list_of bits w regs tries new)) full abandoned)

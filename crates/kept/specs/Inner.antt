@@ -5,6 +5,7 @@ use Rattle.code.specs.Inner.{Valid}
 use Rattle.flow.specs.Sweep.{row}
 use Rattle.flow.specs.Words.{rows_of, Small}
 use Rattle.kept.specs.Lists.{lists_to, offsets_to, over}
+pub use Rattle.sets.specs.Word.{Width}
 use Rattle.steps.specs.Code.{flow}
 use Rattle.rows.specs.Route.{route_start}
 use Rattle.kept.specs.Answers.{RowsLeft}
@@ -12,13 +13,6 @@ use Rattle.kept.specs.Answers.{RowsLeft}
 -- the rows that a buffer holds, in so many words each, of so many bits
 abbrev pub rows_by : ℕ → ℕ → List ℕ → List ℕ → List ℕ
 rows_by bits words w buf = rows_of bits words (suc (count w)) buf
-
--- a width of words, and so many of them in hand: together they hold 1,024 registers
-pub record Width (bits hand : ℕ) : Type 0 where
-  pub some : 0 < bits
-  pub more : 0 < hand
-  pub few : hand ≤ 1024
-  pub span : hand * bits ≡ 1024
 
 -- what a pass over the levels relies on, with words of so many bits and so many of them in hand: valid code, its rows in so many words each, and no register at
 -- or above the count

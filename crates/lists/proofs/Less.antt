@@ -1,19 +1,18 @@
 -- Sets in words of any width: a row less a set. Assumes nothing.
-use mathlib.Core.Path.{◌≡◌, ◌∙◌, subst}
+use mathlib.Core.Path.{◌≡◌, sym, ap, ap₂, ◌∙◌, subst}
 use mathlib.Core.List.{List}
-use Prim.Native.Nat.{ℕ, ◌+◌, ◌-◌, ◌*◌, ◌^◌, ◌≤◌, ◌<◌, zero-le}
+use Prim.Native.Nat.{ℕ, ◌+◌, ◌*◌, ◌≤◌, ◌<◌, zero-le}
 use native.Mathlib.Nat.{mul-le-mul}
 use native.Mathlib.Decide.{dec_lt}
 use native.Mathlib.Omega.{arith}
 use borrow.Author.Rules.{Fits-under}
 use mir.Syntax.{w64}
 use mir.Val.{Fits}
-use lib.Bits.{bit_and}
 use lib.ListN.{length, get_or, take, drop, set, replicate, length-set, length-replicate}
 use Rattle.flow.specs.Set.{minus}
 use Rattle.flow.specs.Words.{value, Small}
 use Rattle.flow.specs.Inner.{Holds}
-use Rattle.flow.proofs.Bits.{and_not, bit_ext, bit_zero, minus_bit}
+use Rattle.flow.proofs.Bits.{bit_ext, bit_zero, minus_bit}
 use Rattle.flow.proofs.Rows.{zeros_at}
 use Rattle.flow.proofs.Words.{holds_minus}
 use Rattle.flow.proofs.Buffer.{window_in, window_past, small_window}
@@ -41,19 +40,22 @@ module _ (rows less : List ℕ) (at words : ℕ) where
   abbrev B : ℕ → ℕ
   B i = 0
 
-  pub lessing_start : (hand : ℕ) → Lessing hand rows less at words 0 (replicate hand 0)
-  lessing_start hand = record { le = zero-le; long = length-replicate {A = ℕ} hand 0; front = front_none A B (replicate hand 0) (λ i. zeros_at hand i) }
+  pub lessing_start : (hand : ℕ) (out : List ℕ) → out ≡ replicate hand 0 → Lessing hand rows less at words 0 out
+  lessing_start hand out e = record {
+    le = zero-le;
+    long = ap length e ∙ length-replicate {A = ℕ} hand 0;
+    front = front_none A B out (λ i. ap (λ (l : List ℕ). get_or l i 0) e ∙ zeros_at hand i);
+  }
+
+  pub lessing_more : (hand j : ℕ) (out new : List ℕ) (v x a : ℕ) → Lessing hand rows less at words j out → j < words → words ≤ hand → v ≡ minus x a
+      → x ≡ get_or rows (at + j) 0 → a ≡ get_or less j 0 → new ≡ set out j v → Lessing hand rows less at words (j + 1) new
+  lessing_more hand j out new v x a p l f e ex ea en = subst (λ (y : List ℕ). Lessing hand rows less at words (j + 1) y) (sym en) (record {
+    le = omega arith;
+    long = length-set out j v ∙ p.long;
+    front = front_more A B j v out p.front (omega (arith, p.long)) (e ∙ ap₂ minus ex ea);
+  })
 
   module _ (bits hand j : ℕ) (out : List ℕ) (p : Lessing hand rows less at words j out) (sl : Small bits less) (sr : Small bits rows) where
-    pub lessing_more : j < words → words ≤ hand → Lessing hand rows less at words (j + 1)
-        (set out j (bit_and (get_or rows (at + j) 0) ((2 ^ bits - 1) - get_or less j 0)))
-    lessing_more l f = record {
-      le = omega arith;
-      long = length-set out j (bit_and (get_or rows (at + j) 0) ((2 ^ bits - 1) - get_or less j 0)) ∙ p.long;
-      front = front_more A B j (bit_and (get_or rows (at + j) 0) ((2 ^ bits - 1) - get_or less j 0)) out p.front (omega (arith, p.long))
-          (and_not bits (get_or rows (at + j) 0) (get_or less j 0) (sr (at + j)) (sl j));
-    }
-
     pub lessing_done : 0 < bits → words ≤ j → Holds bits out (minus (value bits (take words (drop at rows))) (value bits less))
     lessing_done wide l = holds_minus bits wide (take words (drop at rows)) less out (value bits (take words (drop at rows))) (value bits less)
         (held bits (take words (drop at rows)) (small_window bits words at rows sr)) (held bits less sl) (λ i. go i (dec_lt i words))

@@ -53,6 +53,16 @@ module _ {bits base word : ℕ} {old : List ℕ} {m : ℕ} {out : List ℕ} {n r
     pub walked_less : bit_and rest (rest - 1) < rest
     walked_less = walk_less rest (some z)
 
+-- the same, where each word is told by its number
+pub walked_put : {bits base word : ℕ} {old : List ℕ} {m : ℕ} {out : List ℕ} {n rest : ℕ} (h : Walked bits base word old m out n rest)
+    → (rest ≡ 0 → ⊥) → {low later : ℕ} → low ≡ count_trailing_zeros bits rest → later ≡ bit_and rest (rest - 1) → Walked bits base word old m
+    (set out n (base + low)) (n + 1) later
+walked_put h z e f = rw (e, f) (walked_one h z)
+
+pub walked_falls : {bits base word : ℕ} {old : List ℕ} {m : ℕ} {out : List ℕ} {n rest : ℕ} (h : Walked bits base word old m out n rest)
+    → (rest ≡ 0 → ⊥) → {later : ℕ} → later ≡ bit_and rest (rest - 1) → later < rest
+walked_falls h z f = rw f (walked_less h z)
+
 -- ---- a set, word by word
 
 pub listed_le : (d p x : ℕ) → length (listed d p x) ≤ d

@@ -1,7 +1,7 @@
 // The registers of a set, counted and listed, and those that the handlers around a position add.
 #![tactic(auto)]
 
-ghost use Rattle.std.specs.Prelude.{◌≡◌, ◌&&◌, [], ◌∷◌, suc, ◌+◌, ◌*◌, ◌≤◌, length, take, drop, ltb};
+ghost use Rattle.std.specs.Prelude.{◌≡◌, ◌&&◌, [], ◌∷◌, suc, ◌+◌, ◌*◌, ◌^◌, ◌<◌, ◌≤◌, length, take, drop, ltb};
 ghost use Rattle.std.specs.Int.Bits.{bit_or};
 ghost use Rattle.flow.specs.Set.{minus};
 ghost use Rattle.flow.specs.Flow.{joined};
@@ -11,60 +11,58 @@ ghost use Rattle.flow.specs.Inner.{Listing, Holds};
 ghost use Rattle.flow.specs.Words.{value, rows_of, Small};
 ghost use Rattle.flow.specs.Kept.{handlers_of, added};
 
+use sets::Word;
+
 // The row that starts at `at`, less a set.
-fn less_row(rows: &[u64], at: usize, words: usize, less: [u64; 16]) -> [u64; 16]
-    requires { (words ≤ 16) × (at + words ≤ length rows.now) × Small 64 less × Small 64 rows.now }
-    ensures { Holds 64 result (minus (value 64 (take words (drop at rows.now))) (value 64 less)) }
+fn less_row<W: Word>(rows: &[W], at: usize, words: usize, less: W::Set) -> W::Set
+    requires { (words ≤ W.WORDS) × (at + words ≤ length rows.now) × Small W.BITS (W.words_of less) × Small W.BITS (W.nums rows.now) }
+    ensures { Holds W.BITS (W.words_of result) (minus (value W.BITS (take words (drop at (W.nums rows.now)))) (value W.BITS (W.words_of less))) }
 {
-    let mut out = [0u64; 16];
-    let mut j = 0;
-    while j < words {
-        out[j] = rows[at + j] & !less[j];
-        j += 1;
+    let mut out = W::empty();
+    for j in 0..words {
+        let word = rows[at + j].less(W::word(&less, j));
+        W::put(&mut out, j, word);
     }
     out
 }
 
 // The registers of a word whose lowest bit is register `base`, ascending, from m on: the place past the last.
-fn list_word(word: u64, base: u16, out: &mut [u16], m: usize) -> usize
-    requires { (base ≤ 1024) × (m + length (listed 64 base word) ≤ length out.old) }
-    ensures { Listing (listed 64 base word) out.old m out.new result }
+fn list_word<W: Word>(word: W, base: u16, out: &mut [u16], m: usize) -> usize
+    requires { (base ≤ 1024) × (W.num word < 2 ^ W.BITS) × (m + length (listed W.BITS base (W.num word)) ≤ length out.old) }
+    ensures { Listing (listed W.BITS base (W.num word)) out.old m out.new result }
 {
     let mut rest = word;
     let mut n = m;
-    while rest != 0 {
-        let low = u64::trailing_zeros(rest);
-        out[n] = base + (low as u16);
-        rest = rest & (rest - 1);
+    while !rest.is_none() {
+        out[n] = base + rest.lowest();
+        rest = rest.others();
         n += 1;
     }
     n
 }
 
 // The registers of a set, ascending, from m on: the place past the last.
-pub fn list_set(set: [u64; 16], words: usize, out: &mut [u16], m: usize) -> usize
-    requires { (words ≤ 16) × Small 64 set × (m + length (listed (words * 64) 0 (value 64 set)) ≤ length out.old) }
-    ensures { Listing (listed (words * 64) 0 (value 64 set)) out.old m out.new result }
+pub fn list_set<W: Word>(set: W::Set, words: usize, out: &mut [u16], m: usize) -> usize
+    requires { (words ≤ W.WORDS) × Small W.BITS (W.words_of set) × (m + length (listed (words * W.BITS) 0 (value W.BITS (W.words_of set))) ≤ length out.old) }
+    ensures { Listing (listed (words * W.BITS) 0 (value W.BITS (W.words_of set))) out.old m out.new result }
 {
+    W::sized(&set);
     let mut n = m;
-    let mut j = 0;
-    while j < words {
-        n = list_word(set[j], (64 * j) as u16, out, n);
-        j += 1;
+    for j in 0..words {
+        n = list_word(W::word(&set, j), (W::BITS * j) as u16, out, n);
     }
     n
 }
 
 // How many registers a set has.
-pub fn count_set(set: [u64; 16], words: usize) -> usize
-    requires { (words ≤ 16) × Small 64 set }
-    ensures { result ≡ length (listed (words * 64) 0 (value 64 set)) }
+pub fn count_set<W: Word>(set: W::Set, words: usize) -> usize
+    requires { (words ≤ W.WORDS) × Small W.BITS (W.words_of set) }
+    ensures { result ≡ length (listed (words * W.BITS) 0 (value W.BITS (W.words_of set))) }
 {
+    W::sized(&set);
     let mut n = 0;
-    let mut j = 0;
-    while j < words {
-        n += u64::count_ones(set[j]) as usize;
-        j += 1;
+    for j in 0..words {
+        n += W::word(&set, j).count();
     }
     n
 }
@@ -84,17 +82,18 @@ pub fn around(s: usize, k: usize, h: usize) -> bool
 }
 
 // A set and the row of the handler of the try (s, h), if it is around k, together.
-fn join_try(
-    seen: [u64; 16],
-    rows: &[u64],
+fn join_try<W: Word>(
+    seen: W::Set,
+    rows: &[W],
     n: usize,
     words: usize,
     k: usize,
     s: usize,
     h: usize,
-) -> [u64; 16]
-    requires { (n ≤ 65535) × (words ≤ 16) × (suc n * words ≤ length rows.now) × Small 64 seen × Small 64 rows.now }
-    ensures { Holds 64 result (bit_or (value 64 seen) (joined (row (rows_of 64 words (suc n) rows.now)) (handlers_of n k (s ∷ h ∷ [])))) }
+) -> W::Set
+    requires { (n ≤ 65535) × (words ≤ W.WORDS) × (suc n * words ≤ length rows.now) × Small W.BITS (W.words_of seen) × Small W.BITS (W.nums rows.now) }
+    ensures { Holds W.BITS (W.words_of result) (bit_or (value W.BITS (W.words_of seen)) (joined (row (rows_of W.BITS words (suc n) (W.nums rows.now)))
+        (handlers_of n k (s ∷ h ∷ [])))) }
 {
     if around(s, k, h) {
         return sets::join_row(seen, rows, refusals::least(h, n) * words, words);
@@ -103,9 +102,9 @@ fn join_try(
 }
 
 // What that handler adds to the registers seen, from m on: the place past the last.
-fn list_try(
-    seen: [u64; 16],
-    rows: &[u64],
+fn list_try<W: Word>(
+    seen: W::Set,
+    rows: &[W],
     n: usize,
     words: usize,
     k: usize,
@@ -114,29 +113,31 @@ fn list_try(
     out: &mut [u16],
     m: usize,
 ) -> usize
-    requires { (n ≤ 65535) × (words ≤ 16) × (suc n * words ≤ length rows.now) × Small 64 seen × Small 64 rows.now
-        × (m + length (added (words * 64) (row (rows_of 64 words (suc n) rows.now)) (value 64 seen) (handlers_of n k (s ∷ h ∷ []))) ≤ length out.old) }
-    ensures { Listing (added (words * 64) (row (rows_of 64 words (suc n) rows.now)) (value 64 seen) (handlers_of n k (s ∷ h ∷ [])))
+    requires { (n ≤ 65535) × (words ≤ W.WORDS) × (suc n * words ≤ length rows.now) × Small W.BITS (W.words_of seen) × Small W.BITS (W.nums rows.now)
+        × (m + length (added (words * W.BITS) (row (rows_of W.BITS words (suc n) (W.nums rows.now))) (value W.BITS (W.words_of seen)) (handlers_of n k
+        (s ∷ h ∷ []))) ≤ length out.old) }
+    ensures { Listing (added (words * W.BITS) (row (rows_of W.BITS words (suc n) (W.nums rows.now))) (value W.BITS (W.words_of seen)) (handlers_of n k (s ∷ h ∷ [])))
         out.old m out.new result }
 {
     if around(s, k, h) {
         let more = less_row(rows, refusals::least(h, n) * words, words, seen);
-        return list_set(more, words, out, m);
+        return list_set::<W>(more, words, out, m);
     }
     m
 }
 
 // A set and the rows of the handlers around k, together.
-pub fn join_tries(
-    seen: [u64; 16],
-    rows: &[u64],
+pub fn join_tries<W: Word>(
+    seen: W::Set,
+    rows: &[W],
     n: usize,
     words: usize,
     k: usize,
     tries: &[u32],
-) -> [u64; 16]
-    requires { (n ≤ 65535) × (words ≤ 16) × (suc n * words ≤ length rows.now) × Small 64 seen × Small 64 rows.now }
-    ensures { Holds 64 result (bit_or (value 64 seen) (joined (row (rows_of 64 words (suc n) rows.now)) (handlers_of n k tries.now))) }
+) -> W::Set
+    requires { (n ≤ 65535) × (words ≤ W.WORDS) × (suc n * words ≤ length rows.now) × Small W.BITS (W.words_of seen) × Small W.BITS (W.nums rows.now) }
+    ensures { Holds W.BITS (W.words_of result) (bit_or (value W.BITS (W.words_of seen)) (joined (row (rows_of W.BITS words (suc n) (W.nums rows.now)))
+        (handlers_of n k tries.now))) }
 {
     let mut all = seen;
     let mut i = 0;
@@ -153,9 +154,9 @@ pub fn join_tries(
 }
 
 // What the handlers around k add to the registers seen, from m on: the place past the last.
-pub fn list_tries(
-    seen: [u64; 16],
-    rows: &[u64],
+pub fn list_tries<W: Word>(
+    seen: W::Set,
+    rows: &[W],
     n: usize,
     words: usize,
     k: usize,
@@ -163,9 +164,10 @@ pub fn list_tries(
     out: &mut [u16],
     m: usize,
 ) -> usize
-    requires { (n ≤ 65535) × (words ≤ 16) × (suc n * words ≤ length rows.now) × Small 64 seen × Small 64 rows.now
-        × (m + length (added (words * 64) (row (rows_of 64 words (suc n) rows.now)) (value 64 seen) (handlers_of n k tries.now)) ≤ length out.old) }
-    ensures { Listing (added (words * 64) (row (rows_of 64 words (suc n) rows.now)) (value 64 seen) (handlers_of n k tries.now))
+    requires { (n ≤ 65535) × (words ≤ W.WORDS) × (suc n * words ≤ length rows.now) × Small W.BITS (W.words_of seen) × Small W.BITS (W.nums rows.now)
+        × (m + length (added (words * W.BITS) (row (rows_of W.BITS words (suc n) (W.nums rows.now))) (value W.BITS (W.words_of seen))
+        (handlers_of n k tries.now)) ≤ length out.old) }
+    ensures { Listing (added (words * W.BITS) (row (rows_of W.BITS words (suc n) (W.nums rows.now))) (value W.BITS (W.words_of seen)) (handlers_of n k tries.now))
         out.old m out.new result }
 {
     let mut all = seen;

@@ -2,12 +2,12 @@
 use mathlib.Core.Path.{◌≡◌, refl, sym, ap, ap₂, ◌∙◌, subst}
 use mathlib.Core.Bool.{Bool, true, false, cond, ◌&&◌, ◌||◌, true≢false}
 use mathlib.Core.List.{List, [], ◌∷◌}
-use Prim.Native.Nat.{ℕ, suc, ◌+◌, ◌-◌, ◌/◌, ◌%◌, ◌^◌, ◌≤◌, ◌<◌, min, max, zero-le}
+use Prim.Native.Nat.{ℕ, suc, ◌+◌, ◌-◌, ◌*◌, ◌/◌, ◌%◌, ◌≤◌, ◌<◌, min, max}
 use native.Mathlib.Decide.{dec_lt}
 use native.Mathlib.Numerals.{add-one}
 use native.Mathlib.Omega.{arith}
 use borrow.Author.Tests.{lt-ltb, le-ltb, ne_eqb}
-use lib.Bits.{bit_and, bit_or, or_zero_l, or_zero_r}
+use lib.Bits.{bit_or, or_zero_l, or_zero_r}
 use lib.Dec.{ltb, eqb}
 use lib.ListN.{length, get_or, drop, set, length-set, length-drop}
 use lib.Seq.{drop-cons, get_or-set_other}
@@ -18,51 +18,44 @@ use Rattle.code.proofs.Rules.{op_known_lem}
 use Rattle.code.specs.declared.Ins.{Ins}
 use Rattle.roles.specs.Kinds.{page, rule_of}
 use Rattle.roles.specs.Sets.{only, cases, case_of}
+use Rattle.flow.specs.Set.{minus}
 use Rattle.flow.specs.Flow.{joined, row_at}
 use Rattle.flow.specs.Sweep.{row, below}
 use Rattle.flow.specs.Inner.{Put}
 use Rattle.flow.specs.Kept.{handlers_of}
-use Rattle.flow.proofs.Buffer.{step_word}
+use Rattle.flow.proofs.Bits.{bit_ext, or_bit}
 use Rattle.flow.proofs.Rows.{joined_cong}
-use Rattle.flow.proofs.Tries.{handlers_past, handlers_none}
+use Rattle.flow.proofs.Tries.{handlers_past}
 use Rattle.steps.specs.Level.{is_level}
 use Rattle.steps.specs.Code.{set_of, after_at}
-use Rattle.steps.specs.Inner.{used_of, given_of, after_of, StepAt, goes_before, calm_of, calm_step}
+use Rattle.steps.specs.Inner.{used_of, given_of, after_of, StepAt, goes_before, calm_of, calm_step, step_flow}
 use Rattle.steps.specs.declared.Step.{Step}
 use Rattle.steps.proofs.Follows.{below_step}
 use Rattle.steps.proofs.Told.{calm_step_lem}
 use Rattle.sets.proofs.Sets.{or_assoc}
 use Rattle.nested.specs.Raising.{stranded}
+use Rattle.std.specs.declared.option.Option.{Option}
+use Rattle.std.specs.declared.option.Option.TheVariants.{Some, None}
+use Rattle.near.specs.declared.Went.{Went}
+use Rattle.sweeps.proofs.Sweeps.{unmarked}
 use Rattle.near.specs.Inner.{more_of, more_step, more_flow, WentAt, Down, here, on, Stretch, edge_of, lowest_of, Covered}
 
 -- ---- a row in one word
 
-pub row_is : (bits regs k : ℕ) (s : Step) (rows : List ℕ) (more a g u : ℕ) → a ≡ joined (row rows) (after_of s k) → g ≡ set_of regs (given_of s)
-    → u ≡ set_of regs (used_of s) → a < 2 ^ bits → g < 2 ^ bits
-    → bit_or (bit_or u more) (bit_and a ((2 ^ bits - 1) - g)) ≡ row_at (more_step more regs s) (row rows) k
-row_is bits regs k s rows more a g u ea eg eu =
-    step_word (more_step more regs s) (row rows) k bits a g (bit_or u more) refl ea eg (ap (λ (x : ℕ). bit_or x more) eu)
+pub or_swap : (a b c : ℕ) → bit_or (bit_or a b) c ≡ bit_or (bit_or a c) b
+or_swap a b c = bit_ext (bit_or (bit_or a b) c) (bit_or (bit_or a c) b)
+    (λ r. omega (arith, or_bit (bit_or a b) c r, or_bit a b r, or_bit (bit_or a c) b r, or_bit a c r))
+
+-- the step's row with the registers `more` besides
+pub row_with : (regs k : ℕ) (s : Step) (rows : List ℕ) (more x : ℕ) → x ≡ row_at (step_flow regs s) (row rows) k
+    → bit_or x more ≡ row_at (more_step more regs s) (row rows) k
+unfolding row_at
+row_with regs k s rows more x e = ap (λ (y : ℕ). bit_or y more) e
+    ∙ or_swap (set_of regs (used_of s)) (minus (joined (row rows) (after_of s k)) (set_of regs (given_of s))) more
 
 -- ---- what is joined whole
 
 module _ (all : Bool) (out : ℕ) (i : Ins) where
-  pub raised_all : all ≡ true → out ≡ cond (all || is_level i) out 0
-  raised_all e = rw e
-
-  pub raised_none : out ≡ 0 → 0 ≡ cond (all || is_level i) out 0
-  raised_none e = sym (ap (λ (x : ℕ). cond (all || is_level i) x 0) e ∙ none (all || is_level i))
-    where
-      none : (t : Bool) → cond {A = ℕ} t 0 0 ≡ 0
-      none true = refl
-      none false = refl
-
-  module _ (level : Bool) (l : level ≡ is_level i) where
-    pub raised_in : all ≡ false → level ≡ true → out ≡ cond (all || is_level i) out 0
-    raised_in e z = rw (e, ← l, z)
-
-    pub raised_out : all ≡ false → level ≡ false → 0 ≡ cond (all || is_level i) out 0
-    raised_out e z = rw (e, ← l, z)
-
   module _ (rows : List ℕ) (k more : ℕ) (m : more ≡ cond (all || is_level i) out 0) where
     -- without the dunder mark nothing is stranded
     pub leaves_plain : i.marks / 2 % 2 ≡ 0 → more ≡ more_of all out i rows k
@@ -70,11 +63,8 @@ module _ (all : Bool) (out : ℕ) (i : Ins) where
     leaves_plain l = m ∙ sym (or_zero_l (cond (all || is_level i) out 0))
         ∙ ap (λ (t : Bool). bit_or (joined (row rows) (only t (k + 1))) (cond (all || is_level i) out 0)) (sym tidy)
       where
-        rest : Bool
-        rest = let o = i.op in eqb o ReturnR || eqb o Jump || eqb o UnpackR || eqb o WithEnter || eqb o WithExit
-
         tidy : stranded i ≡ false
-        tidy = ap (λ (t : Bool). t && rest) (ne_eqb (i.marks / 2 % 2) 1 (λ e. omega arith))
+        tidy = unmarked i (λ e. omega arith)
 
     pub leaves_past : (past : Bool) (next : ℕ) → past ≡ stranded i → next ≡ joined (row rows) (only past (k + 1)) → bit_or next more ≡ more_of all out i rows k
     unfolding more_of
@@ -154,6 +144,14 @@ module _ (regs : ℕ) (w : List ℕ) (k : ℕ) (s : Step) (h : StepAt w k s) whe
     turns = b ∙ below_step w k s (suc k) h (omega arith);
   }
 
+none : Option Went → Bool
+none None = true
+none (Some p) = false
+
+told : Went → Option Went → Went
+told q None = q
+told q (Some p) = p
+
 -- ---- a sweep that has come down from `from` to k, and goes on to `low`
 
 pub record Coming (all : Bool) (out regs : ℕ) (w : List ℕ) (start from low : ℕ) (rows₀ rows : List ℕ) (changed back : Bool) (k : ℕ) : Type 0 where
@@ -193,14 +191,15 @@ module _ (all : Bool) (out regs : ℕ) (w : List ℕ) (start from low : ℕ) (ro
 
     module _ (l : low < k) (b : start ≤ low) (s : Step) (h : StepAt w (k - 1) s) (t : Bool) (e : t ≡ goes_before s start) where
       pub coming_step : t ≡ false → (i : Ins) (more : ℕ) → i ≡ ins_at w (k - 1) → more ≡ more_of all out i rows (k - 1) → (new : List ℕ) (changed' back' : Bool)
-          → Put (more_step more regs s) rows (k - 1) new changed' → back' ≡ goes_before s k
+          → Put (more_step more regs s) rows (k - 1) new changed' → back' ≡ goes_before s (k - 1 + 1)
           → Coming all out regs w start from low rows₀ new (changed' || changed) (back' || back) (k - 1)
       coming_step z i more place m new changed' back' put eb = coming_on l new changed' back'
-          (went_on regs w (k - 1) s h all out start rows new (omega arith) t e z i more place m changed' back' put (eb ∙ ap (goes_before s) (sym (one l))))
+          (went_on regs w (k - 1) s h all out start rows new (omega arith) t e z i more place m changed' back' put (eb ∙ ap (goes_before s) (add-one (k - 1))))
 
       -- left
-      pub coming_left : t ≡ true → (new : List ℕ) (left c d : Bool) → left ≡ true → Stretch all out regs w start from low rows₀ new left c d
-      coming_left z new left c d x = record {
+      pub coming_left : t ≡ true → (new : List ℕ) → Stretch all out regs w start from low rows₀ new None
+      unfolding none
+      coming_left z new = record {
         strays = λ _. record {
           k = k;
           old = rows;
@@ -210,14 +209,16 @@ module _ (all : Bool) (out regs : ℕ) (w : List ℕ) (start from low : ℕ) (ro
           above = l;
           met = sym (stray regs w (k - 1) s h start (omega arith) t e) ∙ z;
         };
-        through = λ y. absurd (true≢false (sym x ∙ y));
+        through = λ q y. absurd (true≢false (ap none y));
       }
 
     -- through
-    pub coming_through : k ≤ low → (left c d : Bool) → left ≡ false → c ≡ changed → d ≡ back → Stretch all out regs w start from low rows₀ rows left c d
-    coming_through l left c d x ec ed = record {
-      strays = λ y. absurd (true≢false (sym y ∙ x));
-      through = λ _. rw (ec, ed, sym low_is) p.down;
+    pub coming_through : k ≤ low → Stretch all out regs w start from low rows₀ rows (Some (record { changed = changed; back = back }))
+    unfolding none told
+    coming_through l = record {
+      strays = λ y. absurd (true≢false (sym (ap none y)));
+      through = λ q y. subst (λ (x : Went). Down all out regs w start from rows₀ low rows x.changed x.back) (ap (told (record { changed = changed; back = back })) y)
+          (rw (sym low_is) p.down);
     }
       where
         low_is : k ≡ low
@@ -225,92 +226,91 @@ module _ (all : Bool) (out regs : ℕ) (w : List ℕ) (start from low : ℕ) (ro
 
 -- ---- a pass over the tries
 
-split : (tries : List ℕ) (i : ℕ) → i + 1 < length tries → drop i tries ≡ get_or tries i 0 ∷ (get_or tries (i + 1) 0 ∷ drop (i + 2) tries)
+split : (tries : List ℕ) (i : ℕ) → 2 * i + 1 < length tries
+    → drop (2 * i) tries ≡ get_or tries (2 * i) 0 ∷ (get_or tries (2 * i + 1) 0 ∷ drop (2 * (i + 1)) tries)
 split tries i l =
-    drop-cons tries i 0 (omega arith)
-    ∙ ap (λ (x : ℕ). get_or tries i 0 ∷ drop x tries) (sym (add-one i))
-    ∙ ap (λ (x : List ℕ). get_or tries i 0 ∷ x) (drop-cons tries (i + 1) 0 l ∙ ap (λ (x : ℕ). get_or tries (i + 1) 0 ∷ drop x tries) two)
+    drop-cons tries (2 * i) 0 (omega arith)
+    ∙ ap (λ (x : ℕ). get_or tries (2 * i) 0 ∷ drop x tries) (sym (add-one (2 * i)))
+    ∙ ap (λ (x : List ℕ). get_or tries (2 * i) 0 ∷ x)
+    (drop-cons tries (2 * i + 1) 0 l ∙ ap (λ (x : ℕ). get_or tries (2 * i + 1) 0 ∷ drop x tries) two)
   where
-    two : suc (i + 1) ≡ i + 2
+    two : suc (2 * i + 1) ≡ 2 * (i + 1)
     two = omega arith
 
-short : (tries : List ℕ) (i : ℕ) → length tries ≤ i + 1 → length (drop i tries) ≤ 1
-short tries i l = omega (arith, length-drop i tries)
+short : (tries : List ℕ) (i : ℕ) → length tries / 2 ≤ i → length (drop (2 * i) tries) ≤ 1
+short tries i l = omega (arith, length-drop (2 * i) tries)
 
 -- what is joined so far, with what the rest of the tries joins, is what all join
 pub record Joining (n k : ℕ) (rows tries : List ℕ) (out i : ℕ) : Type 0 where
-  pub le : i ≤ length tries
-  pub is : bit_or out (joined (row rows) (handlers_of n k (drop i tries))) ≡ joined (row rows) (handlers_of n k tries)
+  pub is : bit_or out (joined (row rows) (handlers_of n k (drop (2 * i) tries))) ≡ joined (row rows) (handlers_of n k tries)
 
 module _ (n k : ℕ) (rows tries : List ℕ) where
   pub joining_start : Joining n k rows tries 0 0
-  joining_start = record { le = zero-le; is = or_zero_l (joined (row rows) (handlers_of n k tries)) }
+  joining_start = record { is = or_zero_l (joined (row rows) (handlers_of n k tries)) }
 
   module _ (out i : ℕ) (p : Joining n k rows tries out i) where
-    pub joining_more : i + 1 < length tries → (s h : ℕ) → s ≡ get_or tries i 0 → h ≡ get_or tries (i + 1) 0 → (b : Bool) → b ≡ ltb s k && ltb k h
-        → (t : ℕ) → t ≡ min h n → (x : ℕ) → x ≡ joined (row rows) (only b t) → Joining n k rows tries (bit_or out x) (i + 2)
+    pub joining_more : i < length tries / 2 → (b : Bool) → b ≡ ltb (get_or tries (2 * i) 0) k && ltb k (get_or tries (2 * i + 1) 0)
+        → (t : ℕ) → t ≡ min (get_or tries (2 * i + 1) 0) n → (x : ℕ) → x ≡ joined (row rows) (only b t) → Joining n k rows tries (bit_or out x) (i + 1)
     unfolding joined handlers_of
-    joining_more l s h es eh b eb t et x ex = record {
-      le = omega arith;
+    joining_more l b eb t et x ex = record {
       is = or_assoc out x (joined (row rows) rest)
           ∙ ap (bit_or out) (ap (λ (y : ℕ). bit_or y (joined (row rows) rest)) ex ∙ sym one)
           ∙ p.is;
     }
       where
         rest : List ℕ
-        rest = handlers_of n k (drop (i + 2) tries)
+        rest = handlers_of n k (drop (2 * (i + 1)) tries)
 
         with : (c : Bool) → joined (row rows) (cond c (t ∷ rest) rest) ≡ bit_or (joined (row rows) (only c t)) (joined (row rows) rest)
         with true = ap (λ (y : ℕ). bit_or y (joined (row rows) rest)) (sym (or_zero_r (row rows t)))
         with false = sym (or_zero_l (joined (row rows) rest))
 
-        next : handlers_of n k (drop i tries) ≡ cond b (t ∷ rest) rest
-        next = ap (handlers_of n k) (split tries i l) ∙ rw (← es, ← eh, ← eb, ← et)
+        next : handlers_of n k (drop (2 * i) tries) ≡ cond b (t ∷ rest) rest
+        next = ap (handlers_of n k) (split tries i (omega arith)) ∙ rw (← eb, ← et)
 
-        one : joined (row rows) (handlers_of n k (drop i tries)) ≡ bit_or (joined (row rows) (only b t)) (joined (row rows) rest)
+        one : joined (row rows) (handlers_of n k (drop (2 * i) tries)) ≡ bit_or (joined (row rows) (only b t)) (joined (row rows) rest)
         one = ap (joined (row rows)) next ∙ with b
 
-    pub joining_end : length tries ≤ i + 1 → out ≡ joined (row rows) (handlers_of n k tries)
+    pub joining_end : length tries / 2 ≤ i → out ≡ joined (row rows) (handlers_of n k tries)
     unfolding joined handlers_of
-    joining_end l = sym (or_zero_r out) ∙ ap (bit_or out) (sym (none (drop i tries) (short tries i l))) ∙ p.is
+    joining_end l = sym (or_zero_r out) ∙ ap (bit_or out) (sym (none_left (drop (2 * i) tries) (short tries i l))) ∙ p.is
       where
-        none : (l : List ℕ) → length l ≤ 1 → joined (row rows) (handlers_of n k l) ≡ 0
-        none [] h = refl
-        none (x ∷ []) h = refl
-        none (x ∷ (y ∷ l)) h = absurd (omega arith)
+        none_left : (l : List ℕ) → length l ≤ 1 → joined (row rows) (handlers_of n k l) ≡ 0
+        none_left [] h = refl
+        none_left (x ∷ []) h = refl
+        none_left (x ∷ (y ∷ l)) h = absurd (omega arith)
 
 -- the highest edge so far, or of the rest of the tries, is that of all
 pub record Lowering (k : ℕ) (tries : List ℕ) (low i : ℕ) : Type 0 where
-  pub le : i ≤ length tries
-  pub is : max low (lowest_of k (drop i tries)) ≡ lowest_of k tries
+  pub is : max low (lowest_of k (drop (2 * i) tries)) ≡ lowest_of k tries
 
 module _ (k : ℕ) (tries : List ℕ) where
   pub lowering_start : Lowering k tries 0 0
-  lowering_start = record { le = zero-le; is = zero (lowest_of k tries) }
+  lowering_start = record { is = zero (lowest_of k tries) }
     where
       zero : (x : ℕ) → max 0 x ≡ x
       zero x = omega arith
 
   module _ (low i : ℕ) (p : Lowering k tries low i) where
-    pub lowering_more : i + 1 < length tries → (s h : ℕ) → s ≡ get_or tries i 0 → h ≡ get_or tries (i + 1) 0 → (e : ℕ) → e ≡ edge_of k s h → (m : ℕ) → m ≡ max low e
-        → Lowering k tries m (i + 2)
+    pub lowering_more : i < length tries / 2 → (e : ℕ) → e ≡ edge_of k (get_or tries (2 * i) 0) (get_or tries (2 * i + 1) 0) → (m : ℕ) → m ≡ max low e
+        → Lowering k tries m (i + 1)
     unfolding lowest_of
-    lowering_more l s h es eh e ee m em = record { le = omega arith; is = swap (lowest_of k (drop (i + 2) tries)) ∙ ap (max low) (sym next) ∙ p.is }
+    lowering_more l e ee m em = record { is = swap (lowest_of k (drop (2 * (i + 1)) tries)) ∙ ap (max low) (sym next) ∙ p.is }
       where
-        next : lowest_of k (drop i tries) ≡ max e (lowest_of k (drop (i + 2) tries))
-        next = ap (lowest_of k) (split tries i l) ∙ rw (← es, ← eh, ← ee)
+        next : lowest_of k (drop (2 * i) tries) ≡ max e (lowest_of k (drop (2 * (i + 1)) tries))
+        next = ap (lowest_of k) (split tries i (omega arith)) ∙ rw (← ee)
 
         swap : (x : ℕ) → max m x ≡ max low (max e x)
         swap x = omega (arith, em)
 
-    pub lowering_end : length tries ≤ i + 1 → low ≡ lowest_of k tries
+    pub lowering_end : length tries / 2 ≤ i → low ≡ lowest_of k tries
     unfolding lowest_of
-    lowering_end l = sym (ap (max low) (none (drop i tries) (short tries i l)) ∙ nil low) ∙ p.is
+    lowering_end l = sym (ap (max low) (none_left (drop (2 * i) tries) (short tries i l)) ∙ nil low) ∙ p.is
       where
-        none : (l : List ℕ) → length l ≤ 1 → lowest_of k l ≡ 0
-        none [] h = refl
-        none (x ∷ []) h = refl
-        none (x ∷ (y ∷ l)) h = absurd (omega arith)
+        none_left : (l : List ℕ) → length l ≤ 1 → lowest_of k l ≡ 0
+        none_left [] h = refl
+        none_left (x ∷ []) h = refl
+        none_left (x ∷ (y ∷ l)) h = absurd (omega arith)
 
         nil : (x : ℕ) → max x 0 ≡ x
         nil x = omega arith
@@ -357,17 +357,6 @@ pub record Covers (n : ℕ) (tries rows : List ℕ) (out low k : ℕ) : Type 0 w
   pub at : low < k → Covered n tries rows out low (k - 1)
 
 module _ (n : ℕ) (tries rows : List ℕ) (out low k : ℕ) where
-  pub covered_none : length tries < 2 → Covered n tries rows 0 0 k
-  unfolding joined
-  covered_none l = record {
-    le = zero-le;
-    same = λ j x y. none j ∙ sym (none k);
-    is = sym (ap (joined (row rows)) (none k));
-  }
-    where
-      none : (j : ℕ) → handlers_of n j tries ≡ []
-      none j = handlers_none n j tries (omega arith)
-
   pub covered_new : out ≡ joined (row rows) (handlers_of n k tries) → low ≡ lowest_of k tries → Covered n tries rows out low k
   covered_new e l = record {
     le = omega (arith, lowest_le k tries);

@@ -6,6 +6,7 @@ use Prim.Native.Nat.{ℕ, suc, ◌+◌, ◌-◌, ◌^◌, ◌≤◌, ◌<◌, ma
 use native.Mathlib.Omega.{arith}
 use lib.Bits.{bit_or}
 use lib.ListN.{length, replicate}
+use Rattle.laws.proofs.Branch.{or_assoc}
 use Rattle.code.specs.Ins.{ins_at, count}
 use Rattle.code.specs.Inner.{Valid}
 use Rattle.roles.specs.Sets.{only}
@@ -14,22 +15,20 @@ use Rattle.flow.specs.Flow.{joined, row_at}
 use Rattle.flow.specs.Sweep.{row, below}
 use Rattle.flow.specs.Inner.{Put}
 use Rattle.flow.specs.Kept.{handlers_of}
-use Rattle.flow.proofs.Bits.{bit_ext, or_bit}
 use Rattle.flow.proofs.Loop.{going_start, lost_first, lost_again, lost_less}
 use Rattle.steps.specs.Level.{first_level}
 use Rattle.steps.specs.Code.{set_of, used_at, given_at, after_at}
 use Rattle.sets.proofs.Sets.{joined_append}
 use Rattle.rows.proofs.Sweeps.{level_le}
 use Rattle.nested.specs.Raising.{stranded, raises_at, raising, mays}
+use Rattle.std.specs.declared.option.Option.{Option}
+use Rattle.std.specs.declared.option.Option.TheVariants.{Some, None}
+use Rattle.near.specs.declared.Went.{Went}
 use Rattle.near.specs.Inner.{more_of, more_flow, WentAt, Down, here, on, Stretch, Covered}
-use Rattle.near.proofs.Near.{Covers, covers_next}
+use Rattle.near.proofs.Near.{or_swap, Covers, covers_next}
 use Rattle.sweeps.proofs.Sweeps.{onto_is, below_same, Between, Turn, to_go, hi, near_long, go_on}
 
 -- ---- the word route's step
-
-or_swap : (a b c : ℕ) → bit_or (bit_or a b) c ≡ bit_or (bit_or a c) b
-or_swap a b c = bit_ext (bit_or (bit_or a b) c) (bit_or (bit_or a c) b)
-    (λ r. omega (arith, or_bit (bit_or a b) c r, or_bit a b r, or_bit (bit_or a c) b r, or_bit a c r))
 
 module _ (all : Bool) (regs : ℕ) (w tries : List ℕ) (out k : ℕ) (rows : List ℕ) (e : out ≡ joined (row rows) (handlers_of (count w) k tries)) where
   -- what is joined whole are the rows of where k may leave for
@@ -60,10 +59,6 @@ module _ (all : Bool) (regs : ℕ) (w tries : List ℕ) (out k : ℕ) (rows : Li
   put_more new changed p = record { stored = rw row_more at p.stored; told = rw row_more at p.told }
 
 -- ---- the sweep
-
-or_or : (a b c : Bool) → (a || b) || c ≡ a || (b || c)
-or_or true b c = refl
-or_or false b c = refl
 
 pub near_starts : (all : Bool) (w : List ℕ) (regs : ℕ) (tries : List ℕ) (start len : ℕ) (rows : List ℕ) → Valid w → start ≡ first_level w
     → rows ≡ replicate len 0 → len ≡ suc (count w) → Between all w regs tries (first_level w) start 0 0 rows
@@ -118,7 +113,7 @@ module _ {all : Bool} {w : List ℕ} {regs : ℕ} {tries : List ℕ} {from start
         → Turn all w regs tries from start full lost lost₀ rows₀ new ((c₂ || c₁) || changed) ((b₂ || b₁) || back) (i - 1)
         × Covers (count w) tries new out low (i - 1)
     next c₁ b₁ c₂ b₂ q x y went =
-        (rw (or_or c₂ c₁ changed, or_or b₂ b₁ back) (near_step q.0 y (q.1.at x) went), near_covers q.0 y (q.1.at x) went)
+        (rw (or_assoc c₂ c₁ changed, or_assoc b₂ b₁ back) (near_step q.0 y (q.1.at x) went), near_covers q.0 y (q.1.at x) went)
 
     turned : {j : ℕ} {new : List ℕ} {c' b' : Bool} → Down all out regs w start k rows j new c' b' → low ≤ j → start ≤ j
         → Turn all w regs tries from start full lost lost₀ rows₀ new (c' || changed) (b' || back) j × Covers (count w) tries new out low j
@@ -133,11 +128,11 @@ module _ {all : Bool} {w : List ℕ} {regs : ℕ} {tries : List ℕ} {from start
       pub stretch_less : bottom - start < k - start
       stretch_less = omega (arith, e, c.le)
 
-      module _ {new : List ℕ} {left c' b' : Bool} (s : Stretch all out regs w start k bottom rows new left c' b') where
-        pub stretch_on : left ≡ false → Turn all w regs tries from start full lost lost₀ rows₀ new (c' || changed) (b' || back) bottom
-        stretch_on z = (turned (s.through z) (omega (arith, e)) (omega (arith, e))).0
+      module _ {new : List ℕ} {r : Option Went} (s : Stretch all out regs w start k bottom rows new r) where
+        pub stretch_on : {q : Went} → r ≡ Some q → Turn all w regs tries from start full lost lost₀ rows₀ new (q.changed || changed) (q.back || back) bottom
+        stretch_on {q} z = (turned (s.through q z) (omega (arith, e)) (omega (arith, e))).0
 
-        module _ (z : left ≡ true) where
+        module _ (z : r ≡ None) where
           above : bottom < (s.strays z).k
           above = (s.strays z).above
 

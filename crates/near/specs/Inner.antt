@@ -13,6 +13,9 @@ use Rattle.flow.specs.Sweep.{row, below}
 use Rattle.flow.specs.Inner.{Put}
 use Rattle.flow.specs.Kept.{handlers_of}
 use Rattle.steps.specs.Level.{is_level}
+use Rattle.std.specs.declared.option.Option.{Option}
+use Rattle.std.specs.declared.option.Option.TheVariants.{Some, None}
+use Rattle.near.specs.declared.Went.{Went}
 
 -- the rows that are joined whole at k, where i stands: the next one if it is stranded, and if it may raise those of its handlers, which are `out` together
 unfoldable pub more_of : Bool → ℕ → Ins → List ℕ → ℕ → ℕ
@@ -63,9 +66,9 @@ pub record Strays (all : Bool) (out regs : ℕ) (w : List ℕ) (start from low :
   pub met : below start (after_at w (k - 1)) ≡ true
 
 -- What a sweep does from `from` down to `low`: it meets a jump to before the start, or comes through.
-pub record Stretch (all : Bool) (out regs : ℕ) (w : List ℕ) (start from low : ℕ) (rows new : List ℕ) (left changed back : Bool) : Type 0 where
-  pub strays : left ≡ true → Strays all out regs w start from low rows
-  pub through : left ≡ false → Down all out regs w start from rows low new changed back
+pub record Stretch (all : Bool) (out regs : ℕ) (w : List ℕ) (start from low : ℕ) (rows new : List ℕ) (went : Option Went) : Type 0 where
+  pub strays : went ≡ None → Strays all out regs w start from low rows
+  pub through : (p : Went) → went ≡ Some p → Down all out regs w start from rows low new p.changed p.back
 
 -- from where on, up to k, a try (s, h) is around a position if it is around k
 abbrev pub edge_of : ℕ → ℕ → ℕ → ℕ

@@ -18,123 +18,21 @@ ghost use Rattle.near.specs.Inner.{more_of, more_step, Stretch, edge_of, lowest_
 use code::Ins;
 use ops::*;
 use rows::Counts;
+use sets::Word;
 use steps::Step;
 
-// Row k, if.
-fn row_if(t: bool, rows: &[u64], k: usize) -> u64
-    requires { k < length rows.now }
-    ensures { result ≡ joined (row rows.now) (only t k) }
-{
-    if t { rows[k] } else { 0 }
-}
-
-// The rows after a step at k, together.
-fn after_word(s: Step, rows: &[u64], k: usize) -> u64
-    requires { (k + 1 < length rows.now) × (s.target < length rows.now) }
-    ensures { result ≡ joined (row rows.now) (after_of s k) }
-{
-    row_if(s.on, rows, k + 1) | row_if(s.to, rows, s.target)
-}
-
-// What a step gives up.
-fn given_word(s: Step, regs: usize) -> u64
-    requires { regs ≤ 64 }
-    ensures { result ≡ set_of regs (given_of s) }
-{
-    sets::named_word(regs, s.given, s.a, s.b, s.c) | sets::run_word(regs, s.b as usize, s.run)
-}
-
-// Row k, found from the rows as they are, and with the registers `more`.
-fn row_word(s: Step, regs: usize, rows: &[u64], k: usize, more: u64) -> u64
-    requires { (regs ≤ 64) × (k + 1 < length rows.now) × (s.target < length rows.now) }
-    ensures { result ≡ row_at (more_step more regs s) (row rows.now) k }
-{
-    let set = after_word(s, rows, k);
-    let gone = given_word(s, regs);
-    let used = sets::named_word(regs, s.used, s.a, s.b, s.c) | more;
-    used | (set & !gone)
-}
-
-// Row k is found and stored: whether that changed it.
+// Row k is found, with the registers `more`, and stored: whether that changed it.
+#[inline(always)]
 fn put_word(s: Step, regs: usize, rows: &mut [u64], k: usize, more: u64) -> bool
     requires { (regs ≤ 64) × (k + 1 < length rows.old) × (s.target < length rows.old) }
     ensures { Put (more_step more regs s) rows.old k rows.new result }
 {
-    let set = row_word(s, regs, rows, k, more);
+    let set = rows::row_word(s, regs, rows, k) | more;
     if rows[k] == set {
         return false;
     }
     rows[k] = set;
     true
-}
-
-// What the opcode alone tells of a step, a function of this route alone so that it stands in place: the bits of `kinds`, none for no role; 32 more where the
-// row after it is not read; 64 where it does not tell all.
-fn calm_of(o: u16) -> u8
-    requires { o ≤ 190 }
-    ensures { result ≡ calm_of o }
-{
-    match o {
-        Jump => 48,
-        ForIter | JumpIfFalse | JumpIfFalseOrPop | JumpIfTrueOrPop => 16,
-        JumpIfFalseR => 20,
-        JumpUnlessLt
-        | JumpUnlessLtEq
-        | JumpUnlessGt
-        | JumpUnlessGtEq
-        | JumpUnlessEq
-        | JumpUnlessNotEq => 28,
-        ReturnR => 36,
-        StoreGlobalR | StoreGlobalAtR => 4,
-        LoadGlobalR | LoadGlobalAtR | UnbindR => 1,
-        WrapCellR => 3,
-        Move | MinusR | NotR | LenR | GetAttrR | LoadCellR => 5,
-        AddR
-        | InPlaceAddR
-        | SubR
-        | InPlaceSubR
-        | MulR
-        | DivR
-        | ModR
-        | FloorDivR
-        | BitAndR
-        | BitOrR
-        | BitXorR
-        | ShlR
-        | ShrR
-        | LtR
-        | LtEqR
-        | GtR
-        | GtEqR
-        | EqR
-        | NotEqR
-        | IsR
-        | IsNotR
-        | PowR
-        | InR
-        | NotInR
-        | GetItemR
-        | SuperR => 13,
-        StoreCellR | SetAttrR | CallSpreadR | ListPushR => 6,
-        StoreItemR | ArgsR => 14,
-        AppendR => 7,
-        OwnResetR => 2,
-        ListAppendR | SetAddR | MapAddR => 12,
-        PopTop
-        | PushRegs
-        | StoreTopR
-        | UnpackR
-        | CallGlobalR
-        | CallR
-        | CallMethodR
-        | Raise
-        | ForIterR
-        | Del
-        | WithEnter
-        | WithExit
-        | WithJudge => 64,
-        _ => 0,
-    }
 }
 
 // The handlers' rows where an instruction may raise, else none.
@@ -147,10 +45,7 @@ fn raised(i: Ins, all: bool, out: u64) -> u64
     if all {
         return out;
     }
-    if steps::level_at(i) {
-        return out;
-    }
-    0
+    if steps::level_at(i) { out } else { 0 }
 }
 
 // The same of an instruction that is a level by its mark alone.
@@ -185,29 +80,18 @@ fn leaves(i: Ins, all: bool, out: u64, rows: &[u64], k: usize) -> u64
     if i.marks / 2 % 2 == 0 {
         return more;
     }
-    row_if(sweeps::stranded(i), rows, k + 1) | more
+    rows::row_if(sweeps::stranded(i), rows, k + 1) | more
 }
 
-// What a stretch of a sweep told: whether it was left because a jump goes to before the start; else whether a row changed, and whether a jump goes back.
+// What a stretch of a sweep told: whether a row changed, and whether a jump goes back.
 #[derive(Clone, Copy)]
 pub struct Went {
-    pub left: bool,
     pub changed: bool,
     pub back: bool,
 }
 
-// The same, made.
-fn came(left: bool, changed: bool, back: bool) -> Went
-    ensures { (result.left ≡ left) × (result.changed ≡ changed) × (result.back ≡ back) }
-{
-    Went {
-        left,
-        changed,
-        back,
-    }
-}
-
-// A sweep comes down from `from` to `low`, through positions with the same tries around them, whose handlers' rows are `out` together.
+// A sweep comes down from `from` to `low`, through positions with the same tries around them, whose handlers' rows are `out` together. It is
+// left, and tells nothing, where a jump goes to before the start.
 fn sweep_near(
     code: &[u16],
     regs: usize,
@@ -217,50 +101,43 @@ fn sweep_near(
     start: usize,
     from: usize,
     low: usize,
-) -> Went
+) -> Option<Went>
     requires { Valid code.now × (regs ≤ 64) × (length rows.old ≡ suc (count code.now)) × (start ≤ low) × (low ≤ from) × (from ≤ count code.now) }
-    ensures { Stretch all out regs code.now start from low rows.old rows.new result.left result.changed result.back }
+    ensures { Stretch all out regs code.now start from low rows.old rows.new result }
 {
     let n = code.len() / 6;
     let mut changed = false;
     let mut back = false;
-    let mut k = from;
-    while low < k {
-        let i = code::ins_in(code, k - 1);
-        let m = calm_of(i.op);
+    for k in (low..from).rev() {
+        let i = code::ins_in(code, k);
+        let m = routes::calm_of(i.op);
         if m < 16 {
-            changed = put_calm(i, m, all, out, regs, rows, k - 1) | changed;
-            k -= 1;
+            changed = put_calm(i, m, all, out, regs, rows, k) | changed;
             continue;
         }
-        let step = steps::step_with(code, n, k - 1, i, m);
+        let step = steps::step_with(code, n, k, i, m);
         if steps::goes_before(step, start) {
-            return came(true, changed, back);
+            return None;
         }
-        let more = leaves(i, all, out, rows, k - 1);
-        changed = put_word(step, regs, rows, k - 1, more) | changed;
-        back = steps::goes_before(step, k) | back;
-        k -= 1;
+        let more = leaves(i, all, out, rows, k);
+        changed = put_word(step, regs, rows, k, more) | changed;
+        back = steps::goes_before(step, k + 1) | back;
     }
-    came(false, changed, back)
+    Some(Went { changed, back })
 }
 
 // The rows of the handlers around k, together.
 fn handlers_word(rows: &[u64], n: usize, k: usize, tries: &[u32]) -> u64
-    requires { (n < length rows.now) × (1 < length tries.now) }
+    requires { n < length rows.now }
     ensures { result ≡ joined (row rows.now) (handlers_of n k tries.now) }
 {
     let mut out: u64 = 0;
-    let mut i = 0;
-    loop {
-        let s = lists::wide_of(tries[i]);
-        let h = lists::wide_of(tries[i + 1]);
-        out = out | row_if(lists::around(s, k, h), rows, refusals::least(h, n));
-        i += 2;
-        if tries.len() <= i + 1 {
-            return out;
-        }
+    for i in 0..tries.len() / 2 {
+        let s = tries[2 * i] as usize;
+        let h = tries[2 * i + 1] as usize;
+        out = out | rows::row_if(lists::around(s, k, h), rows, h.min(n));
     }
+    out
 }
 
 // Down to where a try (s, h) is around all, or around none, if it is around k or is not.
@@ -276,29 +153,17 @@ fn edge(s: usize, k: usize, h: usize) -> usize
     h
 }
 
-// The greater of two.
-fn most(p: usize, q: usize) -> usize
-    ensures { result ≡ max p q }
-{
-    if p < q { q } else { p }
-}
-
 // Down to where the tries are around all that they are around at k.
 fn lowest(k: usize, tries: &[u32]) -> usize
-    requires { 1 < length tries.now }
     ensures { result ≡ lowest_of k tries.now }
 {
-    let mut low = 0;
-    let mut i = 0;
-    loop {
-        let s = lists::wide_of(tries[i]);
-        let h = lists::wide_of(tries[i + 1]);
-        low = most(low, edge(s, k, h));
-        i += 2;
-        if tries.len() <= i + 1 {
-            return low;
-        }
+    let mut low: usize = 0;
+    for i in 0..tries.len() / 2 {
+        let s = tries[2 * i] as usize;
+        let h = tries[2 * i + 1] as usize;
+        low = low.max(edge(s, k, h));
     }
+    low
 }
 
 // Positions with the same tries around them, from `low` on: the rows of their handlers, together.
@@ -313,9 +178,6 @@ fn covering(rows: &[u64], n: usize, k: usize, tries: &[u32]) -> Cover
     requires { n < length rows.now }
     ensures { Covered n tries.now rows.now result.out result.low k }
 {
-    if tries.len() < 2 {
-        return Cover { out: 0, low: 0 };
-    }
     let out = handlers_word(rows, n, k, tries);
     let low = lowest(k, tries);
     Cover { out, low }
@@ -331,21 +193,20 @@ pub fn live_near(code: &[u16], regs: usize, tries: &[u32], all: bool, rows: &mut
     let mut start = steps::first_level(code);
     let mut full: u32 = 0;
     let mut abandoned: u32 = 0;
-    rows::clear(rows);
+    u64::clear(rows);
     'again: loop {
         let mut changed = false;
         let mut back = false;
         let mut k = n;
         while start < k {
             let around = covering(rows, n, k - 1, tries);
-            let low = most(start, around.low);
-            let p = sweep_near(code, regs, all, rows, around.out, start, k, low);
-            if p.left {
-                rows::clear(rows);
+            let low = start.max(around.low);
+            let Some(p) = sweep_near(code, regs, all, rows, around.out, start, k, low) else {
+                u64::clear(rows);
                 start = 0;
                 abandoned += 1;
                 continue 'again;
-            }
+            };
             changed = p.changed | changed;
             back = p.back | back;
             k = low;

@@ -13,8 +13,8 @@ use lib.ListN.{length, take, drop}
 use lib.Seq.{take_all}
 use Rattle.code.specs.Ins.{count}
 use Rattle.code.specs.Inner.{Valid}
-use Rattle.refusals.specs.declared.Checked.{Checked}
-use Rattle.refusals.specs.declared.Checked.TheVariants as stage
+use Rattle.refusals.specs.Stages.{Checked}
+use Rattle.std.specs.declared.result.Result.TheVariants.{Ok, Err}
 use Rattle.refusals.specs.declared.Refusal.{Refusal}
 use Rattle.refusals.specs.declared.Refusal.TheVariants.{Short}
 use Rattle.flow.specs.Flow.{Flow}
@@ -81,7 +81,7 @@ bound all regs w tries buf full lost f =
     found_regs (raising (mays all w) regs w tries) (begins_at regs w) (inside 64 false regs w) (rows_in 64 regs w buf) full lost f
     (λ j. set_lt regs regs (used_at w j) (le_refl regs))
 
-module _ (regs : ℕ) (w tries rows offsets : List ℕ) (n : ℕ) (h : stages_of 64 w regs tries (length rows) (length offsets) ≡ stage.Count n) (m : ℕ) (e : m
+module _ (regs : ℕ) (w tries rows offsets : List ℕ) (n : ℕ) (h : stages_of 64 w regs tries (length rows) (length offsets) ≡ Ok n) (m : ℕ) (e : m
     ≡ words_for 64 regs) where
   pub part_mul : Fits w64 ((count w + 1) * m)
   part_mul = kept.part_mul 64 16 width regs w tries rows offsets n h m e
@@ -126,8 +126,8 @@ module _ (regs : ℕ) (w tries rows offsets : List ℕ) (n : ℕ) (h : stages_of
 
 -- the tests decide
 module _ (w : List ℕ) (regs : ℕ) (tries rows offsets : List ℕ) (v : Checked) (e : v ≡ stages_of 64 w regs tries (length rows) (length offsets)) where
-  pub go_on : (n : ℕ) → v ≡ stage.Count n → stages_of 64 w regs tries (length rows) (length offsets) ≡ stage.Count (count w)
+  pub go_on : (n : ℕ) → v ≡ Ok n → stages_of 64 w regs tries (length rows) (length offsets) ≡ Ok (count w)
   go_on = kept.go_on 64 w regs tries rows offsets v e
 
-  pub go_no : (r : Refusal) → v ≡ stage.No r → (all : Bool) (list : List ℕ) → RaisingOutcome w regs tries all rows offsets list rows offsets list (No r)
+  pub go_no : (r : Refusal) → v ≡ Err r → (all : Bool) (list : List ℕ) → RaisingOutcome w regs tries all rows offsets list rows offsets list (No r)
   go_no r h all list = kept.no_by 64 w regs tries rows offsets v e r h (raising (mays all w) regs w tries) (begins_at regs w) list

@@ -14,10 +14,12 @@ ghost use Rattle.rows.specs.Inner.{Rows};
 
 use ops::*;
 use rows::Counts;
+use sets::Word;
 
-// What the opcode alone tells of a step, a function of this route alone so that it stands in place: the bits of `kinds`, none for no role; 32 more where the
+// What the opcode alone tells of a step: the bits of `kinds`, none for no role; 32 more where the
 // row after it is not read; 64 where it does not tell all.
-fn calm_of(o: u16) -> u8
+#[inline(always)]
+pub fn calm_of(o: u16) -> u8
     requires { o ≤ 190 }
     ensures { result ≡ calm_of o }
 {
@@ -85,37 +87,34 @@ fn calm_of(o: u16) -> u8
 }
 
 // `live_rows`: the rows from the first level on, for 64 registers at most.
-fn live_word(code: &[u16], regs: usize, rows: &mut [u64]) -> Counts
-    requires { Valid code.now × (regs ≤ 64) × (length rows.old ≡ suc (count code.now)) }
-    ensures { Found (flow regs code.now) (first_level code.now) rows.new result.full result.abandoned }
+fn live_word<W: Word>(code: &[u16], regs: usize, rows: &mut [W]) -> Counts
+    requires { Valid code.now × (regs ≤ W.BITS) × (length rows.old ≡ suc (count code.now)) }
+    ensures { Found (flow regs code.now) (first_level code.now) (W.nums rows.new) result.full result.abandoned }
 {
     let n = code.len() / 6;
     let mut start = steps::first_level(code);
     let mut full: u32 = 0;
     let mut abandoned: u32 = 0;
-    rows::clear(rows);
+    W::clear(rows);
     'again: loop {
         let mut changed = false;
         let mut back = false;
-        let mut k = n;
-        while start < k {
-            let i = code::ins_in(code, k - 1);
+        for k in (start..n).rev() {
+            let i = code::ins_in(code, k);
             let m = calm_of(i.op);
             if m < 16 {
-                changed = rows::put_calm(i, m, regs, rows, k - 1) | changed;
-                k -= 1;
+                changed = rows::put_calm(i, m, regs, rows, k) | changed;
                 continue;
             }
-            let step = steps::step_with(code, n, k - 1, i, m);
+            let step = steps::step_with(code, n, k, i, m);
             if steps::goes_before(step, start) {
-                rows::clear(rows);
+                W::clear(rows);
                 start = 0;
                 abandoned += 1;
                 continue 'again;
             }
-            changed = rows::put_word(step, regs, rows, k - 1) | changed;
-            back = steps::goes_before(step, k) | back;
-            k -= 1;
+            changed = rows::put_word(step, regs, rows, k) | changed;
+            back = steps::goes_before(step, k + 1) | back;
         }
         full += 1;
         if !(changed & back) {
@@ -125,22 +124,20 @@ fn live_word(code: &[u16], regs: usize, rows: &mut [u64]) -> Counts
 }
 
 // `live_across`: the rows from 0 on, in as many words each as the registers need.
-fn live_wide(code: &[u16], regs: usize, rows: &mut [u64], words: usize) -> Counts
-    requires { Valid code.now × (regs ≤ words * 64) × (words ≤ 16) × (length rows.old ≡ suc (count code.now) * words) }
-    ensures { Found (flow regs code.now) 0 (rows_of 64 words (suc (count code.now)) rows.new) result.full result.abandoned }
+fn live_wide<W: Word>(code: &[u16], regs: usize, rows: &mut [W], words: usize) -> Counts
+    requires { Valid code.now × (regs ≤ words * W.BITS) × (words ≤ W.WORDS) × (length rows.old ≡ suc (count code.now) * words) }
+    ensures { Found (flow regs code.now) 0 (rows_of W.BITS words (suc (count code.now)) (W.nums rows.new)) result.full result.abandoned }
 {
     let n = code.len() / 6;
     let mut full: u32 = 0;
-    rows::clear(rows);
+    W::clear(rows);
     loop {
         let mut changed = false;
         let mut back = false;
-        let mut k = n;
-        while 0 < k {
-            let s = steps::step_of(code, n, k - 1);
-            changed = rows::put_wide(s, regs, rows, n, words, k - 1) | changed;
-            back = steps::goes_before(s, k) | back;
-            k -= 1;
+        for k in (0..n).rev() {
+            let s = steps::step_of(code, n, k);
+            changed = rows::put_wide(s, regs, rows, n, words, k) | changed;
+            back = steps::goes_before(s, k + 1) | back;
         }
         full += 1;
         if !(changed & back) {
@@ -150,12 +147,12 @@ fn live_wide(code: &[u16], regs: usize, rows: &mut [u64], words: usize) -> Count
 }
 
 // The rows by the route that the register count asks for, or the wide one if forced.
-pub fn find_rows(code: &[u16], regs: usize, wide: bool, rows: &mut [u64]) -> Counts
-    requires { Valid code.now × (regs ≤ 1024) × (length rows.old ≡ suc (count code.now) * words_for 64 regs) }
-    ensures { Rows 64 wide regs code.now rows.new result.full result.abandoned }
+pub fn find_rows<W: Word>(code: &[u16], regs: usize, wide: bool, rows: &mut [W]) -> Counts
+    requires { Valid code.now × (regs ≤ 1024) × (length rows.old ≡ suc (count code.now) * words_for W.BITS regs) }
+    ensures { Rows W.BITS wide regs code.now (W.nums rows.new) result.full result.abandoned }
 {
-    if wide | (64 < regs) {
-        return live_wide(code, regs, rows, rows::words_for(regs));
+    if wide | (W::BITS < regs) {
+        return live_wide(code, regs, rows, rows::words_for::<W>(regs));
     }
     live_word(code, regs, rows)
 }

@@ -2,8 +2,9 @@
 use mathlib.Core.Path.{◌≡◌, refl, sym, ap, ◌∙◌, subst, subst⁻¹}
 use mathlib.Core.Bool.{Bool, true, false, cond, ◌||◌}
 use mathlib.Core.List.{List}
-use Prim.Native.Nat.{ℕ, suc, ◌+◌, ◌-◌, ◌*◌, ◌/◌, ◌≤◌, ◌<◌}
+use Prim.Native.Nat.{ℕ, suc, ◌+◌, ◌-◌, ◌*◌, ◌/◌, ◌%◌, ◌≤◌, ◌<◌, min, max}
 use native.Mathlib.Nat.{mul-one, mod-lt, div-add-mod', div-lt_iff_lt-mul, mul-le-mul_right, suc-mul}
+use native.Mathlib.Decide.{ℕ_discrete}
 use native.Mathlib.Omega.{arith}
 use borrow.Author.Tests.{ltb-false}
 use lib.Dec.{ltb}
@@ -18,6 +19,29 @@ use Rattle.steps.specs.Level.{first_level}
 use Rattle.steps.specs.Code.{flow}
 use Rattle.rows.specs.Route.{words_for, route_start}
 use Rattle.rows.specs.Inner.{Rows}
+
+-- a quotient rounded up
+ceil : (x y : ℕ) → 0 < y → x / y + min 1 (x % y) ≡ (x + (y - 1)) / y
+ceil x y some = go (ℕ_discrete (x % y) 0)
+  where
+    up : (c : ℕ) → x + (y - 1) < suc c * y → ¬ (x + (y - 1) < c * y) → c ≡ (x + (y - 1)) / y
+    up c a b =
+        let not_less : ¬ ((x + (y - 1)) / y < c) = λ h. b ((div-lt_iff_lt-mul {k = y} {x = x + (y - 1)} {y = c} some).0 h) in
+        omega (arith, (div-lt_iff_lt-mul {k = y} {x = x + (y - 1)} {y = suc c} some).1 a, not_less)
+
+    go : Dec (x % y ≡ 0) → x / y + min 1 (x % y) ≡ (x + (y - 1)) / y
+    go (yes e) = sum e ∙ up (x / y) (omega (arith, suc-mul (x / y) y, div-add-mod' x y)) (λ h. omega (arith, h, div-add-mod' x y))
+      where
+        sum : x % y ≡ 0 → x / y + min 1 (x % y) ≡ x / y
+        sum h = omega arith
+    go (no z) = sum z ∙ up (suc (x / y)) (omega (arith, suc-mul (suc (x / y)) y, suc-mul (x / y) y, div-add-mod' x y, mod-lt x some))
+        (λ h. omega (arith, h, suc-mul (x / y) y, div-add-mod' x y, z))
+      where
+        sum : (x % y ≡ 0 → ⊥) → x / y + min 1 (x % y) ≡ suc (x / y)
+        sum h = omega arith
+
+pub words_are : (bits regs d w m : ℕ) → 0 < bits → w ≡ bits → d ≡ regs / w + min 1 (regs % w) → m ≡ max d 1 → m ≡ words_for bits regs
+words_are bits regs d w m some ew ed em = omega (arith, ed ∙ ap (λ (y : ℕ). regs / y + min 1 (regs % y)) ew ∙ ceil regs bits some, em)
 
 -- as many words as hold the registers
 fill : (bits x y : ℕ) → 0 < bits → y ≡ (x + (bits - 1)) / bits → x ≤ y * bits

@@ -165,3 +165,10 @@ pub wide_step : {w : List ℕ} {regs full : ℕ} {rows₀ rows : List ℕ} {chan
     → {s : Step} → StepAt w (k - 1) s → 0 < k → {out : List ℕ} {changed' back' : Bool} → Put (step_flow regs s) rows (k - 1) out changed'
     → back' ≡ goes_before s k → Turn w regs 0 0 full 0 0 rows₀ out (changed' || changed) (back' || back) (k - 1)
 wide_step {w} {k = k} p h l put e = go_on p h l (below_zero (after_at w (k - 1))) put e
+
+-- a sweep counts k down before its step
+pub back_from : (s : Step) (k : ℕ) (b : Bool) → b ≡ goes_before s (k - 1 + 1) → 0 < k → b ≡ goes_before s k
+back_from s k b e l = rw up at e
+  where
+    up : k - 1 + 1 ≡ k
+    up = omega arith

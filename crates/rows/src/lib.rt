@@ -1,7 +1,7 @@
 // A row of live registers, found from the rows after it and stored, in one word and in several.
 #![tactic(auto)]
 
-ghost use Rattle.std.specs.Prelude.{◌≡◌, suc, ◌+◌, ◌*◌, ◌<◌, ◌≤◌, length, replicate};
+ghost use Rattle.std.specs.Prelude.{◌≡◌, suc, ◌+◌, ◌*◌, ◌<◌, ◌≤◌, length};
 ghost use Rattle.roles.specs.Sets.{only};
 ghost use Rattle.flow.specs.Flow.{joined, row_at};
 ghost use Rattle.flow.specs.Sweep.{row};
@@ -12,6 +12,7 @@ ghost use Rattle.steps.specs.Inner.{given_of, after_of, step_flow, calm_step};
 ghost use Rattle.rows.specs.Route.{words_for};
 
 use code::Ins;
+use sets::Word;
 use steps::Step;
 
 // How many sweeps there were: full ones, and ones left because a jump goes to before their start.
@@ -21,59 +22,53 @@ pub struct Counts {
     pub abandoned: u32,
 }
 
-// Every row is emptied.
-pub fn clear(rows: &mut [u64])
-    ensures { rows.new ≡ replicate (length rows.old) 0 }
-{
-    let mut i = 0;
-    while i < rows.len() {
-        rows[i] = 0;
-        i += 1;
-    }
-}
-
 // Row k, if.
-fn row_if(t: bool, rows: &[u64], k: usize) -> u64
+#[inline(always)]
+pub fn row_if<W: Word>(t: bool, rows: &[W], k: usize) -> W
     requires { k < length rows.now }
-    ensures { result ≡ joined (row rows.now) (only t k) }
+    ensures { W.num result ≡ joined (row (W.nums rows.now)) (only t k) }
 {
-    if t { rows[k] } else { 0 }
+    if t { rows[k] } else { W::none() }
 }
 
 // The rows after a step at k, together.
-fn after_word(s: Step, rows: &[u64], k: usize) -> u64
+#[inline(always)]
+fn after_word<W: Word>(s: Step, rows: &[W], k: usize) -> W
     requires { (k + 1 < length rows.now) × (s.target < length rows.now) }
-    ensures { result ≡ joined (row rows.now) (after_of s k) }
+    ensures { W.num result ≡ joined (row (W.nums rows.now)) (after_of s k) }
 {
-    row_if(s.on, rows, k + 1) | row_if(s.to, rows, s.target)
+    row_if(s.on, rows, k + 1).or(row_if(s.to, rows, s.target))
 }
 
 // What a step gives up.
-fn given_word(s: Step, regs: usize) -> u64
-    requires { regs ≤ 64 }
-    ensures { result ≡ set_of regs (given_of s) }
+#[inline(always)]
+fn given_word<W: Word>(s: Step, regs: usize) -> W
+    requires { regs ≤ W.BITS }
+    ensures { W.num result ≡ set_of regs (given_of s) }
 {
-    sets::named_word(regs, s.given, s.a, s.b, s.c) | sets::run_word(regs, s.b as usize, s.run)
+    let named: W = sets::named_word(regs, s.given, s.a, s.b, s.c);
+    named.or(sets::run_word(regs, s.b as usize, s.run))
 }
 
 // Row k, found from the rows as they are.
-fn row_word(s: Step, regs: usize, rows: &[u64], k: usize) -> u64
-    requires { (regs ≤ 64) × (k + 1 < length rows.now) × (s.target < length rows.now) }
-    ensures { result ≡ row_at (step_flow regs s) (row rows.now) k }
+#[inline(always)]
+pub fn row_word<W: Word>(s: Step, regs: usize, rows: &[W], k: usize) -> W
+    requires { (regs ≤ W.BITS) × (k + 1 < length rows.now) × (s.target < length rows.now) }
+    ensures { W.num result ≡ row_at (step_flow regs s) (row (W.nums rows.now)) k }
 {
     let set = after_word(s, rows, k);
     let gone = given_word(s, regs);
-    let used = sets::named_word(regs, s.used, s.a, s.b, s.c);
-    used | (set & !gone)
+    let used: W = sets::named_word(regs, s.used, s.a, s.b, s.c);
+    used.or(set.less(gone))
 }
 
 // Row k is found and stored: whether that changed it.
-pub fn put_word(s: Step, regs: usize, rows: &mut [u64], k: usize) -> bool
-    requires { (regs ≤ 64) × (k + 1 < length rows.old) × (s.target < length rows.old) }
-    ensures { Put (step_flow regs s) rows.old k rows.new result }
+pub fn put_word<W: Word>(s: Step, regs: usize, rows: &mut [W], k: usize) -> bool
+    requires { (regs ≤ W.BITS) × (k + 1 < length rows.old) × (s.target < length rows.old) }
+    ensures { Put (step_flow regs s) (W.nums rows.old) k (W.nums rows.new) result }
 {
     let set = row_word(s, regs, rows, k);
-    if rows[k] == set {
+    if rows[k].same(set) {
         return false;
     }
     rows[k] = set;
@@ -81,9 +76,9 @@ pub fn put_word(s: Step, regs: usize, rows: &mut [u64], k: usize) -> bool
 }
 
 // Row k is found and stored, where an instruction only reads and writes the registers that m tells; most write a and read b and c, which is 13.
-pub fn put_calm(i: Ins, m: u8, regs: usize, rows: &mut [u64], k: usize) -> bool
-    requires { (regs ≤ 64) × (k + 1 < length rows.old) }
-    ensures { Put (step_flow regs (calm_step i m)) rows.old k rows.new result }
+pub fn put_calm<W: Word>(i: Ins, m: u8, regs: usize, rows: &mut [W], k: usize) -> bool
+    requires { (regs ≤ W.BITS) × (k + 1 < length rows.old) }
+    ensures { Put (step_flow regs (calm_step i m)) (W.nums rows.old) k (W.nums rows.new) result }
 {
     if m == 13 {
         return put_word(steps::calm(i, 13), regs, rows, k);
@@ -92,39 +87,53 @@ pub fn put_calm(i: Ins, m: u8, regs: usize, rows: &mut [u64], k: usize) -> bool
 }
 
 // The rows after a step at k, together.
-fn after_wide(s: Step, rows: &[u64], n: usize, words: usize, k: usize) -> [u64; 16]
-    requires { (words ≤ 16) × (k < n) × (s.target ≤ n) × (suc n * words ≤ length rows.now) × Small 64 rows.now }
-    ensures { Holds 64 result (joined (row (rows_of 64 words (suc n) rows.now)) (after_of s k)) }
+fn after_wide<W: Word>(s: Step, rows: &[W], n: usize, words: usize, k: usize) -> W::Set
+    requires { (words ≤ W.WORDS) × (k < n) × (s.target ≤ n) × (suc n * words ≤ length rows.now) × Small W.BITS (W.nums rows.now) }
+    ensures { Holds W.BITS (W.words_of result) (joined (row (rows_of W.BITS words (suc n) (W.nums rows.now))) (after_of s k)) }
 {
-    let next = sets::join_if(s.on, [0u64; 16], rows, k + 1, words);
+    let next = sets::join_if(s.on, W::empty(), rows, k + 1, words);
     sets::join_if(s.to, next, rows, s.target, words)
 }
 
 // Row k, found from the rows as they are.
-pub fn row_wide(s: Step, regs: usize, rows: &[u64], n: usize, words: usize, k: usize) -> [u64; 16]
-    requires { (regs ≤ 1024) × (words ≤ 16) × (k < n) × (s.target ≤ n) × (suc n * words ≤ length rows.now) × Small 64 rows.now }
-    ensures { Holds 64 result (row_at (step_flow regs s) (row (rows_of 64 words (suc n) rows.now)) k) }
+pub fn row_wide<W: Word>(
+    s: Step,
+    regs: usize,
+    rows: &[W],
+    n: usize,
+    words: usize,
+    k: usize,
+) -> W::Set
+    requires { (regs ≤ 1024) × (words ≤ W.WORDS) × (k < n) × (s.target ≤ n) × (suc n * words ≤ length rows.now) × Small W.BITS (W.nums rows.now) }
+    ensures { Holds W.BITS (W.words_of result) (row_at (step_flow regs s) (row (rows_of W.BITS words (suc n) (W.nums rows.now))) k) }
 {
     let after = after_wide(s, rows, n, words, k);
-    let rest = sets::without_named(after, regs, s.given, s.a, s.b, s.c);
-    let left = sets::without_run(rest, regs, s.b as usize, s.run);
-    sets::with_named(left, regs, s.used, s.a, s.b, s.c)
+    let rest = sets::without_named::<W>(after, regs, s.given, s.a, s.b, s.c);
+    let left = sets::without_run::<W>(rest, regs, s.b as usize, s.run);
+    sets::with_named::<W>(left, regs, s.used, s.a, s.b, s.c)
 }
 
 // Row k is found and stored: whether that changed it.
-pub fn put_wide(s: Step, regs: usize, rows: &mut [u64], n: usize, words: usize, k: usize) -> bool
-    requires { (regs ≤ words * 64) × (words ≤ 16) × (k < n) × (s.target ≤ n) × (suc n * words ≤ length rows.old) }
-    ensures { Put (step_flow regs s) (rows_of 64 words (suc n) rows.old) k (rows_of 64 words (suc n) rows.new) result }
+pub fn put_wide<W: Word>(
+    s: Step,
+    regs: usize,
+    rows: &mut [W],
+    n: usize,
+    words: usize,
+    k: usize,
+) -> bool
+    requires { (regs ≤ words * W.BITS) × (words ≤ W.WORDS) × (k < n) × (s.target ≤ n) × (suc n * words ≤ length rows.old) }
+    ensures { Put (step_flow regs s) (rows_of W.BITS words (suc n) (W.nums rows.old)) k (rows_of W.BITS words (suc n) (W.nums rows.new)) result }
 {
+    W::bounded(rows);
     let set = row_wide(s, regs, rows, n, words, k);
     sets::store_row(rows, k * words, words, set)
 }
 
 // Words of a row.
-pub fn words_for(regs: usize) -> usize
+pub fn words_for<W: Word>(regs: usize) -> usize
     requires { regs ≤ 1024 }
-    ensures { result ≡ words_for 64 regs }
+    ensures { result ≡ words_for W.BITS regs }
 {
-    let words = (regs + 63) / 64;
-    if words < 1 { 1 } else { words }
+    regs.div_ceil(W::BITS).max(1)
 }

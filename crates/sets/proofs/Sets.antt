@@ -1,12 +1,12 @@
 -- Sets of registers put together, in one word of any width. Assumes nothing.
-use mathlib.Core.Path.{◌≡◌, refl, sym, ap, ◌∙◌}
-use mathlib.Core.Bool.{Bool, true, false, cond}
+use mathlib.Core.Path.{◌≡◌, refl, sym, ap, ap₂, ◌∙◌}
+use mathlib.Core.Bool.{Bool, true, false, cond, ◌&&◌, false≢true}
 use mathlib.Core.List.{List, [], ◌∷◌, ◌++◌}
-use Prim.Native.Nat.{ℕ, suc, ◌+◌, ◌-◌, ◌*◌, ◌%◌, ◌^◌, ◌≤◌, ◌<◌}
-use native.Mathlib.Nat.{one-mul, mod-eq_of_lt}
+use Prim.Native.Nat.{ℕ, zero, suc, ◌+◌, ◌-◌, ◌^◌, ◌≤◌, ◌<◌}
+use native.Mathlib.Nat.{add-zero}
 use native.Mathlib.Numerals.{add-one}
 use native.Mathlib.Omega.{arith}
-use borrow.Author.Tests.{ltb-true, lt-ltb, le-ltb}
+use borrow.Author.Tests.{ltb-true, ltb-false, lt-ltb, le-ltb}
 use lib.Bits.{bit_and, bit_or, or_zero_l, or_zero_r}
 use lib.Dec.{ltb}
 use lib.ListN.{get_or}
@@ -38,6 +38,9 @@ joined_append R (s ∷ l) m = ap (bit_or (R s)) (joined_append R l m) ∙ sym (o
 pub both : (R : ℕ → ℕ) (l m : List ℕ) (p q : ℕ) → p ≡ joined R l → q ≡ joined R m → bit_or p q ≡ joined R (l ++ m)
 both R l m p q e h = rw (e, h) (sym (joined_append R l m))
 
+pub both_of : (R : ℕ → ℕ) (l m : List ℕ) (x p q : ℕ) → x ≡ bit_or p q → p ≡ joined R l → q ≡ joined R m → x ≡ joined R (l ++ m)
+both_of R l m x p q h e f = h ∙ both R l m p q e f
+
 -- ---- one row, if
 
 module _ (rows : List ℕ) (t : Bool) (k : ℕ) where
@@ -64,17 +67,19 @@ module _ (regs r : ℕ) (t : Bool) where
   unfolding joined
   reg_none e = rw e
 
-  pub word_in : (bits : ℕ) → regs ≤ bits → t ≡ true → r < regs → (1 * 2 ^ r) % 2 ^ bits ≡ set_of regs (only t r)
-  word_in bits le e l = rw (reg_in e l, lt-ltb r regs l) (ap (λ (x : ℕ). x % 2 ^ bits) (one-mul (2 ^ r)) ∙ mod-eq_of_lt (pow-lt (less le l)))
-    where
-      less : regs ≤ bits → r < regs → r < bits
-      less a b = omega arith
+pub reg_both : (regs r : ℕ) (t : Bool) → t && ltb r regs ≡ true → (t ≡ true) × (r < regs)
+reg_both regs r true e = (refl, ltb-true r regs e)
+reg_both regs r false e = absurd (false≢true e)
 
-  pub word_past : t ≡ true → regs ≤ r → 0 ≡ set_of regs (only t r)
-  word_past e l = sym (reg_past e l)
+pub reg_is : (regs r : ℕ) (t : Bool) (x : ℕ) → t && ltb r regs ≡ true → x ≡ 2 ^ r → x ≡ set_of regs (only t r)
+reg_is regs r t x e h = let (p, l) = reg_both regs r t e in h ∙ sym (reg_in regs r t p l ∙ ap (λ (u : Bool). cond u (2 ^ r) 0) (lt-ltb r regs l))
 
-  pub word_none : t ≡ false → 0 ≡ set_of regs (only t r)
-  word_none e = sym (reg_none e)
+pub reg_not : (regs r : ℕ) (t : Bool) → t && ltb r regs ≡ false → set_of regs (only t r) ≡ 0
+reg_not regs r true e = reg_past regs r true refl (ltb-false r regs e)
+reg_not regs r false e = reg_none regs r false refl
+
+pub reg_else : (regs r : ℕ) (t : Bool) (x : ℕ) → t && ltb r regs ≡ false → x ≡ 0 → x ≡ set_of regs (only t r)
+reg_else regs r t x e h = h ∙ sym (reg_not regs r t e)
 
 -- a set fits the register count
 pub set_lt : (d regs : ℕ) (l : List ℕ) → regs ≤ d → set_of regs l < 2 ^ d
@@ -89,18 +94,20 @@ set_lt d regs l le = joined_lt d (alone regs) l (λ r. go r (ltb r regs) refl)
 
 -- ---- registers in a run
 
-pub from_next : (b run : ℕ) → (run ≡ 0 → ⊥) → (b ∷ []) ++ from (b + 1) (run - 1) ≡ from b run
-from_next b run n =
-    let e : run ≡ suc (run - 1) = omega arith in
-    rw (e, add-one b, ← e)
+pub from_more : (b i : ℕ) → from b (i + 1) ≡ from b i ++ ((b + i) ∷ [])
+from_more b i = ap (from b) (add-one i) ∙ go b i
+  where
+    go : (b i : ℕ) → from b (suc i) ≡ from b i ++ ((b + i) ∷ [])
+    go b zero = ap (λ (x : ℕ). x ∷ []) (sym (add-zero b))
+    go b (suc i) = ap (λ (l : List ℕ). b ∷ l) (go (suc b) i ∙ ap (λ (x : ℕ). from (suc b) i ++ (x ∷ [])) (omega arith))
 
-module _ (regs b run : ℕ) where
-  pub run_none : run ≡ 0 → 0 ≡ set_of regs (from b run)
+module _ (regs b : ℕ) where
+  pub run_start : (x : ℕ) → x ≡ 0 → x ≡ set_of regs (from b 0)
   unfolding joined
-  run_none e = rw e
+  run_start x e = e
 
-  pub run_more : (x y : ℕ) → (run ≡ 0 → ⊥) → x ≡ set_of regs (only true b) → y ≡ set_of regs (from (b + 1) (run - 1)) → bit_or x y ≡ set_of regs (from b run)
-  run_more x y n e h = both (alone regs) (b ∷ []) (from (b + 1) (run - 1)) x y e h ∙ ap (set_of regs) (from_next b run n)
+  pub run_more : (i x p q : ℕ) → x ≡ bit_or p q → p ≡ set_of regs (from b i) → q ≡ set_of regs (only true (b + i)) → x ≡ set_of regs (from b (i + 1))
+  run_more i x p q h e f = both_of (alone regs) (from b i) ((b + i) ∷ []) x p q h e f ∙ ap (set_of regs) (sym (from_more b i))
 
 -- ---- a row in one word
 
@@ -108,3 +115,9 @@ pub row_is : (bits regs k : ℕ) (s : Step) (rows : List ℕ) (a g u : ℕ) → 
     (used_of s)
     → a < 2 ^ bits → g < 2 ^ bits → bit_or u (bit_and a ((2 ^ bits - 1) - g)) ≡ row_at (step_flow regs s) (row rows) k
 row_is bits regs k s rows a g u = step_word (step_flow regs s) (row rows) k bits a g u refl
+
+-- the same, where the words are told by their sets
+pub row_told : (regs k : ℕ) (s : Step) (rows : List ℕ) (x a g u m : ℕ) → x ≡ bit_or u m → m ≡ minus a g → a ≡ joined (row rows) (after_of s k)
+    → g ≡ set_of regs (given_of s) → u ≡ set_of regs (used_of s) → x ≡ row_at (step_flow regs s) (row rows) k
+unfolding row_at
+row_told regs k s rows x a g u m ex em ea eg eu = ex ∙ ap₂ bit_or eu (em ∙ ap₂ minus ea eg)

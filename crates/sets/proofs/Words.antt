@@ -1,9 +1,10 @@
 -- The wide route's steps, over the width of a word and the words in hand: a set in words, and a row of a buffer. Assumes nothing.
 use mathlib.Core.Path.{◌≡◌, refl, sym, ap, ◌∙◌, subst}
-use mathlib.Core.Bool.{Bool, true, false, cond}
+use mathlib.Core.Bool.{Bool, true, false, cond, ◌&&◌}
 use mathlib.Core.List.{List, [], ◌∷◌, ◌++◌}
-use Prim.Native.Nat.{ℕ, suc, ◌+◌, ◌-◌, ◌*◌, ◌/◌, ◌%◌, ◌^◌, ◌≤◌, ◌<◌, zero-le}
+use Prim.Native.Nat.{ℕ, suc, ◌+◌, ◌*◌, ◌/◌, ◌%◌, ◌^◌, ◌≤◌, ◌<◌, zero-le}
 use native.Mathlib.Omega.{arith}
+use lib.Dec.{ltb}
 use lib.Bits.{bit_or, bit_and, bit_xor, or_zero_r, or_zero_l}
 use lib.ListN.{length, get_or, take, drop, set, replicate, length-set}
 use Rattle.roles.specs.Sets.{only, from}
@@ -20,7 +21,7 @@ use Rattle.flow.proofs.Fill.{Front, front_none, front_rest, front_more, joined_r
 use Rattle.steps.specs.Code.{set_of}
 use Rattle.steps.specs.Inner.{used_of, given_of, after_of, step_flow}
 use Rattle.steps.specs.declared.Step.{Step}
-use Rattle.sets.proofs.Sets.{or_assoc, minus_minus, joined_append, reg_in, reg_past, reg_none, set_lt, from_next}
+use Rattle.sets.proofs.Sets.{or_assoc, minus_minus, joined_append, reg_in, reg_not, set_lt, from_more}
 
 pub held : (bits : ℕ) (s : List ℕ) → Small bits s → Holds bits s (value bits s)
 held bits s h = record { small = h; is = refl }
@@ -142,12 +143,6 @@ module _ (bits : ℕ) (s : List ℕ) (regs r : ℕ) (t : Bool) (small : Small bi
   with_reg_in hand wide e l long room = as_set (with_in bits wide s (value bits s) regs r (held bits s small) (rw long room) l)
       (ap (bit_or (value bits s)) (sym (reg_in regs r t e l)))
 
-  pub with_reg_past : t ≡ true → regs ≤ r → Holds bits s (bit_or (value bits s) (set_of regs (only t r)))
-  with_reg_past e l = rw (reg_past regs r t e l) (more_none bits s small)
-
-  pub with_reg_none : t ≡ false → Holds bits s (bit_or (value bits s) (set_of regs (only t r)))
-  with_reg_none e = rw (reg_none regs r t e) (more_none bits s small)
-
   pub without_reg_in : (hand : ℕ) → 0 < bits → t ≡ true → r < regs → length s ≡ hand → regs ≤ hand * bits
       → Holds bits (set s (r / bits) (bit_xor (get_or s (r / bits) 0) (bit_and (get_or s (r / bits) 0) ((1 * 2 ^ (r % bits)) % 2 ^ bits))))
       (minus (value bits s) (set_of regs (only t r)))
@@ -155,13 +150,11 @@ module _ (bits : ℕ) (s : List ℕ) (regs r : ℕ) (t : Bool) (small : Small bi
   without_reg_in hand wide e l long room = as_set (without_in bits wide s (value bits s) regs r (held bits s small) (rw long room) l)
       (ap (minus (value bits s)) (sym (reg_in regs r t e l)))
 
-  pub without_reg_past : t ≡ true → regs ≤ r → Holds bits s (minus (value bits s) (set_of regs (only t r)))
-  without_reg_past e l = rw (reg_past regs r t e l) (less_none bits s small)
+  pub with_reg_not : t && ltb r regs ≡ false → Holds bits s (bit_or (value bits s) (set_of regs (only t r)))
+  with_reg_not e = rw (reg_not regs r t e) (more_none bits s small)
 
-  pub without_reg_none : t ≡ false → Holds bits s (minus (value bits s) (set_of regs (only t r)))
-  without_reg_none e = rw (reg_none regs r t e) (less_none bits s small)
-
-pub ruleset regs_of_lem = (with_reg_in, with_reg_past, with_reg_none, without_reg_in, without_reg_past, without_reg_none)
+  pub without_reg_not : t && ltb r regs ≡ false → Holds bits s (minus (value bits s) (set_of regs (only t r)))
+  without_reg_not e = rw (reg_not regs r t e) (less_none bits s small)
 
 -- one after the other
 module _ (bits : ℕ) (R : ℕ → ℕ) (x : ℕ) (p q : List ℕ) (l m : List ℕ) where
@@ -172,13 +165,13 @@ module _ (bits : ℕ) (R : ℕ → ℕ) (x : ℕ) (p q : List ℕ) (l m : List �
   fewer hp hq = as_set hq (ap (λ (y : ℕ). minus y (joined R m)) hp.is ∙ minus_minus x (joined R l) (joined R m) ∙ ap (minus x) (sym (joined_append R l m)))
 
 -- a run is taken off
-module _ (bits regs b run : ℕ) (s : List ℕ) where
-  pub none_off : run ≡ 0 → Small bits s → Holds bits s (minus (value bits s) (set_of regs (from b run)))
+module _ (bits regs b : ℕ) (s : List ℕ) where
+  pub off_start : Small bits s → Holds bits s (minus (value bits s) (set_of regs (from b 0)))
   unfolding joined
-  none_off e h = rw e (less_none bits s h)
+  off_start h = less_none bits s h
 
-  pub one_off : (rest out : List ℕ) → (run ≡ 0 → ⊥) → Holds bits rest (minus (value bits s) (set_of regs (only true b)))
-      → Holds bits out (minus (value bits rest) (set_of regs (from (b + 1) (run - 1)))) → Holds bits out (minus (value bits s) (set_of regs (from b run)))
-  one_off rest out n hr ho =
-      as_set (fewer bits (alone regs) (value bits s) rest out (b ∷ []) (from (b + 1) (run - 1)) hr ho) (ap (λ (l : List ℕ). minus (value bits s) (set_of regs l))
-      (from_next b run n))
+  pub off_more : (i : ℕ) (rest out : List ℕ) → Holds bits rest (minus (value bits s) (set_of regs (from b i)))
+      → Holds bits out (minus (value bits rest) (set_of regs (only true (b + i)))) → Holds bits out (minus (value bits s) (set_of regs (from b (i + 1))))
+  off_more i rest out hr ho =
+      as_set (fewer bits (alone regs) (value bits s) rest out (from b i) ((b + i) ∷ []) hr ho)
+      (ap (λ (l : List ℕ). minus (value bits s) (set_of regs l)) (sym (from_more b i)))

@@ -3,12 +3,15 @@ use mathlib.Core.Path.{◌≡◌, refl, sym, ap, ◌∙◌}
 use mathlib.Core.Bool.{Bool, true, false, cond, ◌&&◌, ◌||◌}
 use mathlib.Core.List.Memᴰ
 use mathlib.Core.List.{List, [], ◌∷◌, ◌++◌}
-use Prim.Native.Nat.{ℕ, suc, ◌+◌, ◌-◌, ◌^◌, ◌≤◌, ◌<◌}
+use Prim.Native.Nat.{ℕ, suc, ◌+◌, ◌-◌, ◌/◌, ◌%◌, ◌^◌, ◌≤◌, ◌<◌}
 use native.Mathlib.Omega.{arith}
-use borrow.Author.Tests.{le-ltb}
+use borrow.Author.Tests.{le-ltb, ne_eqb}
 use lib.Bits.{bit_or}
+use lib.Dec.{eqb}
 use lib.ListN.{length}
+use Rattle.ops.specs.Op.{ReturnR, Jump, UnpackR, WithEnter, WithExit}
 use Rattle.code.specs.Ins.{ins_at, count}
+use Rattle.code.specs.declared.Ins.{Ins}
 use Rattle.roles.specs.Sets.{only}
 use Rattle.flow.specs.Flow.{joined, onto}
 use Rattle.flow.specs.Sweep.{below, Found}
@@ -24,6 +27,13 @@ use Rattle.nested.specs.Raising.{stranded, raises_at, raising, mays}
 -- joined one by one is joined together
 pub onto_is : (R : ℕ → ℕ) (hs : List ℕ) (x : ℕ) → onto R x hs ≡ bit_or x (joined R hs)
 onto_is R hs x = bit_ext (onto R x hs) (bit_or x (joined R hs)) (λ r. onto_bit R r hs x ∙ sym (or_bit x (joined R hs) r))
+
+-- without the dunder mark nothing is stranded
+pub unmarked : (i : Ins) → (i.marks / 2 % 2 ≡ 1 → ⊥) → stranded i ≡ false
+unmarked i n = ap (λ (t : Bool). t && rest) (ne_eqb (i.marks / 2 % 2) 1 n)
+  where
+    rest : Bool
+    rest = let o = i.op in eqb o ReturnR || eqb o Jump || eqb o UnpackR || eqb o WithEnter || eqb o WithExit
 
 -- ---- handlers lie ahead, so no jump back is added
 

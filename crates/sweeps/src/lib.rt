@@ -11,7 +11,6 @@ use ops::*;
 pub fn stranded(i: Ins) -> bool
     ensures { result ≡ stranded_of i }
 {
-    let o = i.op;
     let dunder = i.marks / 2 % 2 == 1;
-    dunder & ((o == ReturnR) | (o == Jump) | (o == UnpackR) | (o == WithEnter) | (o == WithExit))
+    dunder & matches!(i.op, ReturnR | Jump | UnpackR | WithEnter | WithExit)
 }

@@ -1,11 +1,6 @@
 -- `far::row_raising` meets its contract. Assumes nothing.
-use borrow.Author.Rules.{rules}
-use Rattle.sets.proofs.Words.{fits}
 use Rattle.far.proofs.Sweeps.{holds_level, holds_plain}
 use Rattle.far.proofs.row_raising.Goals as goal
-
-pub join_if-next-requires : goal.join_if-next-requires
-join_if-next-requires c = search (rules, fits)
 
 pub returns-then-may : goal.returns-then-may
 returns-then-may c = search holds_level

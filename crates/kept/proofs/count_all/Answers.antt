@@ -4,13 +4,13 @@ use Rattle.kept.proofs.Passes.{summings}
 use Rattle.kept.proofs.count_all.Goals as goal
 
 pub loop-k-init : goal.loop-k-init
-loop-k-init c = search (rules, summings)
+loop-k-init g c = search (rules, summings)
 
 pub overflow_add-m : goal.overflow_add-m
-overflow_add-m c = search (rules, summings)
+overflow_add-m g c = search (rules, summings)
 
 pub loop-k-preserved : goal.loop-k-preserved
-loop-k-preserved c = search (rules, summings)
+loop-k-preserved g c = search (rules, summings)
 
 pub returns : goal.returns
-returns c = search (rules, summings)
+returns g c = search (rules, summings)

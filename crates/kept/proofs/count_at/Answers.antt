@@ -4,7 +4,7 @@ use Rattle.kept.proofs.Passes.{counted}
 use Rattle.kept.proofs.count_at.Goals as goal
 
 pub returns-then-level_at : goal.returns-then-level_at
-returns-then-level_at c = search (rules, counted)
+returns-then-level_at g c = search (rules, counted)
 
 pub returns : goal.returns
-returns c = search (rules, counted)
+returns g c = search (rules, counted)

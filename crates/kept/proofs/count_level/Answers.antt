@@ -4,4 +4,4 @@ use Rattle.kept.proofs.Levels.{levels}
 use Rattle.kept.proofs.count_level.Goals as goal
 
 pub returns : goal.returns
-returns c = search (rules, levels)
+returns g c = search (rules, levels)

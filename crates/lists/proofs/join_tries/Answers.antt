@@ -5,7 +5,7 @@ use Rattle.lists.proofs.join_tries.Goals as goal
 use Rattle.lists.proofs.join_tries.Goals.{then-around, else-around}
 
 pub loop-i-preserved : goal.loop-i-preserved
-loop-i-preserved c =
+loop-i-preserved g c =
     elim c.if-around.branch [
       | then-around w ↦ rw w.all-is (holding_more _ _ _ _ _ _ _ _ _ c.loop-i.invariant c.loop-i-test.true
           _ _ c.wide_of-s.ensures c.wide_of-h.ensures _ w.join_try-more.ensures)
@@ -14,7 +14,7 @@ loop-i-preserved c =
     ]
 
 pub returns : goal.returns
-returns c = holding_end _ _ _ _ _ _ _ _ _ c.loop-i.invariant c.loop-i-test.false
+returns g c = holding_end _ _ _ _ _ _ _ _ _ c.loop-i.invariant c.loop-i-test.false
 
 pub loop-i-init : goal.loop-i-init
-loop-i-init c = search (rules, holding_start)
+loop-i-init g c = search (rules, holding_start)

@@ -1,10 +1,6 @@
 -- `lists::less_row` meets its contract. Assumes nothing.
-use Prim.Native.Nat.{◌-◌}
 use Rattle.lists.proofs.Less.{Lessing}
 use Rattle.lists.proofs.less_row.Given as goal
 
 abbrev pub invariant-loop-j : goal.invariant-loop-j
-invariant-loop-j l = Lessing 16 l.rows l.less l.at l.words l.j l.out
-
-abbrev pub decreases-loop-j : goal.decreases-loop-j
-decreases-loop-j l = l.words - l.j
+invariant-loop-j g l = Lessing g.W.Word.WORDS (g.W.Word.nums l.rows) (g.W.Word.words_of l.less) l.at l.words l.j (g.W.Word.words_of l.out)

@@ -1,10 +1,6 @@
 -- `lists::list_set` meets its contract. Assumes nothing.
-use Prim.Native.Nat.{◌-◌}
 use Rattle.lists.proofs.Walks.{Listings}
 use Rattle.lists.proofs.list_set.Given as goal
 
 abbrev pub invariant-loop-j : goal.invariant-loop-j
-invariant-loop-j l = Listings 64 l.words l.set l.initial.out l.m l.out l.n l.j
-
-abbrev pub decreases-loop-j : goal.decreases-loop-j
-decreases-loop-j l = l.words - l.j
+invariant-loop-j g l = Listings g.W.Word.BITS l.words (g.W.Word.words_of l.set) l.initial.out l.m l.out l.n l.j

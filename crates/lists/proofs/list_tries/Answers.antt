@@ -5,7 +5,7 @@ use Rattle.lists.proofs.list_tries.Goals as goal
 use Rattle.lists.proofs.list_tries.Goals.{then-around, else-around}
 
 pub list_try-at-requires : goal.list_try-at-requires
-list_try-at-requires c = (
+list_try-at-requires g c = (
   search rules,
   search rules,
   search rules,
@@ -17,7 +17,7 @@ list_try-at-requires c = (
 )
 
 pub loop-i-preserved : goal.loop-i-preserved
-loop-i-preserved c =
+loop-i-preserved g c =
     elim c.if-around.branch [
       | then-around w ↦ rw (w.out-is, w.all-is, w.at-is) (keeping_more _ _ _ _ _ _ _ _ _ _ _ _ _ c.loop-i.invariant c.loop-i-test.true
           _ _ c.wide_of-s.ensures c.wide_of-h.ensures _ _ w.list_try-at.ensures _ w.join_try-more.ensures)
@@ -26,10 +26,10 @@ loop-i-preserved c =
     ]
 
 pub shape_of-out : goal.shape_of-out
-shape_of-out c = keeping_long _ _ _ _ _ _ _ _ _ _ _ _ _ c.loop-i.invariant
+shape_of-out g c = keeping_long _ _ _ _ _ _ _ _ _ _ _ _ _ c.loop-i.invariant
 
 pub returns : goal.returns
-returns c = keeping_end _ _ _ _ _ _ _ _ _ _ _ _ _ c.loop-i.invariant c.loop-i-test.false
+returns g c = keeping_end _ _ _ _ _ _ _ _ _ _ _ _ _ c.loop-i.invariant c.loop-i-test.false
 
 pub loop-i-init : goal.loop-i-init
-loop-i-init c = search (rules, keeping_start)
+loop-i-init g c = search (rules, keeping_start)

@@ -1,38 +1,31 @@
 -- `lists::list_word` meets its contract. Assumes nothing.
 use native.Mathlib.Omega.{arith}
-use lib.Count.{trailing_le}
-use Rattle.lists.proofs.Walks.{walked_start, walked_next, walked_one, walked_less, walked_end, walked_long}
+use mathlib.Core.Path.{sym, ◌∙◌}
+use borrow.Author.Tests.{eqb-true, eqb-false}
+use Rattle.lists.proofs.Walks.{walked_start, walked_next, walked_put, walked_falls, walked_end, walked_long}
 use Rattle.lists.proofs.list_word.Goals as goal
 
 pub loop-rest-init : goal.loop-rest-init
-loop-rest-init c = walked_start 64 c.args.base c.args.word c.args.out.now c.args.m c.ranges.word.fits c.requires.1
+loop-rest-init g c = walked_start _ _ _ _ _ c.requires.1 c.requires.2
 
 pub loop-rest-smaller : goal.loop-rest-smaller
-loop-rest-smaller c = walked_less c.loop-rest.invariant c.loop-rest-test.true
+loop-rest-smaller g c = walked_falls c.loop-rest.invariant (eqb-false _ _ (sym c.is_none.ensures ∙ c.loop-rest-test.true)) c.others-rest.ensures
 
 pub loop-rest-preserved : goal.loop-rest-preserved
-loop-rest-preserved c = walked_one c.loop-rest.invariant c.loop-rest-test.true
+loop-rest-preserved g c =
+    walked_put c.loop-rest.invariant (eqb-false _ _ (sym c.is_none.ensures ∙ c.loop-rest-test.true)) c.lowest.ensures c.others-rest.ensures
 
 pub shape_of-out : goal.shape_of-out
-shape_of-out c = walked_long c.loop-rest.invariant
+shape_of-out g c = walked_long c.loop-rest.invariant
 
 pub returns : goal.returns
-returns c = walked_end c.loop-rest.invariant c.loop-rest-test.false
-
-pub overflow_cast-out : goal.overflow_cast-out
-overflow_cast-out c = omega (arith, trailing_le 64 c.loop-rest.rest)
-
-pub overflow_add-out : goal.overflow_add-out
-overflow_add-out c = omega (arith, trailing_le 64 c.loop-rest.rest)
+returns g c = walked_end c.loop-rest.invariant (eqb-true _ _ (sym c.is_none.ensures ∙ c.loop-rest-test.false))
 
 pub offset_bounds-out-n : goal.offset_bounds-out-n
-offset_bounds-out-n c = omega (arith, walked_next c.loop-rest.invariant c.loop-rest-test.true)
+offset_bounds-out-n g c = omega (arith, walked_next c.loop-rest.invariant (eqb-false _ _ (sym c.is_none.ensures ∙ c.loop-rest-test.true)))
 
 pub bounds-out-n : goal.bounds-out-n
-bounds-out-n c = omega (arith, walked_next c.loop-rest.invariant c.loop-rest-test.true)
-
-pub overflow_sub-rest : goal.overflow_sub-rest
-overflow_sub-rest c = omega (arith, c.loop-rest-test.true)
+bounds-out-n g c = walked_next c.loop-rest.invariant (eqb-false _ _ (sym c.is_none.ensures ∙ c.loop-rest-test.true))
 
 pub overflow_add-n : goal.overflow_add-n
-overflow_add-n c = omega (arith, walked_next c.loop-rest.invariant c.loop-rest-test.true)
+overflow_add-n g c = omega (arith, walked_next c.loop-rest.invariant (eqb-false _ _ (sym c.is_none.ensures ∙ c.loop-rest-test.true)))

@@ -1,11 +1,6 @@
 -- `near::handlers_word` meets its contract. Assumes nothing.
-use Prim.Native.Nat.{◌+◌, ◌-◌, ◌<◌}
-use lib.ListN.{length}
 use Rattle.near.proofs.Near.{Joining}
 use Rattle.near.proofs.handlers_word.Given as goal
 
 abbrev pub invariant-loop-i : goal.invariant-loop-i
-invariant-loop-i l = Joining l.n l.k l.rows l.tries l.out l.i × (l.i + 1 < length l.tries)
-
-abbrev pub decreases-loop-i : goal.decreases-loop-i
-decreases-loop-i l = length l.tries - l.i
+invariant-loop-i l = Joining l.n l.k l.rows l.tries l.out l.i

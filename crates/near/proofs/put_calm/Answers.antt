@@ -1,5 +1,4 @@
 -- `near::put_calm` meets its contract. Assumes nothing.
-use borrow.Author.Rules.{rules}
 use mathlib.Core.Path.{◌≡◌, sym, ap, ◌∙◌, subst}
 use mathlib.Core.Bool.{Bool, cond, ◌||◌}
 use mathlib.Core.List.{List}
@@ -29,14 +28,5 @@ put_marked : (i : Ins) (m more regs k : ℕ) (all : Bool) (out : ℕ) (s : Step)
     → Put (more_step (cond (all || is_level i) out 0) regs (calm_step i m)) rows k new r
 put_marked i m more regs k all out s rows new r told e h x p = put_as i m 13 more _ regs k s rows new r e h (by_mark i m all out more told h x) p
 
-pub put_word-requires : goal.put_word-requires
-put_word-requires c = search (rules, no_target)
-
 pub returns-then-m-eq13 : goal.returns-then-m-eq13
 returns-then-m-eq13 c = search put_marked
-
-pub put_word-requires-2 : goal.put_word-requires-2
-put_word-requires-2 c = search (rules, no_target)
-
-pub returns : goal.returns
-returns c = search put_as

@@ -1,6 +1,6 @@
 -- `near::sweep_near` meets its contract: the loop is a sweep that has come down to k. Assumes nothing.
 use borrow.Author.Rules.{rules}
-use Rattle.near.proofs.Near.{coming_start, coming_calm, coming_step, coming_left, coming_through, known}
+use Rattle.near.proofs.Near.{coming_start, coming_calm, coming_step, coming_left, known}
 use Rattle.near.proofs.sweep_near.Goals as goal
 
 pub loop-k-preserved : goal.loop-k-preserved
@@ -21,6 +21,3 @@ loop-k-preserved-then-m-lt16 c = search coming_calm
 
 pub returns-then-goes_before : goal.returns-then-goes_before
 returns-then-goes_before c = search coming_left
-
-pub returns : goal.returns
-returns c = search coming_through

@@ -4,6 +4,3 @@ use Rattle.near.proofs.sweep_near.Given as goal
 
 abbrev pub invariant-loop-k : goal.invariant-loop-k
 invariant-loop-k l = Coming l.all l.out l.regs l.code l.start l.from l.low l.initial.rows l.rows l.changed l.back l.k
-
-abbrev pub decreases-loop-k : goal.decreases-loop-k
-decreases-loop-k l = l.k

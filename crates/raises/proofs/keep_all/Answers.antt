@@ -2,7 +2,7 @@
 use mathlib.Core.Path.{sym}
 use native.Mathlib.Omega.{arith}
 use Rattle.kept.proofs.Tests.{accepted_offsets, accepted_few}
-use Rattle.raises.proofs.Calls.{part_mul, part_fits, part_long, part_needs, ready, new_long, out_short, out_told}
+use Rattle.raises.proofs.Calls.{part_mul, part_fits, part_long, part_needs, ready, out_short, out_told}
 use Rattle.raises.proofs.keep_all.Goals as goal
 
 pub words_for-words-requires : goal.words_for-words-requires
@@ -35,14 +35,6 @@ count_all-total-requires c = ready _ _ _ c.args.rows.now
     c.words_for-words.ensures c.args.all _ _ _ c.find_raising-found.ensures c.find_raising-found.auto.rows
     (λ j. omega (arith, c.slice_known-4-1.given j))
 
-pub shape_of-rows-then-list-total : goal.shape_of-rows-then-list-total
-shape_of-rows-then-list-total c = new_long _ _ _ c.args.rows.now
-    c.args.offsets.now _
-    c.requires _
-    c.words_for-words.ensures
-    c.args.all _ _ _
-    c.find_raising-found.ensures c.find_raising-found.auto.rows
-
 pub returns-then-list-total : goal.returns-then-list-total
 returns-then-list-total c = out_short _ _ _ c.args.rows.now
     c.args.offsets.now _
@@ -67,18 +59,6 @@ each_call-requires c = (
   omega
       (arith, c.count_all-total.ensures.0, c.count_all-total.ensures.1),
 )
-
-pub shape_of-rows : goal.shape_of-rows
-shape_of-rows c = new_long _ _ _ c.args.rows.now
-    c.args.offsets.now _ c.requires _
-    c.words_for-words.ensures
-    c.args.all _ _ _ c.find_raising-found.ensures c.find_raising-found.auto.rows
-
-pub shape_of-offsets : goal.shape_of-offsets
-shape_of-offsets c = c.each_call.auto.offsets
-
-pub shape_of-list : goal.shape_of-list
-shape_of-list c = c.each_call.auto.list
 
 pub returns : goal.returns
 returns c = out_told _ _ _ c.args.rows.now c.args.offsets.now _ c.requires _ c.words_for-words.ensures c.args.all _ _ _

@@ -5,5 +5,5 @@ use Rattle.raises.proofs.kept_raising.Goals as goal
 pub keep_all-requires : goal.keep_all-requires
 keep_all-requires c = search go_on
 
-pub returns-in-No : goal.returns-in-No
-returns-in-No c = search go_no
+pub returns-in-Err : goal.returns-in-Err
+returns-in-Err c = search go_no

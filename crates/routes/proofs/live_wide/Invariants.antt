@@ -7,17 +7,15 @@ use Rattle.flow.specs.Words.{rows_of}
 use Rattle.rows.proofs.Sweeps.{Between, Turn, to_go}
 use Rattle.routes.proofs.live_wide.Given as goal
 
-abbrev pub invariant-loop-k : goal.invariant-loop-k
-invariant-loop-k l =
-    Turn l.code l.regs 0 0 l.full 0 0 (rows_of 64 l.words (suc (count l.code)) l.initial.rows) (rows_of 64 l.words (suc (count l.code)) l.rows) l.changed l.back l.k
+abbrev pub invariant-loop-k-2 : goal.invariant-loop-k-2
+invariant-loop-k-2 g l =
+    Turn l.code l.regs 0 0 l.full 0 0 (rows_of g.W.Word.BITS l.words (suc (count l.code)) (g.W.Word.nums l.initial.rows))
+    (rows_of g.W.Word.BITS l.words (suc (count l.code)) (g.W.Word.nums l.rows)) l.changed l.back l.k
     × (length l.rows ≡ suc (count l.code) * l.words)
 
+abbrev pub invariant-loop-k : goal.invariant-loop-k
+invariant-loop-k g l =
+    Between l.code l.regs 0 0 l.full 0 (rows_of g.W.Word.BITS l.words (suc (count l.code)) (g.W.Word.nums l.rows)) × (length l.rows ≡ suc (count l.code) * l.words)
+
 abbrev pub decreases-loop-k : goal.decreases-loop-k
-decreases-loop-k l = l.k
-
-abbrev pub invariant-loop-s : goal.invariant-loop-s
-invariant-loop-s l =
-    Between l.code l.regs 0 0 l.full 0 (rows_of 64 l.words (suc (count l.code)) l.rows) × (length l.rows ≡ suc (count l.code) * l.words)
-
-abbrev pub decreases-loop-s : goal.decreases-loop-s
-decreases-loop-s l = to_go l.code l.regs 0 l.full 0
+decreases-loop-k g l = to_go l.code l.regs 0 l.full 0

@@ -1,44 +1,62 @@
 -- `routes::live_word` meets its contract: the inner loop is a sweep that has come down to k, the outer a run between two sweeps. Assumes nothing.
 use borrow.Author.Rules.{rules}
+use mathlib.Core.Path.{sym, ap, ◌∙◌}
+use Prim.Native.Nat.{ℕ}
+use lib.ListN.{replicate}
+use native.Mathlib.Omega.{arith}
 use Rattle.rows.proofs.Sweeps.{word_starts, sweep_starts, known, calm_turn, word_step, left_few, left_again, left_less, whole_few}
-use Rattle.rows.proofs.Sweeps.{whole_found, whole_again, whole_less}
+use Rattle.rows.proofs.Sweeps.{whole_found, whole_again, whole_less, back_from}
 use Rattle.routes.proofs.live_word.Goals as goal
 
 pub calm_of-m-requires : goal.calm_of-m-requires
-calm_of-m-requires c = known c.loop-start.invariant (search rules) (search rules) c.ins_in-i.ensures
+calm_of-m-requires g c = known c.loop-k.invariant.0 (search rules) (search rules) c.ins_in-i.ensures
 
 pub overflow_add-abandoned : goal.overflow_add-abandoned
-overflow_add-abandoned c = record { fits = search left_few }
+overflow_add-abandoned g c = record {
+  fits = left_few c.loop-k.invariant.0
+      c.step_with-step.ensures (omega (arith, c.loop-k-test.true, c.loop-k.invariant.1)) c.goes_before.ensures c.if-goes_before.true;
+}
 
-pub loop-start-preserved : goal.loop-start-preserved
-loop-start-preserved c =
-    word_step c.loop-start.invariant
-    c.step_with-step.ensures c.loop-start-test.true c.goes_before.ensures
-    c.if-goes_before.false c.put_word-changed.ensures c.goes_before-back.ensures
+pub loop-k-preserved : goal.loop-k-preserved
+loop-k-preserved g c = (
+  word_step c.loop-k.invariant.0
+      c.step_with-step.ensures (omega (arith, c.loop-k-test.true, c.loop-k.invariant.1)) c.goes_before.ensures
+      c.if-goes_before.false c.put_word-changed.ensures (back_from c.step_with-step.result c.loop-k.k c.goes_before-back.result
+      c.goes_before-back.ensures (omega (arith, c.loop-k-test.true))),
+  c.loop-k.invariant.1,
+)
 
 pub overflow_add-full : goal.overflow_add-full
-overflow_add-full c = record { fits = whole_few c.loop-start.invariant c.loop-start-test.false }
+overflow_add-full g c = record { fits = whole_few c.loop-k.invariant.0 (omega (arith, c.loop-k-test.false, c.loop-k.invariant.1)) }
 
 pub returns-then-not-changed-back : goal.returns-then-not-changed-back
-returns-then-not-changed-back c = whole_found c.loop-start.invariant c.loop-start-test.false c.if-not-changed-back.true
+returns-then-not-changed-back g c =
+    whole_found c.loop-k.invariant.0 (omega (arith, c.loop-k-test.false, c.loop-k.invariant.1)) c.if-not-changed-back.true
 
 pub again-smaller : goal.again-smaller
-again-smaller c = whole_less c.loop-start.invariant c.loop-start-test.false c.if-not-changed-back.false
+again-smaller g c = whole_less c.loop-k.invariant.0 (omega (arith, c.loop-k-test.false, c.loop-k.invariant.1)) c.if-not-changed-back.false
 
 pub again-preserved : goal.again-preserved
-again-preserved c = whole_again c.loop-start.invariant c.loop-start-test.false c.if-not-changed-back.false
+again-preserved g c = whole_again c.loop-k.invariant.0 (omega (arith, c.loop-k-test.false, c.loop-k.invariant.1)) c.if-not-changed-back.false
 
 pub again-init : goal.again-init
-again-init c = search word_starts
+again-init g c = search word_starts
 
-pub loop-start-init : goal.loop-start-init
-loop-start-init c = search sweep_starts
+pub loop-k-init : goal.loop-k-init
+loop-k-init g c = search sweep_starts
 
-pub loop-start-preserved-then-m-lt16 : goal.loop-start-preserved-then-m-lt16
-loop-start-preserved-then-m-lt16 c = search calm_turn
+pub loop-k-preserved-then-m-lt16 : goal.loop-k-preserved-then-m-lt16
+loop-k-preserved-then-m-lt16 g c = (
+  calm_turn c.loop-k.invariant.0 c.ins_in-i.ensures c.calm_of-m.ensures (omega (arith, c.loop-k-test.true, c.loop-k.invariant.1))
+      c.if-m-lt16.true c.put_calm-changed.ensures,
+  c.loop-k.invariant.1,
+)
 
 pub again-smaller-then-goes_before : goal.again-smaller-then-goes_before
-again-smaller-then-goes_before c = search left_less
+again-smaller-then-goes_before g c = left_less c.loop-k.invariant.0
+    c.step_with-step.ensures (omega (arith, c.loop-k-test.true, c.loop-k.invariant.1)) c.goes_before.ensures c.if-goes_before.true
 
 pub again-preserved-then-goes_before : goal.again-preserved-then-goes_before
-again-preserved-then-goes_before c = search left_again
+again-preserved-then-goes_before g c = left_again c.loop-k.invariant.0
+    c.step_with-step.ensures (omega (arith, c.loop-k-test.true, c.loop-k.invariant.1)) c.goes_before.ensures c.if-goes_before.true
+    (c.clear-then-goes_before.ensures ∙ ap (λ (x : ℕ). replicate x 0) (sym (g.met.W.Word.numbered.long c.loop-k.rows)))

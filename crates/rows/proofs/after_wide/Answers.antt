@@ -1,13 +1,10 @@
 -- `rows::after_wide` meets its contract. Assumes nothing.
 use borrow.Author.Rules.{rules}
-use Rattle.sets.proofs.Words.{zeros_small, fits, after_holds}
+use Rattle.sets.proofs.Nums.{empty_small, after_read}
 use Rattle.rows.proofs.after_wide.Goals as goal
 
 pub join_if-next-requires : goal.join_if-next-requires
-join_if-next-requires c = search (rules, fits, zeros_small)
-
-pub join_if-requires : goal.join_if-requires
-join_if-requires c = search (rules, fits)
+join_if-next-requires g c = let x = g.met.W.Word.width in search (rules, empty_small)
 
 pub returns : goal.returns
-returns c = search (rules, after_holds)
+returns g c = let x = g.met.W.Word.width in search (rules, after_read)

@@ -1,6 +1,6 @@
 -- `rows::after_word` meets its contract. Assumes nothing.
-use Rattle.sets.proofs.Sets.{both}
+use Rattle.sets.proofs.Sets.{both_of}
 use Rattle.rows.proofs.after_word.Goals as goal
 
 pub returns : goal.returns
-returns c = search both
+returns g c = search both_of

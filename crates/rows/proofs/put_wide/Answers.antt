@@ -1,21 +1,14 @@
 -- `rows::put_wide` meets its contract. Assumes nothing.
 use borrow.Author.Rules.{rules}
-use Rattle.sets.proofs.Words.{fits, row_fits_here, put_is}
-use native.Mathlib.Omega.{arith}
-use Rattle.flow.specs.Words.{Small}
+use Rattle.sets.proofs.Nums.{within_set}
+use Rattle.sets.proofs.Words.{fits, put_is}
 use Rattle.rows.proofs.put_wide.Goals as goal
 
 pub row_wide-set-requires : goal.row_wide-set-requires
-row_wide-set-requires c = (search rules, search rules, search rules, search rules, search rules, λ j. omega (arith, c.slice_known-1.given j))
-
-pub returns : goal.returns
-returns c =
-    let small : Small 64 c.args.rows.now =
-    λ j. omega (arith, c.slice_known-1.given j) in
-    search (rules, put_is)
-
-pub overflow_mul-k : goal.overflow_mul-k
-overflow_mul-k c = omega (arith, row_fits_here _ _ _ _ c.requires.4 c.requires.2)
+row_wide-set-requires g c = let x = g.met.W.Word.width in search (rules, within_set)
 
 pub store_row-requires : goal.store_row-requires
-store_row-requires c = search (rules, fits)
+store_row-requires g c = search (rules, fits)
+
+pub returns : goal.returns
+returns g c = let x = g.met.W.Word.width.some in search (rules, put_is)

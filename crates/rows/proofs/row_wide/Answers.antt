@@ -1,7 +1,6 @@
 -- `rows::row_wide` meets its contract. Assumes nothing.
-use borrow.Author.Rules.{rules}
 use Rattle.sets.proofs.Words.{row_holds}
 use Rattle.rows.proofs.row_wide.Goals as goal
 
 pub returns : goal.returns
-returns c = search (rules, row_holds)
+returns g c = search row_holds

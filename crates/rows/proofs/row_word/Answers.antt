@@ -1,7 +1,6 @@
 -- `rows::row_word` meets its contract. Assumes nothing.
-use borrow.Author.Rules.{rules}
-use Rattle.sets.proofs.Sets.{row_is}
+use Rattle.sets.proofs.Sets.{row_told}
 use Rattle.rows.proofs.row_word.Goals as goal
 
 pub returns : goal.returns
-returns c = search (rules, row_is)
+returns g c = search row_told

@@ -1,12 +1,9 @@
 -- `sets::reg_word` meets its contract. Assumes nothing.
-use Rattle.sets.proofs.Sets.{word_in, word_past, word_none}
+use Rattle.sets.proofs.Sets.{reg_is, reg_else}
 use Rattle.sets.proofs.reg_word.Goals as goal
 
-pub returns-then-r-regs : goal.returns-then-r-regs
-returns-then-r-regs c = search (word_in, word_past, word_none)
+pub returns-then-t-r : goal.returns-then-t-r
+returns-then-t-r g c = search reg_is
 
-pub returns-then-t : goal.returns-then-t
-returns-then-t c = search (word_in, word_past, word_none)
-
-pub returns : goal.returns
-returns c = search (word_in, word_past, word_none)
+pub returns-else-t-r : goal.returns-else-t-r
+returns-else-t-r g c = search reg_else

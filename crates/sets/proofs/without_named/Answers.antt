@@ -3,4 +3,4 @@ use Rattle.sets.proofs.Words.{fewer}
 use Rattle.sets.proofs.without_named.Goals as goal
 
 pub returns : goal.returns
-returns c = search fewer
+returns g c = rw (← c.from.ensures, ← c.from-2.ensures, ← c.from-3.ensures) (search fewer)

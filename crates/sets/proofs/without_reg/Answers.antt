@@ -1,13 +1,13 @@
 -- `sets::without_reg` meets its contract. Assumes nothing.
 use borrow.Author.Rules.{rules}
-use Rattle.sets.proofs.Words.{regs_of_lem}
+use Rattle.sets.proofs.Nums.{without_put}
+use Rattle.sets.proofs.Words.{without_reg_not}
 use Rattle.sets.proofs.without_reg.Goals as goal
 
-pub returns-then-reg-regs : goal.returns-then-reg-regs
-returns-then-reg-regs c = search (rules, regs_of_lem)
+pub returns-then-t-reg : goal.returns-then-t-reg
+returns-then-t-reg g c =
+    without_put _ _ g.met.W.Word.width _ _ c.sized.ensures.1 c.sized.ensures.0 _ _ _ _ _ _ _ _ c.if-t-reg.true c.requires.0 c.BITS.ensures c.BITS-then-t-reg.ensures
+    c.bit.ensures c.word.ensures c.put.ensures c.less-word.ensures
 
-pub returns-then-t : goal.returns-then-t
-returns-then-t c = search (rules, regs_of_lem)
-
-pub returns : goal.returns
-returns c = search (rules, regs_of_lem)
+pub returns-else-t-reg : goal.returns-else-t-reg
+returns-else-t-reg g c = search (rules, without_reg_not)

@@ -1,6 +1,0 @@
--- `near::given_word` meets its contract. Assumes nothing.
-use Rattle.sets.proofs.Sets.{both}
-use Rattle.near.proofs.given_word.Goals as goal
-
-pub returns : goal.returns
-returns c = search both

@@ -1,6 +1,0 @@
--- `rows32::after_word` meets its contract. Assumes nothing.
-use Rattle.sets.proofs.Sets.{both}
-use Rattle.rows32.proofs.after_word.Goals as goal
-
-pub returns : goal.returns
-returns c = search both

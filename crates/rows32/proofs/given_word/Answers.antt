@@ -1,6 +1,0 @@
--- `rows32::given_word` meets its contract. Assumes nothing.
-use Rattle.sets.proofs.Sets.{both}
-use Rattle.rows32.proofs.given_word.Goals as goal
-
-pub returns : goal.returns
-returns c = search both

@@ -9,49 +9,52 @@ use borrow.Author.Tests.{lt-ltb, le-ltb, ltb-false}
 use lib.Dec.{ltb}
 use lib.ListN.{length, get_or, drop, set, length-drop}
 use lib.Seq.{sets, drop-cons}
-use Rattle.area.specs.Area.{pairs_of, entry_of, put_in, put_back, top_of}
+use Rattle.area.specs.Area.{pairs_of, entry_of, put_in, put_back, entry, top_of}
 use Rattle.area.specs.Inner.{StoreRoom, EntryStored}
-use Rattle.area.specs.declared.Top.TheVariants.{Entry, Bare}
+use Rattle.std.specs.declared.option.Option.{Option}
+use Rattle.std.specs.declared.option.Option.TheVariants.{Some, None}
+use Rattle.area.specs.declared.Entry.{Entry}
 
 -- ---- an entry is being stored
 
-pub record Storing (file l : List ℕ) (q : ℕ) (old : List ℕ) (at : ℕ) (out : List ℕ) (p i : ℕ) : Type 0 where
+pub record Storing (file l : List ℕ) (q : ℕ) (old : List ℕ) (at : ℕ) (out : List ℕ) (i : ℕ) : Type 0 where
   pub le : i ≤ length l
-  pub here : p ≡ at + 2 * i
   pub fit : StoreRoom at l
-  pub so : sets out p (pairs_of file (drop i l) ++ (length l ∷ q ∷ [])) ≡ sets old at (entry_of file l q)
+  pub so : sets out (at + 2 * i) (pairs_of file (drop i l) ++ (length l ∷ q ∷ [])) ≡ sets old at (entry_of file l q)
 
 module _ (file l : List ℕ) (q : ℕ) (old : List ℕ) (at : ℕ) where
-  pub storing_start : StoreRoom at l → Storing file l q old at old at 0
+  pub storing_start : StoreRoom at l → Storing file l q old at old 0
   unfolding entry_of
-  storing_start f = record { le = zero-le; here = omega arith; fit = f; so = refl }
+  storing_start f = record { le = zero-le; fit = f; so = rw here refl }
+    where
+      here : at + 2 * 0 ≡ at
+      here = omega arith
 
-  module _ (out : List ℕ) (p i : ℕ) (s : Storing file l q old at out p i) where
+  module _ (out : List ℕ) (i : ℕ) (s : Storing file l q old at out i) where
     pub storing_reg : i < length l → get_or l i 0 < 64
     storing_reg h = s.fit.below i h
 
-    pub storing_more : i < length l → (r : ℕ) → r ≡ get_or l i 0 → Storing file l q old at (set (set out p r) (p + 1) (get_or file r 0)) (p + 2) (i + 1)
+    pub storing_more : i < length l → (r : ℕ) → r ≡ get_or l i 0
+        → Storing file l q old at (set (set out (at + 2 * i) r) (at + 2 * i + 1) (get_or file r 0)) (i + 1)
     unfolding pairs_of
     storing_more h r e = record {
       le = omega arith;
-      here = omega (arith, s.here);
       fit = s.fit;
       so = step ∙ s.so;
     }
       where
-        abbrev_tail : List ℕ
-        abbrev_tail = length l ∷ q ∷ []
-
-        two : p + 2 ≡ suc (suc p)
+        two : at + 2 * (i + 1) ≡ suc (suc (at + 2 * i))
         two = omega arith
 
-        step : sets (set (set out p r) (p + 1) (get_or file r 0)) (p + 2) (pairs_of file (drop (i + 1) l) ++ (length l ∷ q ∷ [])) ≡ sets out p
-            (pairs_of file (drop i l) ++ (length l ∷ q ∷ []))
-        step = rw (e, add-one p, two, add-one i) (sym (ap (λ (x : List ℕ). sets out p (pairs_of file x ++ (length l ∷ q ∷ []))) (drop-cons l i 0 h)))
+        step : sets (set (set out (at + 2 * i) r) (at + 2 * i + 1) (get_or file r 0)) (at + 2 * (i + 1)) (pairs_of file (drop (i + 1) l) ++ (length l ∷ q ∷ []))
+            ≡ sets out (at + 2 * i) (pairs_of file (drop i l) ++ (length l ∷ q ∷ []))
+        step = rw (e, two, add-one (at + 2 * i), add-one i)
+            (sym (ap (λ (x : List ℕ). sets out (at + 2 * i) (pairs_of file x ++ (length l ∷ q ∷ []))) (drop-cons l i 0 h)))
 
-    pub storing_end : length l ≤ i → EntryStored at file l q old (set (set out p (length l)) (p + 1) q) (p + 2)
+    pub storing_end : length l ≤ i
+        → EntryStored at file l q old (set (set out (at + 2 * length l) (length l)) (at + 2 * length l + 1) q) (at + 2 * length l + 2)
     unfolding pairs_of
-    storing_end h = record { words = rw (add-one p) (last ∙ s.so); past = omega (arith, s.here, s.le) }
+    storing_end h = record { words = rw (add-one (at + 2 * length l)) (last ∙ s.so); past = omega arith }
       where
         none : drop i l ≡ []
         none = empty (drop i l) (omega (arith, length-drop i l))
@@ -60,57 +63,54 @@ module _ (file l : List ℕ) (q : ℕ) (old : List ℕ) (at : ℕ) where
             empty [] e = refl
             empty (x ∷ xs) e = absurd (omega arith)
 
-        last : set (set out p (length l)) (suc p) q ≡ sets out p (pairs_of file (drop i l) ++ (length l ∷ q ∷ []))
-        last = sym (ap (λ (x : List ℕ). sets out p (pairs_of file x ++ (length l ∷ q ∷ []))) none)
+        all : length l ≡ i
+        all = omega (arith, s.le)
+
+        last : set (set out (at + 2 * length l) (length l)) (suc (at + 2 * length l)) q ≡ sets out (at + 2 * i) (pairs_of file (drop i l) ++ (length l ∷ q ∷ []))
+        last = rw (none, ← all) refl
 
 pub ruleset storings = (storing_start, storing_more, storing_end, storing_reg)
 
 -- ---- the newest entry
 
 module _ (used : ℕ) (area : List ℕ) where
-  pub top_few : used < 2 → Bare ≡ top_of used area
+  pub top_few : used < 2 → ◌≡◌ {A = Option Entry} None (top_of used area)
   unfolding top_of
   top_few h = rw (lt-ltb used 2 h)
 
-  pub top_past : 2 ≤ used → 4096 < used → Bare ≡ top_of used area
+  pub top_past : 2 ≤ used → 4096 < used → ◌≡◌ {A = Option Entry} None (top_of used area)
   unfolding top_of
   top_past h k = rw (le-ltb used 2 h, lt-ltb 4096 used k)
 
   module _ (lo : 2 ≤ used) (hi : used ≤ 4096) (len : ℕ) (e : len ≡ get_or area (used - 2) 0) where
-    pub top_long : (used - 2) / 2 < len → Bare ≡ top_of used area
+    pub top_long : (used - 2) / 2 < len → ◌≡◌ {A = Option Entry} None (top_of used area)
     unfolding top_of
     top_long h = rw (le-ltb used 2 lo, le-ltb 4096 used hi, ← e, lt-ltb ((used - 2) / 2) len h)
 
-    pub top_found : len ≤ (used - 2) / 2 → Entry (used - 2 - 2 * len) len (get_or area (used - 2 + 1) 0) ≡ top_of used area
+    pub top_found : len ≤ (used - 2) / 2 → Some (entry (used - 2 - 2 * len) len (get_or area (used - 2 + 1) 0)) ≡ top_of used area
     unfolding top_of
     top_found h = rw (le-ltb used 2 lo, le-ltb 4096 used hi, ← e, le-ltb ((used - 2) / 2) len h)
 
 pub ruleset tops = (top_few, top_past, top_long, top_found)
 
 -- an entry that is found lies in the area
-pub top_within : (used : ℕ) (area : List ℕ) (base len q : ℕ) → Entry base len q ≡ top_of used area → base + 2 * len ≤ 4096
+pub top_within : (used : ℕ) (area : List ℕ) (e : Entry) → Some e ≡ top_of used area → e.base + 2 * e.len ≤ 4096
 unfolding top_of
-top_within used area base len q = go (ltb used 2) (ltb 4096 used) refl (ltb ((used - 2) / 2) (get_or area (used - 2) 0)) refl
+top_within used area t = go (ltb used 2) (ltb 4096 used) refl (ltb ((used - 2) / 2) (get_or area (used - 2) 0)) refl
   where
     go : (a b : Bool) → ltb 4096 used ≡ b → (c : Bool) → ltb ((used - 2) / 2) (get_or area (used - 2) 0) ≡ c
-        → Entry base len q ≡ cond a Bare
-        (cond b Bare (cond c Bare (Entry (used - 2 - 2 * get_or area (used - 2) 0) (get_or area (used - 2) 0) (get_or area (used - 2 + 1) 0))))
-        → base + 2 * len ≤ 4096
+        → Some t ≡ cond a None
+        (cond b None (cond c None (Some (entry (used - 2 - 2 * get_or area (used - 2) 0) (get_or area (used - 2) 0) (get_or area (used - 2 + 1) 0)))))
+        → t.base + 2 * t.len ≤ 4096
     go true b p c r e = let z : ◌≡◌ {A = ℕ} 0 1 = cc in absurd (omega arith)
     go false true p c r e = let z : ◌≡◌ {A = ℕ} 0 1 = cc in absurd (omega arith)
     go false false p true r e = let z : ◌≡◌ {A = ℕ} 0 1 = cc in absurd (omega arith)
     go false false p false r e =
-        let x : base ≡ used - 2 - 2 * get_or area (used - 2) 0 = cc in
-        let y : len ≡ get_or area (used - 2) 0 = cc in
+        let x : t.base ≡ used - 2 - 2 * get_or area (used - 2) 0 = cc in
+        let y : t.len ≡ get_or area (used - 2) 0 = cc in
         omega (arith, ltb-false 4096 used p, ltb-false ((used - 2) / 2) (get_or area (used - 2) 0) r)
 
 -- ---- registers put back
-
-pub in_yes : (regs r v : ℕ) (file : List ℕ) → r < regs → set file r v ≡ put_in regs r v file
-in_yes regs r v file h = sym (ap (λ (t : Bool). cond t (set file r v) file) (lt-ltb r regs h))
-
-pub in_no : (regs r v : ℕ) (file : List ℕ) → regs ≤ r → file ≡ put_in regs r v file
-in_no regs r v file h = sym (ap (λ (t : Bool). cond t (set file r v) file) (le-ltb r regs h))
 
 pub record Backing (regs : ℕ) (area : List ℕ) (base len : ℕ) (old file : List ℕ) (i : ℕ) : Type 0 where
   pub le : i ≤ len

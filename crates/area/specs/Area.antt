@@ -1,7 +1,8 @@
 -- The save area (document 02, wish 4): what an entry stores, the newest entry, registers put back. Assumes nothing.
 use Rattle.std.specs.Prelude.{ℕ, zero, suc, ◌+◌, ◌-◌, ◌*◌, ◌/◌, cond, List, [], ◌∷◌, ◌++◌, ltb, length, get_or, set}
-use Rattle.area.specs.declared.Top.{Top}
-use Rattle.area.specs.declared.Top.TheVariants.{Entry, Bare}
+use Rattle.std.specs.declared.option.Option.{Option}
+use Rattle.std.specs.declared.option.Option.TheVariants.{Some, None}
+use Rattle.area.specs.declared.Entry.{Entry}
 
 -- the area has 4,096 words
 abbrev pub free_of : ℕ → ℕ
@@ -29,12 +30,16 @@ unfoldable pub put_back : ℕ → List ℕ → ℕ → ℕ → List ℕ → List
 put_back regs area p zero file = file
 put_back regs area p (suc m) file = put_back regs area (suc (suc p)) m (put_in regs (get_or area p 0) (get_or area (suc p) 0) file)
 
+-- an entry by where it begins, its list's length and its result register
+abbrev pub entry : ℕ → ℕ → ℕ → Entry
+entry base len q = record { base = base; len = len; res = q }
+
 -- The newest entry ends where the words in use end: its list's length, then its result register. None where there are too few words.
-unfoldable pub top_of : ℕ → List ℕ → Top
+unfoldable pub top_of : ℕ → List ℕ → Option Entry
 top_of used area =
     let end = used - 2 in
     let len = get_or area end 0 in
-    cond (ltb used 2) Bare
-    (cond (ltb 4096 used) Bare
-    (cond (ltb (end / 2) len) Bare
-    (Entry (end - 2 * len) len (get_or area (end + 1) 0))))
+    cond (ltb used 2) None
+    (cond (ltb 4096 used) None
+    (cond (ltb (end / 2) len) None
+    (Some (entry (end - 2 * len) len (get_or area (end + 1) 0)))))

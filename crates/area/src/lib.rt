@@ -5,70 +5,67 @@ ghost use Rattle.std.specs.Prelude.{◌≡◌, ◌+◌, ◌*◌, ◌<◌, ◌≤
 ghost use Rattle.area.specs.Area.{free_of, put_in, put_back, top_of};
 ghost use Rattle.area.specs.Inner.{StoreRoom, EntryStored};
 
-// The newest entry of the area: where it begins, how long its list is, and its result register.
+// An entry of the area: where it begins, how long its list is, and its result register.
 #[derive(Clone, Copy)]
-pub enum Top {
-    Entry(usize, usize, u64),
-    Bare,
+pub struct Entry {
+    pub base: usize,
+    pub len: usize,
+    pub res: u64,
 }
 
 // The area's free words.
 pub fn free_of(used: usize) -> usize
     ensures { result ≡ free_of used }
 {
-    if used <= 4096 {
-        return 4096 - used;
-    }
-    0
+    4096_usize.saturating_sub(used)
 }
 
 // An entry is written from `at` on: the place past it.
+#[tactic(auto, using(crate::proofs::Calls::storings))]
 pub fn store(area: &mut [u64; 4096], at: usize, file: &[u64; 64], list: &[u16], res: u64) -> usize
     requires { StoreRoom at list.now }
     ensures { EntryStored at file.now list.now res area.old area.new result }
 {
-    let mut p = at;
-    let mut i = 0;
-    while i < list.len() {
-        let r = taken::wide(list[i]);
-        area[p] = r as u64;
-        area[p + 1] = file[r];
-        p += 2;
-        i += 1;
+    for (i, r) in list.iter().enumerate() {
+        let p = at + 2 * i;
+        area[p] = u64::from(*r);
+        area[p + 1] = file[usize::from(*r)];
     }
+    let p = at + 2 * list.len();
     area[p] = list.len() as u64;
     area[p + 1] = res;
     p + 2
 }
 
 // The newest entry, if there is one.
-pub fn top_of(area: &[u64; 4096], used: usize) -> Top
+#[tactic(auto, using(crate::proofs::Calls::tops))]
+pub fn top_of(area: &[u64; 4096], used: usize) -> Option<Entry>
     ensures { result ≡ top_of used area.now }
 {
-    if used < 2 {
-        return Top::Bare;
-    }
-    if 4096 < used {
-        return Top::Bare;
+    if used < 2 || 4096 < used {
+        return None;
     }
     let end = used - 2;
     let len = area[end] as usize;
     if end / 2 < len {
-        return Top::Bare;
+        return None;
     }
-    Top::Entry(end - 2 * len, len, area[end + 1])
+    Some(Entry {
+        base: end - 2 * len,
+        len,
+        res: area[end + 1],
+    })
 }
 
 // The registers of an entry are put back.
+#[tactic(auto, using(crate::proofs::Calls::backings))]
 pub fn put_back(area: &[u64; 4096], base: usize, len: usize, file: &mut [u64; 64], regs: usize)
     requires { (regs ≤ 64) × (base + 2 * len ≤ 4096) }
     ensures { file.new ≡ put_back regs area.now base len file.old }
 {
-    let mut i = 0;
-    while i < len {
+    for i in 0..len {
         let p = base + 2 * i;
         put_in(file, regs, area[p], area[p + 1]);
-        i += 1;
     }
 }
 

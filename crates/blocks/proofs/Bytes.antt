@@ -1,32 +1,12 @@
--- What the answers of slots, checks and fillers rest on. Assumes nothing.
+-- The sum of a check, as far as it is made. Assumes nothing.
 use mathlib.Core.Path.{◌≡◌, refl, ap}
-use mathlib.Core.Bool.{Bool, false, not, ◌&&◌}
 use mathlib.Core.List.{List}
-use Prim.Native.Nat.{ℕ, suc, ◌+◌, ◌-◌, ◌*◌, ◌/◌, ◌≤◌, ◌<◌, zero-le}
+use Prim.Native.Nat.{ℕ, suc, ◌+◌, ◌*◌, ◌≤◌, ◌<◌, zero-le}
 use native.Mathlib.Numerals.{add-one}
 use native.Mathlib.Nat.{mul-le-mul_right}
 use native.Mathlib.Omega.{arith}
-use borrow.Author.Tests.{le-ltb, eq-eqb, ne_eqb}
-use lib.Dec.{eqb}
-use lib.ListN.{length, get_or}
-use Rattle.blocks.specs.Blocks.{word_at, slot_at, filler_at, weighed, bad_check, follows}
-
--- ---- slots
-
-pub filler_is : (t : List ℕ) (s q : ℕ) → q ≡ slot_at t s → eqb q 4294967295 ≡ filler_at t s
-unfolding filler_at
-filler_is t s q e = ap (λ (x : ℕ). eqb x 4294967295) e
-
-module _ (t : List ℕ) (s : ℕ) where
-  pub follows_none : s ≡ 0 → false ≡ follows t s
-  unfolding follows
-  follows_none e = rw (eq-eqb s 0 e)
-
-  pub follows_is : (s ≡ 0 → ⊥) → (a b : Bool) → a ≡ filler_at t (s - 1) → b ≡ filler_at t s → a && not b ≡ follows t s
-  unfolding follows
-  follows_is n a b p q = rw (ne_eqb s 0 n, p, q)
-
--- ---- the check
+use lib.ListN.{get_or}
+use Rattle.blocks.specs.Blocks.{weighed}
 
 pub record Weighing (t : List ℕ) (at sum m : ℕ) : Type 0 where
   pub le : m ≤ 508
@@ -54,8 +34,3 @@ module _ (t : List ℕ) (at : ℕ) where
     weighing_end h = let q : m ≡ 508 = omega (arith, w.le) in rw q at w.so
 
 pub ruleset weighings = (weighing_start, weighing_more, weighing_end)
-
-pub check_is : (t : List ℕ) (b sum want : ℕ) → b < length t / 512 → sum ≡ weighed t (512 * b) 508 → want ≡ word_at t (512 * b + 508)
-    → not (eqb sum want) ≡ bad_check t b
-unfolding bad_check
-check_is t b sum want h p q = rw (le-ltb (length t - 512 * b) 512 (omega arith), p, q)

@@ -10,15 +10,12 @@ use lib.Dec.{eqb}
 use borrow.Author.Tests.{le-leb, lt-leb}
 use Rattle.ops.specs.Op.{StoreTopR, LoadGlobalR}
 use Rattle.code.specs.Ins.{ins_at}
-use Rattle.pushes.specs.declared.Place.{Place}
-use Rattle.pushes.specs.declared.Place.TheVariants.{At, Nowhere}
-use Rattle.pushes.specs.Pushes.{pushed_back}
+use Rattle.pushes.specs.Pushes.{Place, pushed_back}
 use Rattle.pushes.proofs.Falling.{pushed_falls}
 use Rattle.callee.specs.declared.Step.{Step}
 use Rattle.callee.specs.declared.Step.TheVariants.{Pass, Back, Tell}
-use Rattle.callee.specs.declared.Callee.{Callee}
-use Rattle.callee.specs.declared.Callee.TheVariants.{Bound, Unknown}
-use Rattle.callee.specs.Trace.{sets_it, passes_by, sent_back, says_at, heard, traced_by, traced}
+use Rattle.std.specs.declared.option.Option.TheVariants.{Some, None}
+use Rattle.callee.specs.Trace.{Callee, sets_it, passes_by, sent_back, says_at, heard, traced_by, traced}
 
 no_tell : {A : Type 0} (p : ℕ) (v : Callee) → Back p ≡ Tell v → A
 no_tell p v e = let y : ◌≡◌ {A = ℕ} 0 1 = cc in absurd (omega arith)
@@ -28,15 +25,15 @@ no_pass p e = let y : ◌≡◌ {A = ℕ} 0 1 = cc in absurd (omega arith)
 
 module _ (w : List ℕ) (d r p : ℕ) where
   sent_falls : (v : Place) → v ≡ pushed_back w d r → Back p ≡ sent_back v → p < d
-  sent_falls Nowhere f e = no_tell p Unknown e
-  sent_falls (At q) f e = let z : p ≡ q = cc in pushed_falls w d r p (rw z f)
+  sent_falls None f e = no_tell p None e
+  sent_falls (Some q) f e = let z : p ≡ q = cc in pushed_falls w d r p (rw z f)
 
   pub step_falls : Back p ≡ says_at w d r → p < d
   unfolding says_at
   step_falls = go (sets_it (ins_at w d) r) (eqb (ins_at w d).op StoreTopR) (eqb (ins_at w d).op LoadGlobalR) (passes_by (ins_at w d))
     where
       go : (s t l q : Bool)
-          → Back p ≡ cond s (cond t (sent_back (pushed_back w d r)) (cond l (Tell (Bound (ins_at w d).b)) (Tell Unknown))) (cond q Pass (Tell Unknown))
+          → Back p ≡ cond s (cond t (sent_back (pushed_back w d r)) (cond l (Tell (Some (ins_at w d).b)) (Tell None))) (cond q Pass (Tell None))
           → p < d
       go true true l q e = sent_falls (pushed_back w d r) refl e
       go true false true q e = no_tell p _ e
@@ -83,7 +80,7 @@ module _ (w : List ℕ) (a d : ℕ) (v : Callee) (h : 0 < d) (whole : traced w a
     pub within : (j : ℕ) → d ≤ j → p ≤ j
     within j b = omega (arith, falls)
 
-pub nothing : (w : List ℕ) (a d : ℕ) (v : Callee) → d ≤ 0 → traced w a d ≡ v → Unknown ≡ v
+pub nothing : (w : List ℕ) (a d : ℕ) (v : Callee) → d ≤ 0 → traced w a d ≡ v → None ≡ v
 unfolding traced traced_by
 nothing w a d v h e = let z : d ≡ 0 = omega arith in rw z at e
 

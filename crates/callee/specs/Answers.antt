@@ -4,14 +4,13 @@ use Rattle.code.specs.Check.{check_of}
 use Rattle.refusals.specs.Stages.{inside_of}
 use Rattle.refusals.specs.Answers.{asked, answer_of, refused_of}
 use Rattle.refusals.specs.declared.Answer.{Answer}
-use Rattle.callee.specs.Trace.{global_of}
-use Rattle.callee.specs.declared.Callee.{Callee}
-use Rattle.callee.specs.declared.Callee.TheVariants.{Bound, Unknown}
+use Rattle.callee.specs.Trace.{Callee, global_of}
+use Rattle.std.specs.declared.option.Option.TheVariants.{Some, None}
 
 -- 1, binding; or 0
 abbrev pub global_told : Callee → Answer
-global_told (Bound b) = answer_of 1 b 0 0
-global_told Unknown = answer_of 0 0 0 0
+global_told (Some b) = answer_of 1 b 0 0
+global_told None = answer_of 0 0 0 0
 
 -- 1, 2, 6
 unfoldable pub global_answer : List ℕ → ℕ → Answer

@@ -133,7 +133,7 @@ among_three x y z p u v r =
     ∙ ap₂ ◌||◌ (among_append p (only x u) (only y v) ∙ ap₂ ◌||◌ (among_only x p u) (among_only y p v)) (among_only z p r)
 
 -- three registers are counted, each once
-pub three_counts : (regs : ℕ) (x y z : Bool) (u v r : ℕ) (l l₁ l₂ l₃ : List ℕ)
+three_counts : (regs : ℕ) (x y z : Bool) (u v r : ℕ) (l l₁ l₂ l₃ : List ℕ)
     → CountedOnce regs l l₁ x u
     → CountedOnce regs l₁ l₂ (y && not (x && eqb v u)) v
     → CountedOnce regs l₂ l₃ ((z && not (x && eqb r u)) && not (y && eqb r v)) r
@@ -164,7 +164,7 @@ three_counts regs x y z u v r l l₁ l₂ l₃ b₁ b₂ b₃ = record {
     third : (p : ℕ) → ((z && not (X r)) && not (Y r)) && eqb p r ≡ (Z p && not (X p)) && not (Y p)
     third p = own (z && not (X r)) Y p r ∙ ap (λ (t : Bool). t && not (Y p)) (own z X p r)
 
-pub step_counts : (regs : ℕ) (w : List ℕ) (k : ℕ) (s : Step) → StepAt w k s → (u v r : ℕ) → u ≡ s.a → v ≡ s.b → r ≡ s.c → (l l' : List ℕ)
+step_counts : (regs : ℕ) (w : List ℕ) (k : ℕ) (s : Step) → StepAt w k s → (u v r : ℕ) → u ≡ s.a → v ≡ s.b → r ≡ s.c → (l l' : List ℕ)
     → Thrice regs l l' (eqb (s.used / 2 % 2) 1) u (eqb (s.used / 4 % 2) 1) v (eqb (s.used / 8 % 2) 1) r → Stepped regs l l' w k
 step_counts regs w k s at u v r eu ev er l l' d = record {
   held = d.held;
@@ -173,6 +173,15 @@ step_counts regs w k s at u v r eu ev er l l' d = record {
   where
     all : (p : ℕ) → among p (used_at w k) ≡ (eqb (s.used / 2 % 2) 1 && eqb p u) || (eqb (s.used / 4 % 2) 1 && eqb p v) || (eqb (s.used / 8 % 2) 1 && eqb p r)
     all p = ap (among p) (sym at.used) ∙ among_three (has a s.used) (has b s.used) (has c s.used) p s.a s.b s.c ∙ rw (eu, ev, er)
+
+-- the registers of a step, counted one after the other
+pub step_counted : (regs : ℕ) (w : List ℕ) (k : ℕ) (s : Step) → StepAt w k s → (u v r : ℕ) → u ≡ s.a → v ≡ s.b → r ≡ s.c → (l l₁ l₂ l₃ : List ℕ)
+    → CountedOnce regs l l₁ (eqb (s.used / 2 % 2) 1) u
+    → CountedOnce regs l₁ l₂ (eqb (s.used / 4 % 2) 1 && not (eqb (s.used / 2 % 2) 1 && eqb v u)) v
+    → CountedOnce regs l₂ l₃ ((eqb (s.used / 8 % 2) 1 && not (eqb (s.used / 2 % 2) 1 && eqb r u)) && not (eqb (s.used / 4 % 2) 1 && eqb r v)) r
+    → Stepped regs l l₃ w k
+step_counted regs w k s at u v r eu ev er l l₁ l₂ l₃ b₁ b₂ b₃ = step_counts regs w k s at u v r eu ev er l l₃
+    (three_counts regs (eqb (s.used / 2 % 2) 1) (eqb (s.used / 4 % 2) 1) (eqb (s.used / 8 % 2) 1) u v r l l₁ l₂ l₃ b₁ b₂ b₃)
 
 -- ---- all steps
 

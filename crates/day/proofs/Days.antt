@@ -12,18 +12,17 @@ use Rattle.code.specs.Ins.{count}
 use Rattle.code.specs.Check.{check_of}
 use Rattle.refusals.specs.Stages.{registers_of, tried_of, room_of}
 use Rattle.code.specs.Inner.{Valid, Whole}
-use Rattle.refusals.specs.declared.Checked.{Checked}
-use Rattle.refusals.specs.declared.Checked.TheVariants as stage
+use Rattle.refusals.specs.Stages.{Checked}
+use Rattle.std.specs.declared.result.Result.TheVariants.{Ok, Err}
 use Rattle.refusals.specs.declared.Refusal.{Refusal}
 use Rattle.code.proofs.Checks.{counted, checked}
 use Rattle.refusals.proofs.Stages.{regs_before, tries_before, room_before, room_there}
 use Rattle.blocks.specs.Blocks.{slot_at, filler_at, steps_of}
-use Rattle.trace.specs.Trace.{verdict_of, Recorded}
+use Rattle.trace.specs.Trace.{Verdict, Fine, verdict_of, Recorded}
 use Rattle.day.specs.Inner.{Tallied, Walkable}
-use Rattle.day.specs.Day.{replay_stages, Day, refused, check, filler, move, told}
-use Rattle.trace.specs.declared.Verdict.{Verdict}
-use Rattle.trace.specs.declared.Verdict.TheVariants as found
-use Rattle.day.specs.declared.DayAnswer.TheVariants.{Is, No, Check, Filler, Move}
+use Rattle.day.specs.Day.{replay_stages, Day, refused, wrong, told}
+use Rattle.trace.specs.declared.Wrong.{Wrong}
+use Rattle.day.specs.declared.DayRefusal.TheVariants.{Call, Trace}
 use Rattle.trace.proofs.Runs.{fine_recorded}
 
 -- ---- the first filler
@@ -43,15 +42,15 @@ before_first f (suc m) k j lo hi = go (f k) refl hi (λ a b. before_first f m (s
 
 -- ---- the tests
 
-module _ (w : List ℕ) (regs : ℕ) (tries : List ℕ) (a n : ℕ) (h : replay_stages w regs tries a ≡ stage.Count n) where
-  all : stage.Count n ≡ room_of (tried_of (registers_of (check_of w) regs) tries) 1 a regs
+module _ (w : List ℕ) (regs : ℕ) (tries : List ℕ) (a n : ℕ) (h : replay_stages w regs tries a ≡ Ok n) where
+  all : Ok n ≡ room_of (tried_of (registers_of (check_of w) regs) tries) 1 a regs
   unfolding replay_stages
   all = sym h
 
-  four : tried_of (registers_of (check_of w) regs) tries ≡ stage.Count n
+  four : tried_of (registers_of (check_of w) regs) tries ≡ Ok n
   four = room_before n (tried_of (registers_of (check_of w) regs) tries) 1 a regs all
 
-  one : check_of w ≡ stage.Count n
+  one : check_of w ≡ Ok n
   one = regs_before n (check_of w) regs (sym (tries_before n (registers_of (check_of w) regs) tries (sym four)))
 
   pub day_room : regs ≤ a
@@ -60,45 +59,27 @@ module _ (w : List ℕ) (regs : ℕ) (tries : List ℕ) (a n : ℕ) (h : replay_
   pub day_valid : Valid w
   day_valid = checked w n (sym one)
 
-  pub day_count : replay_stages w regs tries a ≡ stage.Count (count w)
-  day_count = h ∙ ap stage.Count (counted w n (sym one))
+  pub day_count : replay_stages w regs tries a ≡ Ok (count w)
+  day_count = h ∙ ap Ok (counted w n (sym one))
 
-pub day_whole : (w : List ℕ) (regs : ℕ) (tries : List ℕ) (a n : ℕ) → replay_stages w regs tries a ≡ stage.Count n → Whole w
-day_whole w regs tries a n h = (day_valid w regs tries a n h).whole
+module _ (w : List ℕ) (regs : ℕ) (tries : List ℕ) (a n : ℕ) (ok : ◌≡◌ {A = Checked} (Ok n) (replay_stages w regs tries a)) where
+  pub day_whole : Whole w
+  day_whole = (day_valid w regs tries a n (sym ok)).whole
 
-module _ (w : List ℕ) (regs : ℕ) (tries t old : List ℕ) (c v u s : Checked) (e : c ≡ check_of w) (f : v ≡ registers_of c regs) (g : u ≡ tried_of v tries)
-    (k : s ≡ room_of u 1 (length old) regs) where
-  chain : s ≡ replay_stages w regs tries (length old)
-  unfolding replay_stages
-  chain = k ∙ ap (λ (x : Checked). room_of x 1 (length old) regs) (g ∙ ap (λ (x : Checked). tried_of x tries) (f ∙ ap (λ (x : Checked). registers_of x regs) e))
+  pub day_fits : regs ≤ a
+  day_fits = day_room w regs tries a n (sym ok)
 
-  pub day_no : (r : Refusal) → s ≡ stage.No r → Day w regs tries t old old (No r)
-  day_no r h = refused (sym chain ∙ h)
+module _ (w : List ℕ) (regs : ℕ) (tries t old : List ℕ) where
+  pub day_no : (r : Refusal) → ◌≡◌ {A = Checked} (Err r) (replay_stages w regs tries (length old)) → Day w regs tries t old old (Err (Call r))
+  day_no r h = refused (sym h)
 
-pub day_on : (w : List ℕ) (regs : ℕ) (tries : List ℕ) (a : ℕ) (c v u s : Checked) → c ≡ check_of w → v ≡ registers_of c regs → u ≡ tried_of v tries
-    → s ≡ room_of u 1 a regs → (n : ℕ) → s ≡ stage.Count n
-    → replay_stages w regs tries a ≡ stage.Count (count w)
-unfolding replay_stages
-day_on w regs tries a c v u s e f g k n h =
-    day_count w regs tries a n
-    (sym (k ∙ ap (λ (x : Checked). room_of x 1 a regs) (g ∙ ap (λ (x : Checked). tried_of x tries) (f ∙ ap (λ (x : Checked). registers_of x regs) e))) ∙ h)
+  module _ (n : ℕ) (ok : ◌≡◌ {A = Checked} (Ok n) (replay_stages w regs tries (length old))) where
+    pub day_wrong : (x : Wrong) → ◌≡◌ {A = Verdict} (Err x) (verdict_of w tries t) → Day w regs tries t old old (Err (Trace x))
+    day_wrong x h = wrong (day_count w regs tries (length old) n (sym ok)) (sym h)
 
--- ---- the trace
-
-module _ (w : List ℕ) (regs : ℕ) (tries t old : List ℕ) (ok : replay_stages w regs tries (length old) ≡ stage.Count (count w)) (v : Verdict)
-    (e : v ≡ verdict_of w tries t) where
-  pub day_check : (b : ℕ) → v ≡ found.Check b → Day w regs tries t old old (Check b)
-  day_check b h = check ok (sym e ∙ h)
-
-  pub day_filler : (b : ℕ) → v ≡ found.Filler b → Day w regs tries t old old (Filler b)
-  day_filler b h = filler ok (sym e ∙ h)
-
-  pub day_move : (s : ℕ) → v ≡ found.Move s → Day w regs tries t old old (Move s)
-  day_move s h = move ok (sym e ∙ h)
-
-  pub day_told_lem : v ≡ found.Fine → (m : ℕ) → m ≡ steps_of t → (new : List ℕ) (levels : ℕ) → Tallied w t regs old m new levels
-      → Day w regs tries t old new (Is m levels)
-  day_told_lem h m p new levels d = rw (d.reads, d.met, p) (told ok (sym e ∙ h))
+    module _ (h : ◌≡◌ {A = Verdict} Fine (verdict_of w tries t)) (m : ℕ) (p : m ≡ steps_of t) where
+      pub day_told_lem : (new : List ℕ) (levels : ℕ) → Tallied w t regs old m new levels → Day w regs tries t old new (Ok (m, levels))
+      day_told_lem new levels d = rw (d.reads, d.met, p) (told (day_count w regs tries (length old) n (sym ok)) (sym h))
 
 -- every step of a recorded run is a position of the code
 pub steps_below : (w tries t : List ℕ) → Recorded w tries t → (s : ℕ) → s < steps_of t → slot_at t s < count w
@@ -106,19 +87,17 @@ unfolding steps_of
 steps_below w tries t r s l = r.below s (omega (arith, first_le (filler_at t) (127 * (length t / 512)) 0))
     (before_first (filler_at t) (127 * (length t / 512)) 0 s zero-le (omega arith))
 
-pub day_walk : (w : List ℕ) (regs : ℕ) (tries t : List ℕ) (a : ℕ) → replay_stages w regs tries a ≡ stage.Count (count w) → (v : Verdict)
-    → v ≡ verdict_of w tries t
-    → v ≡ found.Fine → (m : ℕ) → m ≡ steps_of t
-    → length t < 18446744073709551616 → Walkable w t m
-unfolding steps_of
-day_walk w regs tries t a ok v e h m p short = record {
-  whole = day_whole w regs tries a (count w) ok;
-  long = long;
-  few = omega (arith, long);
-  below = λ s l. steps_below w tries t (fine_recorded w tries t (sym e ∙ h)) s (omega arith);
-}
-  where
-    long : m ≤ 127 * (length t / 512)
-    long = omega (arith, first_le (filler_at t) (127 * (length t / 512)) 0)
+module _ (w : List ℕ) (regs : ℕ) (tries t : List ℕ) (a n : ℕ) (ok : ◌≡◌ {A = Checked} (Ok n) (replay_stages w regs tries a)) where
+  pub day_walk : ◌≡◌ {A = Verdict} Fine (verdict_of w tries t) → (m : ℕ) → m ≡ steps_of t → length t < 18446744073709551616 → Walkable w t m
+  unfolding steps_of
+  day_walk h m p short = record {
+    whole = day_whole w regs tries a n ok;
+    long = long;
+    few = omega (arith, long);
+    below = λ s l. steps_below w tries t (fine_recorded w tries t (sym h)) s (omega arith);
+  }
+    where
+      long : m ≤ 127 * (length t / 512)
+      long = omega (arith, first_le (filler_at t) (127 * (length t / 512)) 0)
 
-pub ruleset days = (day_no, day_check, day_filler, day_move, day_told_lem)
+pub ruleset days = (day_no, day_whole, day_fits, day_wrong, day_told_lem, day_walk)

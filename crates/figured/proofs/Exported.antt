@@ -16,8 +16,12 @@ use Rattle.figures.specs.Figures.{body_of, body_figures}
 use Rattle.figures.specs.Answers.{figures_in, report_words, report_written, Reports, reports, reported_of, added_of, add_call, join_call}
 use Rattle.figures.specs.Month.{Body, met_from, report_of, HoldsReport}
 use Rattle.groups.specs.declared.Figures.{Figures}
-use Rattle.groups.specs.declared.FiguresAnswer.{FiguresAnswer}
-use Rattle.groups.specs.declared.FiguresAnswer.TheVariants.{Is, No, Offsets, Over}
+use Rattle.std.specs.declared.result.Result.TheVariants.{Ok, Err}
+use Rattle.groups.specs.Groups.{FiguresAnswer}
+use Rattle.groups.specs.Answers.{figures_refused}
+use Rattle.groups.specs.declared.FiguresRefusal.{FiguresRefusal}
+use Rattle.groups.specs.declared.FiguresRefusal.TheVariants.{Call, Offsets, Over}
+use Rattle.groups.specs.declared.Total.TheVariants.{Bodies, Levels, Kept, Body as BodyNumber}
 use Rattle.figures.proofs.Month.{months, added, body_is}
 use Rattle.answers.proofs.Answered.{never_0}
 
@@ -31,21 +35,26 @@ read_back f old e = ap figures_in (sets-eq (report_words f) old 0 (omega arith))
     truth true = refl
     truth false = refl
 
+-- no refusal has number 0
+never_none : (q : FiguresRefusal) → (figures_refused q).refusal ≡ 0 → ⊥
+never_none (Call r) h = never_0 r h
+never_none (Offsets k) h = omega arith
+never_none (Over Bodies) h = omega arith
+never_none (Over Levels) h = omega arith
+never_none (Over Kept) h = omega arith
+never_none (Over BodyNumber) h = omega arith
+
 -- an answer wrote new figures, a refusal nothing
 answered : (a b : ℕ) (old : List ℕ) (v : FiguresAnswer) (new : List ℕ) (r : Answer) → reported_of a b old v ≡ reports new r → r.refusal ≡ 0
-    → (f : Figures) × (v ≡ Is f) × (new ≡ report_written f old) × (r ≡ answer_of a b f.kept f.levels)
+    → (f : Figures) × (v ≡ Ok f) × (new ≡ report_written f old) × (r ≡ answer_of a b f.kept f.levels)
 unfolding reported_of
-answered a b old (Is f) new r e h = (f, refl, ap (λ (x : Reports). x.report) (sym e), ap (λ (x : Reports). x.answer) (sym e))
-answered a b old (No q) new r e h = absurd (never_0 q (ap (λ (x : Reports). x.answer.refusal) e ∙ h))
-answered a b old (Offsets k) new r e h = let z : ◌≡◌ {A = ℕ} 15 0 = ap (λ (x : Reports). x.answer.refusal) e ∙ h in absurd (omega arith)
-answered a b old (Over n) new r e h = let z : ◌≡◌ {A = ℕ} 13 0 = ap (λ (x : Reports). x.answer.refusal) e ∙ h in absurd (omega arith)
+answered a b old (Ok f) new r e h = (f, refl, ap (λ (x : Reports). x.report) (sym e), ap (λ (x : Reports). x.answer) (sym e))
+answered a b old (Err q) new r e h = absurd (never_none q (ap (λ (x : Reports). x.answer.refusal) e ∙ h))
 
 untouched : (a b : ℕ) (old : List ℕ) (v : FiguresAnswer) (new : List ℕ) (r : Answer) → reported_of a b old v ≡ reports new r → r.refusal ≢ 0 → new ≡ old
 unfolding reported_of
-untouched a b old (Is f) new r e h = absurd (h (ap (λ (x : Reports). x.answer.refusal) (sym e)))
-untouched a b old (No q) new r e h = ap (λ (x : Reports). x.report) (sym e)
-untouched a b old (Offsets k) new r e h = ap (λ (x : Reports). x.report) (sym e)
-untouched a b old (Over n) new r e h = ap (λ (x : Reports). x.report) (sym e)
+untouched a b old (Ok f) new r e h = absurd (h (ap (λ (x : Reports). x.answer.refusal) (sym e)))
+untouched a b old (Err q) new r e h = ap (λ (x : Reports). x.report) (sym e)
 
 -- All 0 is the report of no body.
 pub empty_report : HoldsReport (replicate 7 0) []
@@ -77,15 +86,13 @@ add_report xs w o len old new r a e h = go (body_of w o len) refl e
 
     go : (v : FiguresAnswer) → body_of w o len ≡ v → added_of old v ≡ reports new r
         → HoldsReport new all × (r ≡ answer_of (body_figures w o).levels (body_figures w o).kept (report_of all).kept (report_of all).levels)
-    go (Is g) s u =
+    go (Ok g) s u =
         let (f, p, q, z) = answered g.levels g.kept old (sums_of (figures_in old) g) new r u h in
         let m = added xs w o len g f s (ap (λ (x : Figures). sums_of x g) (sym a.is) ∙ p) in (
           record { long = ap length q ∙ length-sets old 0 (report_words f) ∙ a.long; is = ap figures_in q ∙ read_back f old a.long ∙ m },
           z ∙ ap₂ (λ (x y : Figures). answer_of x.levels x.kept y.kept y.levels) (body_is w o len g s) m,
         )
-    go (No q) s u = absurd (never_0 q (ap (λ (x : Reports). x.answer.refusal) u ∙ h))
-    go (Offsets k) s u = let z : ◌≡◌ {A = ℕ} 15 0 = ap (λ (x : Reports). x.answer.refusal) u ∙ h in absurd (omega arith)
-    go (Over n) s u = let z : ◌≡◌ {A = ℕ} 13 0 = ap (λ (x : Reports). x.answer.refusal) u ∙ h in absurd (omega arith)
+    go (Err q) s u = absurd (never_none q (ap (λ (x : Reports). x.answer.refusal) u ∙ h))
 
 -- A refused call adds nothing: every word of the report is as lent.
 pub join_keeps : (later old new : List ℕ) (r : Answer) → join_call later old ≡ reports new r → r.refusal ≢ 0 → new ≡ old
@@ -97,7 +104,5 @@ unfolding add_call added_of
 add_keeps w o len old new r e h = go (body_of w o len) e
   where
     go : (v : FiguresAnswer) → added_of old v ≡ reports new r → new ≡ old
-    go (Is g) u = untouched g.levels g.kept old (sums_of (figures_in old) g) new r u h
-    go (No q) u = ap (λ (x : Reports). x.report) (sym u)
-    go (Offsets k) u = ap (λ (x : Reports). x.report) (sym u)
-    go (Over n) u = ap (λ (x : Reports). x.report) (sym u)
+    go (Ok g) u = untouched g.levels g.kept old (sums_of (figures_in old) g) new r u h
+    go (Err q) u = ap (λ (x : Reports). x.report) (sym u)

@@ -14,7 +14,6 @@ use Rattle.code.specs.Check.{check_of}
 use Rattle.refusals.specs.Stages.{registers_of, tried_of, room_of}
 use Rattle.code.specs.Inner.{Valid}
 use Rattle.refusals.specs.declared.Answer.{Answer}
-use Rattle.refusals.specs.declared.Checked.TheVariants as stage
 use Rattle.code.proofs.Checks.{checked}
 use Rattle.refusals.proofs.Stages.{regs_before, tries_before, room_before}
 use Rattle.flow.specs.Sweep.{row}
@@ -33,19 +32,21 @@ use Rattle.offsets.proofs.Offsets.{right_fine}
 use Rattle.figures.specs.Figures.{body_figures, body_of, placed_of}
 use Rattle.figures.specs.Answers.{figures_in, Reports, reports, reported_of, added_of, add_call}
 use Rattle.groups.specs.declared.Figures.{Figures}
-use Rattle.groups.specs.declared.FiguresAnswer.{FiguresAnswer}
-use Rattle.groups.specs.declared.FiguresAnswer.TheVariants.{Is, No, Offsets, Over}
+use Rattle.std.specs.declared.result.Result.TheVariants.{Ok, Err}
+use Rattle.groups.specs.Groups.{FiguresAnswer}
+use Rattle.groups.specs.declared.FiguresRefusal.TheVariants.{Call, Offsets, Over}
+use Rattle.groups.specs.declared.Total.TheVariants.{Bodies, Levels, Kept, Body as BodyNumber}
 use Rattle.figures.proofs.Month.{totals}
 use Rattle.answers.specs.Answers.{kept_told, KeptTold}
 use Rattle.answers.proofs.Answered.{never_0}
 
 -- what an answered call leaves, as the figures read it
 record Lists (bits : ℕ) (w : List ℕ) (regs : ℕ) (tries offsets a b : List ℕ) (total : ℕ) : Type 0 where
-  check : check_of w ≡ stage.Count (count w)
+  check : check_of w ≡ Ok (count w)
   begins : b ≡ over (offsets_to regs w tries (rows_in bits regs w a) (suc (count w))) offsets
   sum : total ≡ length (lists_to regs w tries (rows_in bits regs w a) (count w))
 
-past : (bits : ℕ) (w : List ℕ) (regs : ℕ) (tries : List ℕ) (a b n : ℕ) → stages_of bits w regs tries a b ≡ stage.Count n → check_of w ≡ stage.Count n
+past : (bits : ℕ) (w : List ℕ) (regs : ℕ) (tries : List ℕ) (a b n : ℕ) → stages_of bits w regs tries a b ≡ Ok n → check_of w ≡ Ok n
 unfolding stages_of
 past bits w regs tries a b n h =
     let one = room_before n (room_of (tried_of (registers_of (check_of w) regs) tries) 1 a (scratch_for bits regs w)) 2 b (suc (count w)) (sym h) in
@@ -97,7 +98,7 @@ module _ (bits : ℕ) (w : List ℕ) (regs : ℕ) (tries offsets a b : List ℕ)
   ends : get_or b (count w) 0 ≡ total
   ends = at (count w) (omega arith) ∙ sym x.sum
 
-  body_fine : body_of w b total ≡ Is (body_figures w b)
+  body_fine : body_of w b total ≡ Ok (body_figures w b)
   unfolding body_of placed_of
   body_fine = rw (
     x.check,
@@ -109,16 +110,16 @@ module _ (bits : ℕ) (w : List ℕ) (regs : ℕ) (tries offsets a b : List ℕ)
 
 -- a sum is told, or it would pass 64 bits
 abbrev Sum : FiguresAnswer → Type 0
-Sum (Is f) = Unit {0}
-Sum (Over n) = Unit {0}
-Sum (No q) = ⊥
-Sum (Offsets k) = ⊥
+Sum (Ok f) = Unit {0}
+Sum (Err (Over n)) = Unit {0}
+Sum (Err (Call q)) = ⊥
+Sum (Err (Offsets k)) = ⊥
 
 sums_only : (f g : Figures) → Sum (sums_of f g)
 unfolding sums_of
 sums_only f g = go (ltb (most - f.bodies) g.bodies) (ltb (most - f.levels) g.levels) (ltb (most - f.kept) g.kept) (ltb (most - f.bodies) g.body)
   where
-    go : (a b c d : Bool) → Sum (cond a (Over 1) (cond b (Over 2) (cond c (Over 3) (cond d (Over 4) (Is (join_of f g))))))
+    go : (a b c d : Bool) → Sum (cond a (Err (Over Bodies)) (cond b (Err (Over Levels)) (cond c (Err (Over Kept)) (cond d (Err (Over BodyNumber)) (Ok (join_of f g))))))
     go true b c d = tt
     go false true c d = tt
     go false false true d = tt
@@ -140,10 +141,10 @@ module _ (bits : ℕ) (w : List ℕ) (regs : ℕ) (tries : List ℕ) (wide : Boo
     where
       go : (v : FiguresAnswer) → Sum v → reported_of (body_figures w o).levels (body_figures w o).kept old v ≡ reports new' a → (a.refusal ≡ 0) ⊎
           (a.refusal ≡ 13)
-      go (Is f) s u = inl (ap (λ (y : Reports). y.answer.refusal) (sym u))
-      go (Over n) s u = inr (ap (λ (y : Reports). y.answer.refusal) (sym u))
-      go (No q) s u = absurd s
-      go (Offsets k) s u = absurd s
+      go (Ok f) s u = inl (ap (λ (y : Reports). y.answer.refusal) (sym u))
+      go (Err (Over n)) s u = inr (ap (λ (y : Reports). y.answer.refusal) (sym u))
+      go (Err (Call q)) s u = absurd s
+      go (Err (Offsets k)) s u = absurd s
 
   -- Its kept registers are as many as the kept call told.
   pub kept_total : (body_figures w o).kept ≡ r.first

@@ -1,4 +1,4 @@
--- What each function's answers rest on: one law for each way out. Assumes nothing.
+-- What the figures of one body rest on: its places, its start and end, and what its tests show. Assumes nothing.
 use mathlib.Core.Path.{◌≡◌, refl, sym, ap, ap₂, ◌∙◌}
 use mathlib.Core.Bool.{Bool, true, false, cond}
 use mathlib.Core.List.{List, [], ◌∷◌, ◌++◌, append-nil}
@@ -13,15 +13,15 @@ use lib.ListN.{length, get_or, length-append}
 use Rattle.code.specs.Ins.{ins_at, count}
 use Rattle.code.specs.Check.{check_of}
 use Rattle.code.specs.declared.Ins.{Ins}
-use Rattle.refusals.specs.declared.Checked.{Checked}
-use Rattle.refusals.specs.declared.Checked.TheVariants as stage
-use Rattle.refusals.specs.declared.Refusal.{Refusal}
+use Rattle.refusals.specs.Stages.{Checked}
+use Rattle.std.specs.declared.result.Result.TheVariants.{Ok, Err}
 use Rattle.refusals.specs.declared.Refusal.TheVariants.{Short}
-use Rattle.code.proofs.Checks.{count_of, valid_of}
+use Rattle.code.proofs.Checks.{count_of, valid_of, whole_of}
+use Rattle.code.specs.Inner.{Whole}
 use Rattle.steps.specs.Level.{is_level}
 use Rattle.groups.specs.declared.Figures.{Figures}
-use Rattle.groups.specs.declared.FiguresAnswer.TheVariants.{Is, No, Offsets}
-use Rattle.groups.specs.Groups.{met, sum_of, longest_of, first_at, figures_of, join_of, moved}
+use Rattle.groups.specs.declared.FiguresRefusal.TheVariants.{Call, Offsets}
+use Rattle.groups.specs.Groups.{FiguresAnswer, met, sum_of, longest_of, first_at, figures_of, join_of, moved}
 use Rattle.groups.specs.Inner.{Sums}
 use Rattle.groups.proofs.Groups.{join_law, sum_append}
 use Rattle.offsets.specs.Offsets.{first_wrong}
@@ -124,38 +124,34 @@ body_end w o k h g f e = let q : k ≡ count w = omega arith in rw (e, q)
 
 -- ---- one body
 
-module _ (w o : List ℕ) (len : ℕ) (v : Checked) (e : v ≡ check_of w) where
-  pub body_no : (r : Refusal) → v ≡ stage.No r → No r ≡ body_of w o len
-  unfolding body_of
-  body_no r h = rw (sym e ∙ h)
+module _ (w : List ℕ) (n : ℕ) (e : ◌≡◌ {A = Checked} (Ok n) (check_of w)) where
+  counts : n ≡ count w
+  counts = count_of w n (Ok n) e refl
 
-  module _ (n : ℕ) (h : v ≡ stage.Count n) where
-    counts : n ≡ count w
-    counts = count_of w n v e h
+  pub body_small : Fits w64 (n + 1)
+  body_small = record { fits = omega (arith, counts, (valid_of w n (Ok n) e refl).few) }
 
-    pub body_short : length o < n + 1 → No (Short 1 (n + 1)) ≡ body_of w o len
+  -- what the parts of the call rely on
+  module _ (o : List ℕ) (long : n + 1 ≤ length o) where
+    pub body_room : Whole w × (count w < length o)
+    body_room = (whole_of w n (Ok n) e refl, omega (arith, counts))
+
+    pub body_right : (len k : ℕ) → k ≡ first_wrong w o len → n + 1 ≤ k → Right w o
+    body_right len k g s = right_of w o len (omega (arith, g, counts)) (valid_of w n (Ok n) e refl) (omega (arith, counts))
+
+  module _ (o : List ℕ) (len : ℕ) where
+    pub body_short : length o < n + 1 → ◌≡◌ {A = FiguresAnswer} (Err (Call (Short 1 (n + 1)))) (body_of w o len)
     unfolding body_of placed_of
-    body_short s = rw (sym e ∙ h, counts, lt-ltb (length o) (count w + 1) (omega (arith, counts)))
+    body_short s = rw (← e, counts, lt-ltb (length o) (count w + 1) (omega (arith, counts)))
 
     module _ (long : n + 1 ≤ length o) (k : ℕ) (g : k ≡ first_wrong w o len) where
-      pub body_offsets : k < n + 1 → Offsets k ≡ body_of w o len
+      pub body_offsets : k < n + 1 → ◌≡◌ {A = FiguresAnswer} (Err (Offsets k)) (body_of w o len)
       unfolding body_of placed_of
-      body_offsets s = rw (sym e ∙ h, le-ltb (length o) (count w + 1) (omega (arith, counts)), ← g, lt-ltb k (count w + 1) (omega (arith, counts)))
+      body_offsets s = rw (← e, le-ltb (length o) (count w + 1) (omega (arith, counts)), ← g, lt-ltb k (count w + 1) (omega (arith, counts)))
 
-      pub body_told : n + 1 ≤ k → (b : Figures) → b ≡ body_figures w o → Is b ≡ body_of w o len
+      pub body_told : n + 1 ≤ k → (b : Figures) → b ≡ body_figures w o → ◌≡◌ {A = FiguresAnswer} (Ok b) (body_of w o len)
       unfolding body_of placed_of
       body_told s b x =
-          rw (sym e ∙ h, le-ltb (length o) (count w + 1) (omega (arith, counts)), ← g, le-ltb k (count w + 1) (omega (arith, counts)), ← x)
+          rw (← e, le-ltb (length o) (count w + 1) (omega (arith, counts)), ← g, le-ltb k (count w + 1) (omega (arith, counts)), ← x)
 
-pub body_small : (w : List ℕ) (v : Checked) → v ≡ check_of w → (n : ℕ) → v ≡ stage.Count n → Fits w64 (n + 1)
-body_small w v e n h = record { fits = omega (arith, count_of w n v e h, (valid_of w n v e h).few) }
-
--- what the parts of the call rely on
-module _ (w o : List ℕ) (v : Checked) (e : v ≡ check_of w) (n : ℕ) (h : v ≡ stage.Count n) (long : n + 1 ≤ length o) where
-  pub body_room : count w < length o
-  body_room = omega (arith, count_of w n v e h)
-
-  pub body_right : (len k : ℕ) → k ≡ first_wrong w o len → n + 1 ≤ k → Right w o
-  body_right len k g s = right_of w o len (omega (arith, g, count_of w n v e h)) (valid_of w n v e h) (omega (arith, count_of w n v e h))
-
-pub ruleset bodies = (body_no, body_short, body_offsets, body_told)
+pub ruleset bodies = (body_small, body_room, body_right, body_short, body_offsets, body_told)

@@ -9,11 +9,12 @@ use lib.Dec.{ltb, eqb}
 use lib.ListN.{length, get_or}
 use Rattle.code.specs.Ins.{count, ins_at}
 use Rattle.code.specs.Check.{check_of}
-use Rattle.refusals.specs.declared.Checked.{Checked}
-use Rattle.refusals.specs.declared.Checked.TheVariants as stage
+use Rattle.refusals.specs.Stages.{Checked}
+use Rattle.std.specs.declared.result.Result.TheVariants.{Ok, Err}
 use Rattle.steps.specs.Level.{is_level}
 use Rattle.groups.specs.declared.Figures.{Figures}
-use Rattle.groups.specs.declared.FiguresAnswer.TheVariants.{Is, No, Offsets, Over}
+use Rattle.groups.specs.declared.FiguresRefusal.TheVariants.{Call, Offsets, Over}
+use Rattle.groups.specs.declared.Total.TheVariants.{Bodies, Levels, Kept, Body as BodyNumber}
 use Rattle.refusals.specs.declared.Refusal.TheVariants.{Short}
 use Rattle.groups.specs.Groups.{Met, met, first_at, longest_of, figures_of, join_of, most, sums_of, moved}
 use Rattle.offsets.specs.Offsets.{first_wrong}
@@ -24,12 +25,12 @@ use Rattle.figures.proofs.Bodies.{report_join, report_one}
 use Rattle.figures.proofs.Calls.{sum_is}
 
 -- an answer is the groups joined
-sums_is : (f g r : Figures) → sums_of f g ≡ Is r → r ≡ join_of f g
+sums_is : (f g r : Figures) → sums_of f g ≡ Ok r → r ≡ join_of f g
 unfolding sums_of
 sums_is f g r e = go (ltb (most - f.bodies) g.bodies) (ltb (most - f.levels) g.levels) (ltb (most - f.kept) g.kept)
     (ltb (most - f.bodies) g.body) e
   where
-    go : (a b c d : Bool) → cond a (Over 1) (cond b (Over 2) (cond c (Over 3) (cond d (Over 4) (Is (join_of f g))))) ≡ Is r → r ≡ join_of f g
+    go : (a b c d : Bool) → cond a (Err (Over Bodies)) (cond b (Err (Over Levels)) (cond c (Err (Over Kept)) (cond d (Err (Over BodyNumber)) (Ok (join_of f g))))) ≡ Ok r → r ≡ join_of f g
     go true b c d h = let z : ◌≡◌ {A = ℕ} 0 1 = cc in absurd (omega arith)
     go false true c d h = let z : ◌≡◌ {A = ℕ} 0 1 = cc in absurd (omega arith)
     go false false true d h = let z : ◌≡◌ {A = ℕ} 0 1 = cc in absurd (omega arith)
@@ -37,25 +38,25 @@ sums_is f g r e = go (ltb (most - f.bodies) g.bodies) (ltb (most - f.levels) g.l
     go false false false false h = cc
 
 -- two reports joined are the report of all
-pub months : (xs ys : List Body) (r : Figures) → sums_of (report_of xs) (report_of ys) ≡ Is r → r ≡ report_of (xs ++ ys)
+pub months : (xs ys : List Body) (r : Figures) → sums_of (report_of xs) (report_of ys) ≡ Ok r → r ≡ report_of (xs ++ ys)
 months xs ys r e = sums_is (report_of xs) (report_of ys) r e ∙ report_join xs ys
 
 -- a body that is not refused has the figures of its lists
-pub body_is : (w o : List ℕ) (len : ℕ) (g : Figures) → body_of w o len ≡ Is g → g ≡ body_figures w o
+pub body_is : (w o : List ℕ) (len : ℕ) (g : Figures) → body_of w o len ≡ Ok g → g ≡ body_figures w o
 unfolding body_of placed_of
 body_is w o len g e = go (check_of w) e
   where
-    last : (a b : Bool) → cond a (No (Short 1 (count w + 1))) (cond b (Offsets (first_wrong w o len)) (Is (body_figures w o))) ≡ Is g → g ≡ body_figures w o
+    last : (a b : Bool) → cond a (Err (Call (Short 1 (count w + 1)))) (cond b (Err (Offsets (first_wrong w o len))) (Ok (body_figures w o))) ≡ Ok g → g ≡ body_figures w o
     last true b h = let z : ◌≡◌ {A = ℕ} 0 1 = cc in absurd (omega arith)
     last false true h = let z : ◌≡◌ {A = ℕ} 0 1 = cc in absurd (omega arith)
     last false false h = cc
 
-    go : (v : Checked) → after_check w o len v ≡ Is g → g ≡ body_figures w o
-    go (stage.No q) h = let z : ◌≡◌ {A = ℕ} 0 1 = cc in absurd (omega arith)
-    go (stage.Count n) h = last (ltb (length o) (count w + 1)) (ltb (first_wrong w o len) (count w + 1)) h
+    go : (v : Checked) → after_check w o len v ≡ Ok g → g ≡ body_figures w o
+    go (Err q) h = let z : ◌≡◌ {A = ℕ} 0 1 = cc in absurd (omega arith)
+    go (Ok n) h = last (ltb (length o) (count w + 1)) (ltb (first_wrong w o len) (count w + 1)) h
 
 -- a body added to a report: the report of all
-pub added : (xs : List Body) (w o : List ℕ) (len : ℕ) (g r : Figures) → body_of w o len ≡ Is g → sums_of (report_of xs) g ≡ Is r
+pub added : (xs : List Body) (w o : List ℕ) (len : ℕ) (g r : Figures) → body_of w o len ≡ Ok g → sums_of (report_of xs) g ≡ Ok r
     → r ≡ report_of (xs ++ (record { code = w; offsets = o } ∷ []))
 added xs w o len g r e h = months xs (record { code = w; offsets = o } ∷ []) r
     (ap (sums_of (report_of xs)) (sym (report_one (record { code = w; offsets = o })) ∙ sym (body_is w o len g e)) ∙ h)
@@ -118,7 +119,7 @@ unfolding report_of figures_of
 body_below xs = first_le (length xs) (longest_of (met_from 0 xs)) (met_from 0 xs) (met_all 0 (length xs) xs (omega arith))
 
 -- so the fourth test never refuses reports of groups
-pub never_4 : (xs ys : List Body) → sums_of (report_of xs) (report_of ys) ≡ Over 4 → ⊥
+pub never_4 : (xs ys : List Body) → sums_of (report_of xs) (report_of ys) ≡ Err (Over BodyNumber) → ⊥
 unfolding sums_of
 never_4 xs ys e = go (ltb (most - f.bodies) g.bodies) refl (ltb (most - f.levels) g.levels) (ltb (most - f.kept) g.kept)
     (ltb (most - f.bodies) g.body) refl e
@@ -130,7 +131,7 @@ never_4 xs ys e = go (ltb (most - f.bodies) g.bodies) refl (ltb (most - f.levels
     g = report_of ys
 
     go : (a : Bool) → ltb (most - f.bodies) g.bodies ≡ a → (b c d : Bool) → ltb (most - f.bodies) g.body ≡ d
-        → cond a (Over 1) (cond b (Over 2) (cond c (Over 3) (cond d (Over 4) (Is (join_of f g))))) ≡ Over 4 → ⊥
+        → cond a (Err (Over Bodies)) (cond b (Err (Over Levels)) (cond c (Err (Over Kept)) (cond d (Err (Over BodyNumber)) (Ok (join_of f g))))) ≡ Err (Over BodyNumber) → ⊥
     go true p b c d q h = let z : ◌≡◌ {A = ℕ} 1 4 = cc in omega arith
     go false p true c d q h = let z : ◌≡◌ {A = ℕ} 2 4 = cc in omega arith
     go false p false true d q h = let z : ◌≡◌ {A = ℕ} 3 4 = cc in omega arith

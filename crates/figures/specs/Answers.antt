@@ -2,13 +2,13 @@
 use Rattle.std.specs.Prelude.{ℕ, not, List, [], ◌∷◌, eqb, get_or}
 use mir.Val.{bool_byte}
 use Rattle.std.proofs.lemmas.List.Edits.{sets}
-use Rattle.refusals.specs.Answers.{answer_of, refusal_of, refused_of}
+use Rattle.refusals.specs.Answers.{answer_of}
 use Rattle.refusals.specs.declared.Answer.{Answer}
-use Rattle.groups.specs.Groups.{sums_of}
+use Rattle.groups.specs.Groups.{FiguresAnswer, sums_of}
 use Rattle.figures.specs.Figures.{body_of}
 use Rattle.groups.specs.declared.Figures.{Figures}
-use Rattle.groups.specs.declared.FiguresAnswer.{FiguresAnswer}
-use Rattle.groups.specs.declared.FiguresAnswer.TheVariants.{Is, No, Offsets, Over}
+use Rattle.std.specs.declared.result.Result.TheVariants.{Ok, Err}
+use Rattle.groups.specs.Answers.{figures_refused}
 
 -- the words: bodies, levels, kept registers, longest list, whether there is a level, and body and position of the first so long
 abbrev pub figures_in : List ℕ → Figures
@@ -41,17 +41,13 @@ reports r a = record { report = r; answer = a }
 
 -- new figures are written, and sum and levels of the mean told last; a refusal writes nothing
 unfoldable pub reported_of : ℕ → ℕ → List ℕ → FiguresAnswer → Reports
-reported_of a b old (Is f) = reports (report_written f old) (answer_of a b f.kept f.levels)
-reported_of a b old (No r) = reports old (refused_of r)
-reported_of a b old (Offsets k) = reports old (refusal_of 15 k 0)
-reported_of a b old (Over n) = reports old (refusal_of 13 n 0)
+reported_of a b old (Ok f) = reports (report_written f old) (answer_of a b f.kept f.levels)
+reported_of a b old (Err r) = reports old (figures_refused r)
 
 -- a body's own figures join the report's: its levels and kept registers are told first
 unfoldable pub added_of : List ℕ → FiguresAnswer → Reports
-added_of old (Is g) = reported_of g.levels g.kept old (sums_of (figures_in old) g)
-added_of old (No r) = reports old (refused_of r)
-added_of old (Offsets k) = reports old (refusal_of 15 k 0)
-added_of old (Over n) = reports old (refusal_of 13 n 0)
+added_of old (Ok g) = reported_of g.levels g.kept old (sums_of (figures_in old) g)
+added_of old (Err r) = reports old (figures_refused r)
 
 -- a body is added: its code, its offsets, the length of its list, and the report so far
 unfoldable pub add_call : List ℕ → List ℕ → ℕ → List ℕ → Reports

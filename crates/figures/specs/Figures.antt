@@ -2,15 +2,14 @@
 use Rattle.std.specs.Prelude.{ℕ, zero, suc, ◌+◌, ◌-◌, cond, List, [], ◌∷◌, ◌++◌, ltb, length, get_or}
 use Rattle.code.specs.Ins.{ins_at, count}
 use Rattle.code.specs.Check.{check_of}
-use Rattle.refusals.specs.declared.Checked.{Checked}
-use Rattle.refusals.specs.declared.Checked.TheVariants as stage
+use Rattle.refusals.specs.Stages.{Checked}
+use Rattle.std.specs.declared.result.Result.TheVariants.{Ok, Err}
 use Rattle.refusals.specs.declared.Refusal.TheVariants.{Short}
 use Rattle.steps.specs.Level.{is_level}
 use Rattle.offsets.specs.Offsets.{first_wrong}
 use Rattle.groups.specs.declared.Figures.{Figures}
-use Rattle.groups.specs.declared.FiguresAnswer.{FiguresAnswer}
-use Rattle.groups.specs.declared.FiguresAnswer.TheVariants.{Is, No, Offsets}
-use Rattle.groups.specs.Groups.{Met, met, figures_of}
+use Rattle.groups.specs.declared.FiguresRefusal.TheVariants.{Call, Offsets}
+use Rattle.groups.specs.Groups.{FiguresAnswer, Met, met, figures_of}
 
 -- the list of place k: from its offset to the next
 abbrev pub len_at : List ℕ → ℕ → ℕ
@@ -28,14 +27,14 @@ body_figures w o = figures_of 1 (levels_to w o (count w))
 -- One body: 1, 2, 5 for offsets shorter than n + 1, 15 with the first place; else its figures.
 unfoldable pub placed_of : List ℕ → List ℕ → ℕ → FiguresAnswer
 placed_of w o len =
-    cond (ltb (length o) (count w + 1)) (No (Short 1 (count w + 1)))
-    (cond (ltb (first_wrong w o len) (count w + 1)) (Offsets (first_wrong w o len))
-    (Is (body_figures w o)))
+    cond (ltb (length o) (count w + 1)) (Err (Call (Short 1 (count w + 1))))
+    (cond (ltb (first_wrong w o len) (count w + 1)) (Err (Offsets (first_wrong w o len)))
+    (Ok (body_figures w o)))
 
 -- a body whose code was tested: a refusal of the code comes first, then what its offsets lead to
 abbrev pub after_check : List ℕ → List ℕ → ℕ → Checked → FiguresAnswer
-after_check w o len (stage.No r) = No r
-after_check w o len (stage.Count n) = placed_of w o len
+after_check w o len (Err r) = Err (Call r)
+after_check w o len (Ok n) = placed_of w o len
 
 -- one body, its offsets and the length of its list: its figures, or what it is refused for
 unfoldable pub body_of : List ℕ → List ℕ → ℕ → FiguresAnswer

@@ -7,12 +7,12 @@ ghost use Rattle.groups.specs.Groups.{figures_of};
 ghost use Rattle.offsets.specs.Inner.{Right};
 ghost use Rattle.figures.specs.Figures.{levels_to, body_figures, body_of};
 ghost use Rattle.figures.specs.Answers.{figures_in, report_written, reports, reported_of, added_of, add_call, join_call};
-ghost use Rattle.refusals.specs.Answers.{refusal_of};
 
-use groups::{Figures, FiguresAnswer};
-use refusals::{Answer, Checked, Refusal};
+use groups::{Figures, FiguresRefusal};
+use refusals::{Answer, Refusal};
 
 // A body joins the group that the report is of: its levels and kept registers, then sum and levels of the mean.
+#[tactic(auto, unfolding(crate::specs::Answers::add_call))]
 pub fn add(code: &[u16], offsets: &[u32], list: &[u16], report: &mut [u64; 7]) -> Answer
     ensures { add_call code.now offsets.now (length list.now) report.old ≡ reports report.new result }
 {
@@ -20,6 +20,7 @@ pub fn add(code: &[u16], offsets: &[u32], list: &[u16], report: &mut [u64; 7]) -
 }
 
 // Two groups as one, `report` the earlier: sum and levels of the mean.
+#[tactic(auto, unfolding(crate::specs::Answers::join_call))]
 pub fn join(later: &[u64; 7], report: &mut [u64; 7]) -> Answer
     ensures { join_call later.now report.old ≡ reports report.new result }
 {
@@ -32,14 +33,15 @@ pub fn join(later: &[u64; 7], report: &mut [u64; 7]) -> Answer
 fn figures_in(report: &[u64; 7]) -> Figures
     ensures { result ≡ figures_in report.now }
 {
+    let [bodies, levels, kept, longest, found, body, at] = *report;
     Figures {
-        bodies: report[0],
-        levels: report[1],
-        kept: report[2],
-        longest: report[3],
-        found: report[4] != 0,
-        body: report[5],
-        at: report[6],
+        bodies,
+        levels,
+        kept,
+        longest,
+        found: found != 0,
+        body,
+        at,
     }
 }
 
@@ -47,86 +49,71 @@ fn figures_in(report: &[u64; 7]) -> Figures
 fn write(report: &mut [u64; 7], f: Figures)
     ensures { report.new ≡ report_written f report.old }
 {
-    report[0] = f.bodies;
-    report[1] = f.levels;
-    report[2] = f.kept;
-    report[3] = f.longest;
-    report[4] = f.found as u64;
-    report[5] = f.body;
-    report[6] = f.at;
-}
-
-// A refusal and what it also returns.
-fn refuse(refusal: u8, first: u64) -> Answer
-    ensures { result ≡ refusal_of refusal first 0 }
-{
-    Answer {
-        refusal,
-        first,
-        second: 0,
-        third: 0,
-        fourth: 0,
-    }
+    *report = [
+        f.bodies,
+        f.levels,
+        f.kept,
+        f.longest,
+        u64::from(f.found),
+        f.body,
+        f.at,
+    ];
 }
 
 // New figures are written and told; a refusal writes nothing.
-fn reported(report: &mut [u64; 7], levels: u64, kept: u64, a: FiguresAnswer) -> Answer
+#[tactic(auto, unfolding(crate::specs::Answers::reported_of))]
+fn reported(
+    report: &mut [u64; 7],
+    levels: u64,
+    kept: u64,
+    a: Result<Figures, FiguresRefusal>,
+) -> Answer
     ensures { reported_of levels kept report.old a ≡ reports report.new result }
 {
     match a {
-        FiguresAnswer::Is(f) => {
-            let sum = f.kept;
-            let of = f.levels;
+        Ok(f) => {
             write(report, f);
-            refusals::tell(levels, kept, sum, of)
+            refusals::tell(levels, kept, f.kept, f.levels)
         }
-        FiguresAnswer::No(r) => refusals::refused(r),
-        FiguresAnswer::Offsets(k) => refuse(15, k as u64),
-        FiguresAnswer::Over(n) => refuse(13, n as u64),
+        Err(r) => Answer::from(r),
     }
 }
 
 // A body's own figures join the report's.
-fn added(report: &mut [u64; 7], a: FiguresAnswer) -> Answer
+#[tactic(auto, unfolding(crate::specs::Answers::added_of))]
+fn added(report: &mut [u64; 7], a: Result<Figures, FiguresRefusal>) -> Answer
     ensures { added_of report.old a ≡ reports report.new result }
 {
     match a {
-        FiguresAnswer::Is(g) => {
-            let levels = g.levels;
-            let kept = g.kept;
+        Ok(g) => {
             let f = figures_in(report);
-            reported(report, levels, kept, groups::sums(f, g))
+            reported(report, g.levels, g.kept, groups::sums(f, g))
         }
-        FiguresAnswer::No(r) => refusals::refused(r),
-        FiguresAnswer::Offsets(k) => refuse(15, k as u64),
-        FiguresAnswer::Over(n) => refuse(13, n as u64),
+        Err(r) => Answer::from(r),
     }
 }
 
 // One body's own figures, given with its answer from the kept-register call.
-fn body(code: &[u16], offsets: &[u32], list: &[u16]) -> FiguresAnswer
+#[tactic(auto, using(crate::proofs::Calls::bodies), unfolding(crate::specs::Figures::body_of))]
+fn body(code: &[u16], offsets: &[u32], list: &[u16]) -> Result<Figures, FiguresRefusal>
     ensures { result ≡ body_of code.now offsets.now (length list.now) }
 {
-    let v = code::check(code);
-    match v {
-        Checked::No(r) => FiguresAnswer::No(r),
-        Checked::Count(n) => {
-            if offsets.len() < n + 1 {
-                return FiguresAnswer::No(Refusal::Short {
-                    buffer: 1,
-                    needed: n + 1,
-                });
-            }
-            let k = offsets::first_wrong(code, offsets, list.len());
-            if k < n + 1 {
-                return FiguresAnswer::Offsets(k);
-            }
-            FiguresAnswer::Is(body_figures(code, offsets))
-        }
+    let n = code::check(code)?;
+    if offsets.len() < n + 1 {
+        return Err(FiguresRefusal::Call(Refusal::Short {
+            buffer: 1,
+            needed: n + 1,
+        }));
     }
+    let k = offsets::first_wrong(code, offsets, list.len());
+    if k < n + 1 {
+        return Err(FiguresRefusal::Offsets(k));
+    }
+    Ok(body_figures(code, offsets))
 }
 
 // The figures of one body.
+#[tactic(auto, using(crate::proofs::Calls::body_start, crate::proofs::Calls::body_end))]
 fn body_figures(code: &[u16], offsets: &[u32]) -> Figures
     requires { Right code.now offsets.now }
     ensures { result ≡ body_figures code.now offsets.now }
@@ -140,44 +127,32 @@ fn body_figures(code: &[u16], offsets: &[u32]) -> Figures
         body: 0,
         at: 0,
     };
-    let n = code.len() / 6;
-    let mut k = 0;
-    while k < n {
+    for k in 0..code.len() / 6 {
         f = with_place(f, code, offsets, k);
-        k += 1;
     }
-    Figures {
-        bodies: 1,
-        levels: f.levels,
-        kept: f.kept,
-        longest: f.longest,
-        found: f.found,
-        body: f.body,
-        at: f.at,
-    }
+    Figures { bodies: 1, ..f }
 }
 
 // A position more: a level with its list, or none.
+#[tactic(auto, using(crate::proofs::Calls::places, crate::proofs::Calls::place_room))]
 fn with_place(f: Figures, code: &[u16], offsets: &[u32], k: usize) -> Figures
     requires { Right code.now offsets.now × (k < count code.now) × (f ≡ figures_of 0 (levels_to code.now offsets.now k)) }
     ensures { result ≡ figures_of 0 (levels_to code.now offsets.now (k + 1)) }
 {
-    if steps::level_at(code::ins_at(code, k)) {
-        let here = offsets::wide(offsets[k]);
-        let next = offsets::wide(offsets[k + 1]);
-        let len = (next - here) as u64;
-        return groups::joined(
-            f,
-            Figures {
-                bodies: 0,
-                levels: 1,
-                kept: len,
-                longest: len,
-                found: true,
-                body: 0,
-                at: k as u64,
-            },
-        );
+    if !steps::level_at(code::ins_at(code, k)) {
+        return f;
     }
-    f
+    let len = u64::from(offsets[k + 1] - offsets[k]);
+    groups::joined(
+        f,
+        Figures {
+            bodies: 0,
+            levels: 1,
+            kept: len,
+            longest: len,
+            found: true,
+            body: 0,
+            at: k as u64,
+        },
+    )
 }

@@ -8,14 +8,15 @@ use borrow.Author.Tests.{le-ltb, ltb-false}
 use lib.Dec.{ltb}
 use lib.ListN.{length, get_or, take, drop, set, length-set, length-append, take-append-drop}
 use lib.Seq.{sets-eq, length-sets, get_or-set_same, get_or-set_other, get_or_at, take_at, take-take, length-take-le}
-use Rattle.area.specs.Area.{free_of, need_of, pairs_of, entry_of, put_back, top_of}
+use Rattle.area.specs.Area.{free_of, need_of, pairs_of, entry_of, put_back, entry, top_of}
 use Rattle.saver.specs.Saver.{Saver, saver, Ends, ends, regs_of, in_use, entered, enter_of}
 use Rattle.leaves.specs.Leaving.{Back, result_written, left_by, leave_of}
 use Rattle.taken.specs.Lists.{first_strange}
 use Rattle.frames.specs.Frames.{Sound, CallEvent, enters, writes, leaves, Matched, none, over, frame}
 use Rattle.frames.specs.Inner.{restored, Play, done, enter, write, leave, SameRoom}
-use Rattle.saver.specs.declared.SaverAnswer.TheVariants.{Used, Registers, Listed, Full}
-use Rattle.area.specs.declared.Top.TheVariants.{Entry, Bare}
+use Rattle.std.specs.declared.result.Result.TheVariants.{Ok, Err}
+use Rattle.saver.specs.declared.SaverRefusal.TheVariants.{Registers, Listed, Full}
+use Rattle.std.specs.declared.option.Option.TheVariants.{Some, None}
 use Rattle.frames.proofs.Words.{pairs_length, entry_length, back_length, back_is, written_length}
 
 -- what an entry is that is not refused
@@ -23,15 +24,15 @@ pub record Accepted (s : Saver) (l : List ℕ) (q : ℕ) : Type 0 where
   pub few : regs_of s ≤ 64
   pub fine : length l ≤ first_strange (regs_of s) l
   pub room : need_of l ≤ free_of (in_use s)
-  pub is : enter_of s l q ≡ ends (entered s l q) (Used (in_use s + need_of l))
+  pub is : enter_of s l q ≡ ends (entered s l q) (Ok (in_use s + need_of l))
 
-pub accepted : (s : Saver) (l : List ℕ) (q u : ℕ) → (enter_of s l q).answer ≡ Used u → Accepted s l q
+pub accepted : (s : Saver) (l : List ℕ) (q u : ℕ) → (enter_of s l q).answer ≡ Ok u → Accepted s l q
 unfolding enter_of
 accepted s l q u e = go (ltb 64 (regs_of s)) refl (ltb (first_strange (regs_of s) l) (length l)) refl (ltb (free_of (in_use s)) (need_of l)) refl e
   where
     go : (a : Bool) → ltb 64 (regs_of s) ≡ a → (b : Bool) → ltb (first_strange (regs_of s) l) (length l) ≡ b → (c : Bool) → ltb (free_of (in_use s)) (need_of l) ≡ c
-        → (cond a (ends s (Registers (regs_of s))) (cond b (ends s (Listed (first_strange (regs_of s) l))) (cond c (ends s (Full (free_of (in_use s))))
-        (ends (entered s l q) (Used (in_use s + need_of l)))))).answer ≡ Used u
+        → (cond a (ends s (Err (Registers (regs_of s)))) (cond b (ends s (Err (Listed (first_strange (regs_of s) l)))) (cond c (ends s (Err (Full (free_of (in_use s)))))
+        (ends (entered s l q) (Ok (in_use s + need_of l)))))).answer ≡ Ok u
         → Accepted s l q
     go true p b q' c r h = let z : ◌≡◌ {A = ℕ} 0 1 = cc in absurd (omega arith)
     go false p true q' c r h = let z : ◌≡◌ {A = ℕ} 0 1 = cc in absurd (omega arith)
@@ -59,11 +60,11 @@ module _ (pre pairs D : List ℕ) (len q : ℕ) (two : length pairs ≡ 2 * len)
   result_at_lem = ap (λ (x : List ℕ). get_or x (U - 2 + 1) 0) (sym (append_assoc pre pairs (len ∷ q ∷ D)) ∙ sym (append_assoc (pre ++ pairs) (len ∷ []) (q ∷ D)))
       ∙ get_or_at ((pre ++ pairs) ++ (len ∷ [])) q D 0 (U - 2 + 1) (omega (arith, length-append pre pairs, length-append (pre ++ pairs) (len ∷ [])))
 
-  pub top_is : top_of (length pre + (2 * len + 2)) (pre ++ (pairs ++ (len ∷ q ∷ D))) ≡ Entry (length pre) len q
+  pub top_is : top_of (length pre + (2 * len + 2)) (pre ++ (pairs ++ (len ∷ q ∷ D))) ≡ Some (entry (length pre) len q)
   unfolding top_of
   top_is =
-      ap₂ (λ (x y : ℕ). cond (ltb U 2) Bare (cond (ltb 4096 U) Bare (cond (ltb ((U - 2) / 2) x) Bare (Entry (U - 2 - 2 * x) x y)))) len_at_lem result_at_lem
-      ∙ rw (le-ltb U 2 (omega arith), le-ltb 4096 U room, le-ltb ((U - 2) / 2) len (omega arith)) (ap (λ (x : ℕ). Entry x len q) base)
+      ap₂ (λ (x y : ℕ). cond (ltb U 2) None (cond (ltb 4096 U) None (cond (ltb ((U - 2) / 2) x) None (Some (entry (U - 2 - 2 * x) x y))))) len_at_lem result_at_lem
+      ∙ rw (le-ltb U 2 (omega arith), le-ltb 4096 U room, le-ltb ((U - 2) / 2) len (omega arith)) (ap (λ (x : ℕ). Some (entry x len q)) base)
     where
       base : U - 2 - 2 * len ≡ length pre
       base = omega arith
@@ -88,10 +89,10 @@ module _ (area : List ℕ) (long : length area ≡ 4096) (u : ℕ) (file l : Lis
       ∙ ap (λ (x : List ℕ). front ++ x) (append_assoc (pairs_of file l) (length l ∷ q ∷ []) rest)
 
   -- is found
-  pub entry_found : top_of (u + need_of l) area ≡ Entry u (length l) q
+  pub entry_found : top_of (u + need_of l) area ≡ Some (entry u (length l) q)
   entry_found = ap₂ top_of (ap (λ (x : ℕ). x + need_of l) (sym front_length)) whole
       ∙ top_is front (pairs_of file l) rest (length l) q (pairs_length file l) (omega (arith, front_length))
-      ∙ ap (λ (n : ℕ). Entry n (length l) q) front_length
+      ∙ ap (λ (n : ℕ). Some (entry n (length l) q)) front_length
 
   -- and put back
   pub entry_back : (regs : ℕ) (g : List ℕ) → put_back regs area u (length l) g ≡ restored regs file l g
@@ -155,7 +156,7 @@ module _ (s : Saver) (ok : Sound s) (l : List ℕ) (q : ℕ) (a : Accepted s l q
     stands₂ : take (in_use s + need_of l) t.area ≡ take (in_use s) t.area ++ E
     stands₂ = saved₂ ∙ saved₁ ∙ ap (λ (x : List ℕ). x ++ E) (sym below₂)
 
-    found : top_of (in_use t) t.area ≡ Entry (in_use s) (length l) q
+    found : top_of (in_use t) t.area ≡ Some (entry (in_use s) (length l) q)
     found = ap (λ (n : ℕ). top_of n t.area) (m.used ∙ used₁) ∙ entry_found t.area m.sound.areas (in_use s) s.file l q fits stands₂
 
     part : (g : List ℕ) → put_back (regs_of s) t.area (in_use s) (length l) g ≡ restored (regs_of s) s.file l g
@@ -170,7 +171,7 @@ module _ (s : Saver) (ok : Sound s) (l : List ℕ) (q : ℕ) (a : Accepted s l q
     -- the leaving is not refused; it puts back what this entry put aside, and frees its room
     pub leaving : (back : Back)
         → leave_of t back ≡ ends (saver (set t.head 1 (in_use s)) t.area (result_written (regs_of s) q back (restored (regs_of s) s.file l t.file)))
-        (Used (in_use s))
+        (Ok (in_use s))
     unfolding leave_of left_by
     leaving back = rw (le-ltb 64 (regs_of t) m.sound.few, found, regs₂, part)
 

@@ -7,14 +7,18 @@ use mathlib.Core.List.{List, [], ◌∷◌, Memᴰ}
 use Prim.Native.Nat.{ℕ, zero, suc, ◌+◌, ◌≤◌, ◌<◌, zero-le}
 use native.Mathlib.Omega.{arith}
 use borrow.Author.Tests.{lt-leb, eqb-true, eq-eqb}
-use lib.Dec.{leb}
+use lib.Dec.{leb, eqb}
 use lib.ListN.{length, get_or}
 use Rattle.laws.specs.Some.{some}
 use Rattle.laws.proofs.Some.{passes_at}
 use Rattle.laws.proofs.Walk.{none_passed, reaches}
 use Rattle.flow.specs.Demand.{Once}
 use Rattle.taken.specs.Lists.{strange, first_strange}
-use Rattle.taken.proofs.Lists.{as_at, all_in}
+use Rattle.taken.proofs.Lists.{all_in}
+
+-- whether the number at place j is the one at place i
+abbrev as_at : List ℕ → ℕ → ℕ → Bool
+as_at l i = λ j. eqb (get_or l j 0) (get_or l i 0)
 
 -- a member stands somewhere
 pub in_place : {r : ℕ} (l : List ℕ) → Memᴰ r l → (i : ℕ) × (i < length l) × (get_or l i 0 ≡ r)

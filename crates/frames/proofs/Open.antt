@@ -10,7 +10,8 @@ use Rattle.area.specs.Area.{need_of, entry_of, put_in, put_back, top_of}
 use Rattle.saver.specs.Saver.{Saver, saver, Ends, ends, regs_of, in_use, made_head, enter_of}
 use Rattle.leaves.specs.Leaving.{Back, result_written, left_by, leave_of}
 use Rattle.frames.specs.Frames.{Sound, Open, made, entered, overwritten, left}
-use Rattle.saver.specs.declared.SaverAnswer.TheVariants.{Used, Nothing}
+use Rattle.std.specs.declared.result.Result.TheVariants.{Ok, Err}
+use Rattle.saver.specs.declared.SaverRefusal.TheVariants.{Nothing}
 use Rattle.frames.proofs.Words.{in_length, written_length}
 use Rattle.frames.proofs.Frames.{accepted, entered_sound, entry_found, used₁, fits, stands₁, below₁}
 
@@ -40,7 +41,7 @@ module _ (s : Saver) (ok : Sound s) (u : ℕ) (file l : List ℕ) (q : ℕ) (f :
   abbrev to : List ℕ
   to = result_written (regs_of s) q back (put_back (regs_of s) s.area u (length l) s.file)
 
-  leaves_it : leave_of s back ≡ ends (saver (set s.head 1 u) s.area to) (Used u)
+  leaves_it : leave_of s back ≡ ends (saver (set s.head 1 u) s.area to) (Ok u)
   unfolding leave_of left_by
   leaves_it = rw (le-ltb 64 (regs_of s) ok.few, e, entry_found s.area ok.areas u file l q f so)
 
@@ -89,21 +90,21 @@ pub open_sound : {s : Saver} {n : ℕ} → Open s n → Sound s
 open_sound o = (standing o).0
 
 -- with no call open a leaving is refused with 9 and changes nothing
-pub none_open : {s : Saver} → Open s 0 → (back : Back) → leave_of s back ≡ ends s Nothing
+pub none_open : {s : Saver} → Open s 0 → (back : Back) → leave_of s back ≡ ends s (Err Nothing)
 unfolding leave_of left_by top_of
 none_open {s} o back = let (ok, t) = standing o in bare ok (zero_used t)
   where
     zero_used : {w : ℕ} → Tower s.area 0 w → w ≡ 0
     zero_used (ground e) = e
 
-    bare : Sound s → in_use s ≡ 0 → leave_of s back ≡ ends s Nothing
+    bare : Sound s → in_use s ≡ 0 → leave_of s back ≡ ends s (Err Nothing)
     bare ok e = rw (le-ltb 64 (regs_of s) ok.few, e)
 
 -- with a call open it is not
-pub some_open : {s : Saver} {n : ℕ} → Open s (suc n) → (back : Back) → (u : ℕ) × ((leave_of s back).answer ≡ Used u)
+pub some_open : {s : Saver} {n : ℕ} → Open s (suc n) → (back : Back) → (u : ℕ) × ((leave_of s back).answer ≡ Ok u)
 some_open {s} o back = let (ok, t) = standing o in found ok t
   where
-    found : {n : ℕ} → Sound s → Tower s.area (suc n) (in_use s) → (u : ℕ) × ((leave_of s back).answer ≡ Used u)
+    found : {n : ℕ} → Sound s → Tower s.area (suc n) (in_use s) → (u : ℕ) × ((leave_of s back).answer ≡ Ok u)
     found ok (floor {u = u} file l q t f so e) = (u, ap (λ (x : Ends). x.answer) (leaves_it s ok u file l q f so e back))
 
 -- what `make` leaves is such a saver

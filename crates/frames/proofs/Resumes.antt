@@ -21,14 +21,14 @@ use Rattle.saver.specs.Saver.{Saver, Ends, regs_of, in_use, enter_of}
 use Rattle.leaves.specs.Leaving.{Back, returned, thrown, result_written, leave_of}
 use Rattle.frames.specs.Frames.{file_of, Sound, CallEvent, Matched}
 use Rattle.frames.specs.Inner.{restored, Play, SameRoom}
-use Rattle.saver.specs.declared.SaverAnswer.TheVariants.{Used}
+use Rattle.std.specs.declared.result.Result.TheVariants.{Ok}
 use Rattle.frames.proofs.Words.{in_same, in_other, back_length, back_kept}
 use Rattle.frames.proofs.Frames.{Accepted, accepted, entered_sound, leaving, left_same, matched}
 use Rattle.frames.proofs.Listed.{fine_in}
 
 -- s is entered with the list l and the result register q; what happens then, nested entries and leavings and registers overwritten, is well
 -- bracketed and ends in t
-module _ (s : Saver) (ok : Sound s) (l : List ℕ) (q u : ℕ) (entry : (enter_of s l q).answer ≡ Used u) (es : List CallEvent) (bracketed : Matched es) (t : Saver)
+module _ (s : Saver) (ok : Sound s) (l : List ℕ) (q u : ℕ) (entry : (enter_of s l q).answer ≡ Ok u) (es : List CallEvent) (bracketed : Matched es) (t : Saver)
     (play : Play (enter_of s l q).left es t) where
   a : Accepted s l q
   a = accepted s l q u entry
@@ -37,7 +37,7 @@ module _ (s : Saver) (ok : Sound s) (l : List ℕ) (q u : ℕ) (entry : (enter_o
   m = matched bracketed (entered_sound s ok l q a) play
 
   -- the leaving is not refused, whichever it is
-  pub answers : (back : Back) → (leave_of t back).answer ≡ Used (in_use s)
+  pub answers : (back : Back) → (leave_of t back).answer ≡ Ok (in_use s)
   answers back = ap (λ (e : Ends). e.answer) (leaving s ok l q a t m back)
 
   pub frame_same : (back : Back) → SameRoom s (leave_of t back).left

@@ -2,7 +2,7 @@
 use Rattle.std.specs.Prelude.{ℕ, suc, ◌≤◌, ◌≡◌, List, [], ◌∷◌, ◌++◌, length, take}
 use Rattle.saver.specs.Saver.{Saver, saver, regs_of, in_use, enter_of}
 use Rattle.leaves.specs.Leaving.{Back, leave_of}
-use Rattle.saver.specs.declared.SaverAnswer.TheVariants.{Used}
+use Rattle.std.specs.declared.result.Result.TheVariants.{Ok}
 
 -- the register file: as many entries as the saver was made for
 abbrev pub file_of : Saver → List ℕ
@@ -31,6 +31,6 @@ pub data Matched : List CallEvent → Type 0 where
 -- a saver that was made and used, with so many calls open: entered and not yet left
 pub data Open : Saver → ℕ → Type 0 where
   made : {s : Saver} → Sound s → in_use s ≡ 0 → Open s 0
-  entered : {s : Saver} {n : ℕ} → Open s n → (l : List ℕ) (q u : ℕ) → (enter_of s l q).answer ≡ Used u → Open (enter_of s l q).left (suc n)
+  entered : {s : Saver} {n : ℕ} → Open s n → (l : List ℕ) (q u : ℕ) → (enter_of s l q).answer ≡ Ok u → Open (enter_of s l q).left (suc n)
   overwritten : {s : Saver} {n : ℕ} → Open s n → (new : List ℕ) → length new ≡ length s.file → Open (saver s.head s.area new) n
   left : {s : Saver} {n : ℕ} → Open s (suc n) → (back : Back) → Open (leave_of s back).left n

@@ -3,7 +3,7 @@ use Rattle.std.specs.Prelude.{ℕ, ◌≡◌, List, [], ◌∷◌, length, get_o
 use Rattle.area.specs.Area.{put_in}
 use Rattle.saver.specs.Saver.{Saver, saver, regs_of, in_use, enter_of}
 use Rattle.leaves.specs.Leaving.{Back, leave_of}
-use Rattle.saver.specs.declared.SaverAnswer.TheVariants.{Used}
+use Rattle.std.specs.declared.result.Result.TheVariants.{Ok}
 use Rattle.frames.specs.Frames.{Sound, CallEvent, enters, writes, leaves}
 
 -- g, with the listed registers as they are in f
@@ -15,7 +15,7 @@ restored regs f (r ∷ l) g = restored regs f l (put_in regs r (get_or f r 0) g)
 -- whatever the call makes of it.
 pub data Play : Saver → List CallEvent → Saver → Type 0 where
   done : {s : Saver} → Play s [] s
-  enter : {s t : Saver} {l : List ℕ} {q u : ℕ} {es : List CallEvent} → (enter_of s l q).answer ≡ Used u → Play (enter_of s l q).left es t
+  enter : {s t : Saver} {l : List ℕ} {q u : ℕ} {es : List CallEvent} → (enter_of s l q).answer ≡ Ok u → Play (enter_of s l q).left es t
       → Play s (enters l q ∷ es) t
   write : {s t : Saver} {new : List ℕ} {es : List CallEvent} → length new ≡ length s.file → Play (saver s.head s.area new) es t
       → Play s (writes new ∷ es) t

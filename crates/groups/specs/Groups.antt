@@ -1,8 +1,15 @@
 -- The figures of a group of bodies, told from the list of all levels, and two groups joined (document 02, wish 12). Assumes nothing.
 use Rattle.std.specs.Prelude.{ℕ, ◌+◌, ◌-◌, max, Bool, true, false, cond, not, ◌&&◌, ◌||◌, List, [], ◌∷◌, eqb, ltb, length}
 use Rattle.groups.specs.declared.Figures.{Figures}
-use Rattle.groups.specs.declared.FiguresAnswer.{FiguresAnswer}
-use Rattle.groups.specs.declared.FiguresAnswer.TheVariants.{Is, Over}
+use Rattle.std.specs.declared.result.Result.{Result}
+use Rattle.std.specs.declared.result.Result.TheVariants.{Ok, Err}
+use Rattle.groups.specs.declared.FiguresRefusal.{FiguresRefusal}
+use Rattle.groups.specs.declared.FiguresRefusal.TheVariants.{Over}
+use Rattle.groups.specs.declared.Total.TheVariants.{Bodies, Levels, Kept, Body}
+
+-- the figures after a call, or why it is refused
+abbrev pub FiguresAnswer : Type 0
+FiguresAnswer = Result Figures FiguresRefusal
 
 -- a level that was met: its body, its position, and how long its list is
 pub record Met : Type 0 where
@@ -71,11 +78,11 @@ most = 18446744073709551615
 -- two groups joined, or 13 and the first total that would pass 64 bits: 1 bodies, 2 levels, 3 kept registers; 4 the body's number, moved up
 unfoldable pub sums_of : Figures → Figures → FiguresAnswer
 sums_of f g =
-    cond (ltb (most - f.bodies) g.bodies) (Over 1)
-    (cond (ltb (most - f.levels) g.levels) (Over 2)
-    (cond (ltb (most - f.kept) g.kept) (Over 3)
-    (cond (ltb (most - f.bodies) g.body) (Over 4)
-    (Is (join_of f g)))))
+    cond (ltb (most - f.bodies) g.bodies) (Err (Over Bodies))
+    (cond (ltb (most - f.levels) g.levels) (Err (Over Levels))
+    (cond (ltb (most - f.kept) g.kept) (Err (Over Kept))
+    (cond (ltb (most - f.bodies) g.body) (Err (Over Body))
+    (Ok (join_of f g)))))
 
 -- body numbers moved up
 unfoldable pub moved : ℕ → List Met → List Met

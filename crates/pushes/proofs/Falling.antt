@@ -8,8 +8,8 @@ use lib.Dec.{eqb, ltb}
 use borrow.Author.Tests.{ltb-true}
 use Rattle.ops.specs.Op.{StoreTopR}
 use Rattle.code.specs.Ins.{ins_at}
-use Rattle.pushes.specs.declared.Place.TheVariants.{At, Nowhere}
-use Rattle.pushes.specs.Pushes.{stores_from, call_before, gives_back, push_under, pushed_back}
+use Rattle.std.specs.declared.option.Option.TheVariants.{Some, None}
+use Rattle.pushes.specs.Pushes.{Place, stores_from, call_before, gives_back, push_under, pushed_back}
 
 stores_le : (w : List ℕ) (d : ℕ) → stores_from w d ≤ d
 unfolding stores_from
@@ -24,20 +24,20 @@ call_le : (w : List ℕ) (s : ℕ) → call_before w s ≤ s
 unfolding call_before
 call_le w s = omega arith
 
-no_at : {A : Type 0} (p : ℕ) → At p ≡ Nowhere → A
+no_at : {A : Type 0} (p : ℕ) → ◌≡◌ {A = Place} (Some p) None → A
 no_at p e = let y : ◌≡◌ {A = ℕ} 0 1 = cc in absurd (omega arith)
 
 module _ (w : List ℕ) (d r p : ℕ) where
-  under_falls : (c s : ℕ) → c ≤ d → At p ≡ push_under w c s d r → p < d
+  under_falls : (c s : ℕ) → c ≤ d → Some p ≡ push_under w c s d r → p < d
   unfolding push_under
   under_falls c s l = go (ltb 0 c) refl (gives_back w c s d r)
     where
-      go : (a : Bool) → ltb 0 c ≡ a → (g : Bool) → At p ≡ cond (a && g) (At (c - 1)) Nowhere → p < d
+      go : (a : Bool) → ltb 0 c ≡ a → (g : Bool) → Some p ≡ cond (a && g) (Some (c - 1)) None → p < d
       go true t true e = let q : p ≡ c - 1 = cc in omega (arith, ltb-true 0 c t)
       go true t false e = no_at p e
       go false t g e = no_at p e
 
-  pub pushed_falls : At p ≡ pushed_back w d r → p < d
+  pub pushed_falls : Some p ≡ pushed_back w d r → p < d
   unfolding pushed_back
   pushed_falls =
       under_falls (call_before w (stores_from w d)) (stores_from w d)

@@ -4,14 +4,13 @@ use Rattle.code.specs.Check.{check_of}
 use Rattle.refusals.specs.Stages.{inside_of}
 use Rattle.refusals.specs.Answers.{asked, answer_of, refused_of}
 use Rattle.refusals.specs.declared.Answer.{Answer}
-use Rattle.pushes.specs.Pushes.{pushed_back}
-use Rattle.pushes.specs.declared.Place.{Place}
-use Rattle.pushes.specs.declared.Place.TheVariants.{At, Nowhere}
+use Rattle.pushes.specs.Pushes.{Place, pushed_back}
+use Rattle.std.specs.declared.option.Option.TheVariants.{Some, None}
 
 -- 1, position; or 0
 abbrev pub push_told : Place → Answer
-push_told (At p) = answer_of 1 p 0 0
-push_told Nowhere = answer_of 0 0 0 0
+push_told (Some p) = answer_of 1 p 0 0
+push_told None = answer_of 0 0 0 0
 
 -- 1, 2, 6
 unfoldable pub push_answer : List ℕ → ℕ → ℕ → Answer

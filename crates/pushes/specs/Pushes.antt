@@ -8,8 +8,12 @@ use Rattle.code.specs.Ins.{ins_at}
 use Rattle.code.specs.declared.Ins.{Ins}
 use Rattle.roles.specs.Kinds.{field_of}
 use Rattle.roles.specs.Sets.{unpacked}
-use Rattle.pushes.specs.declared.Place.{Place}
-use Rattle.pushes.specs.declared.Place.TheVariants.{At, Nowhere}
+use Rattle.std.specs.declared.option.Option.{Option}
+use Rattle.std.specs.declared.option.Option.TheVariants.{Some, None}
+
+-- a position, if there is one
+abbrev pub Place : Type 0
+Place = Option ℕ
 
 -- where the stores right before d begin; d, if there is none
 unfoldable pub stores_from : List ℕ → ℕ → ℕ
@@ -41,7 +45,7 @@ gives_back w c s d r = pending (ins_at w c) (ins_at w (c - 1)) (d - s) r && take
 
 -- the push before the call at c, if there is one
 unfoldable pub push_under : List ℕ → ℕ → ℕ → ℕ → ℕ → Place
-push_under w c s d r = cond (ltb 0 c && gives_back w c s d r) (At (c - 1)) Nowhere
+push_under w c s d r = cond (ltb 0 c && gives_back w c s d r) (Some (c - 1)) None
 
 -- for the store at d that takes r back past a call: the push before that call
 unfoldable pub pushed_back : List ℕ → ℕ → ℕ → Place

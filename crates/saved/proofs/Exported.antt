@@ -15,8 +15,8 @@ use Rattle.code.specs.Check.{check_of}
 use Rattle.refusals.specs.Stages.{inside_of}
 use Rattle.refusals.specs.Answers.{asked, answer_of, refusal_of, refused_of}
 use Rattle.refusals.specs.declared.Answer.{Answer}
-use Rattle.refusals.specs.declared.Checked.{Checked}
-use Rattle.refusals.specs.declared.Checked.TheVariants as stage
+use Rattle.refusals.specs.Stages.{Checked}
+use Rattle.std.specs.declared.result.Result.TheVariants.{Ok, Err}
 use Rattle.code.proofs.Checks.{counted}
 use Rattle.refusals.proofs.Stages.{at_before, at_inside}
 use Rattle.flow.specs.Kept.{handlers_of}
@@ -32,8 +32,9 @@ use Rattle.leaves.specs.Leaving.{Back, returned, thrown, leave_of}
 use Rattle.frames.specs.Frames.{file_of, Sound, CallEvent, Matched, Open}
 use Rattle.frames.specs.Inner.{Play, done, enter, write, leave}
 use Rattle.saver.specs.Answers.{saver_told}
-use Rattle.saver.specs.declared.SaverAnswer.{SaverAnswer}
-use Rattle.saver.specs.declared.SaverAnswer.TheVariants.{Used, Registers, Listed, Full, Nothing}
+use Rattle.std.specs.declared.result.Result.TheVariants.{Ok, Err}
+use Rattle.saver.specs.Saver.{SaverAnswer}
+use Rattle.saver.specs.declared.SaverRefusal.TheVariants.{Registers, Listed, Full, Nothing}
 use Rattle.frames.proofs.Resumes.{answers}
 use Rattle.frames.proofs.Open.{open_sound, none_open, some_open, made_open}
 use Rattle.answers.specs.Answers.{By, KeptTold, MadeTold, EnterTold, LeaveTold}
@@ -55,8 +56,8 @@ level_found w k v e h one = go (inside_of (check_of w) k) refl (sym (ap (λ (a :
   where
     go : (c : Checked) → inside_of (check_of w) k ≡ c → (asked c refused_of (level_told w k)).refusal ≡ 0 → (asked c refused_of (level_told w k)).first ≡ 1
         → v ≡ asked c refused_of (level_told w k) → Found w k v
-    go (stage.No q) p z u x = absurd (never_0 q z)
-    go (stage.Count n) p z u x = at (is_level (ins_at w k)) refl u x
+    go (Err q) p z u x = absurd (never_0 q z)
+    go (Ok n) p z u x = at (is_level (ins_at w k)) refl u x
       where
         at : (b : Bool) → is_level (ins_at w k) ≡ b → (cond b (answer_of 1 (resume_of w k) (result_at w k) 0) (answer_of 0 0 0 0)).first ≡ 1
             → v ≡ cond b (answer_of 1 (resume_of w k) (result_at w k) 0) (answer_of 0 0 0 0) → Found w k v
@@ -69,14 +70,14 @@ level_found w k v e h one = go (inside_of (check_of w) k) refl (sym (ap (λ (a :
         }
 
 -- an exported saver call with refusal 0 is an answer of the call inside
-used_of_lem : (v : SaverAnswer) → (saver_told v).refusal ≡ 0 → (u : ℕ) × (v ≡ Used u)
-used_of_lem (Used u) h = (u, refl)
-used_of_lem (Registers n) h = absurd (omega arith)
-used_of_lem (Listed i) h = absurd (omega arith)
-used_of_lem (Full n) h = absurd (omega arith)
-used_of_lem Nothing h = absurd (omega arith)
+used_of_lem : (v : SaverAnswer) → (saver_told v).refusal ≡ 0 → (u : ℕ) × (v ≡ Ok u)
+used_of_lem (Ok u) h = (u, refl)
+used_of_lem (Err (Registers n)) h = absurd (omega arith)
+used_of_lem (Err (Listed i)) h = absurd (omega arith)
+used_of_lem (Err (Full n)) h = absurd (omega arith)
+used_of_lem (Err Nothing) h = absurd (omega arith)
 
-pub by_call : (e : Ends) (s : Saver) (r : Answer) → By saver_told (λ v. e ≡ ends s v) r → r.refusal ≡ 0 → (u : ℕ) × (e.answer ≡ Used u)
+pub by_call : (e : Ends) (s : Saver) (r : Answer) → By saver_told (λ v. e ≡ ends s v) r → r.refusal ≡ 0 → (u : ℕ) × (e.answer ≡ Ok u)
 by_call e s r x h =
     let (u, z) = used_of_lem x.told (sym (ap (λ (a : Answer). a.refusal) x.is) ∙ h) in
     (u, ap (λ (y : Ends). y.answer) x.allowed ∙ z)
@@ -102,7 +103,7 @@ pub made : (regs : ℕ) (head head' area file : List ℕ) (r : Answer) → lengt
     → MadeTold regs head head' r → r.refusal ≡ 0 → Open (saver head' area file) 0 × (regs_of (saver head' area file) ≡ regs)
 made regs head head' area file r h a f x zero = go (dec_lt 64 regs)
   where
-    told : (saver_told (cond (ltb 64 regs) (Registers regs) (Used 0))).refusal ≡ 0
+    told : (saver_told (cond (ltb 64 regs) (Err (Registers regs)) (Ok 0))).refusal ≡ 0
     told = ap (λ (v : SaverAnswer). (saver_told v).refusal) (sym x.allowed.answer) ∙ sym (ap (λ (y : Answer). y.refusal) x.is) ∙ zero
 
     go : Dec (64 < regs) → Open (saver head' area file) 0 × (regs_of (saver head' area file) ≡ regs)
@@ -148,7 +149,7 @@ module _ (bits : ℕ) (w : List ℕ) (regs : ℕ) (tries : List ℕ) (wide : Boo
       → (a ≡ refusal_of 8 (free_of (in_use s)) 0) × (t ≡ s)
   no_room h t a x =
       let (n, g, b, out) = kept_answered bits w regs tries wide rows offsets list new o l r kept answered in
-      let e = at (λ q. enter_of s (part_at o l k) q ≡ ends s (Full (free_of (in_use s))))
+      let e = at (λ q. enter_of s (part_at o l k) q ≡ ends s (Err (Full (free_of (in_use s)))))
       (saved.no_room bits w regs tries wide rows offsets list new o l n g b out k f.inside f.level s ok same h) in (
         told_is (enter_of s (part_at o l k) v.third) t a x ∙ ap (λ (y : Ends). saver_told y.answer) e,
         sym (left_is (enter_of s (part_at o l k) v.third) t a x) ∙ ap (λ (y : Ends). y.left) e,
@@ -159,7 +160,7 @@ module _ (bits : ℕ) (w : List ℕ) (regs : ℕ) (tries : List ℕ) (wide : Boo
       → a ≡ answer_of (in_use s + (2 * length (part_at o l k) + 2)) 0 0 0
   room h t a x =
       let (n, g, b, out) = kept_answered bits w regs tries wide rows offsets list new o l r kept answered in
-      let e = at (λ q. enter_of s (part_at o l k) q ≡ ends (entered s (part_at o l k) q) (Used (in_use s + (2 * length (part_at o l k) + 2))))
+      let e = at (λ q. enter_of s (part_at o l k) q ≡ ends (entered s (part_at o l k) q) (Ok (in_use s + (2 * length (part_at o l k) + 2))))
       (saved.room bits w regs tries wide rows offsets list new o l n g b out k f.inside f.level s ok same h) in
       told_is (enter_of s (part_at o l k) v.third) t a x ∙ ap (λ (y : Ends). saver_told y.answer) e
 
@@ -181,8 +182,8 @@ module _ (bits : ℕ) (w : List ℕ) (regs : ℕ) (tries : List ℕ) (wide : Boo
     from : Play (enter_of s (part_at o l k) (result_at w k)).left es t
     from = subst (λ (q : ℕ). Play (enter_of s (part_at o l k) q).left es t) f.results play
 
-    to : (u : ℕ) → (enter_of s (part_at o l k) v.third).answer ≡ Used u → (enter_of s (part_at o l k) (result_at w k)).answer ≡ Used u
-    to u = subst (λ (q : ℕ). (enter_of s (part_at o l k) q).answer ≡ Used u) f.results
+    to : (u : ℕ) → (enter_of s (part_at o l k) v.third).answer ≡ Ok u → (enter_of s (part_at o l k) (result_at w k)).answer ≡ Ok u
+    to u = subst (λ (q : ℕ). (enter_of s (part_at o l k) q).answer ≡ Ok u) f.results
 
     -- The leaving is answered, by a return or an exception.
     pub left : (back : Back) (t' : Saver) (b : Answer) → LeaveTold t back t' b → b ≡ answer_of (in_use s) 0 0 0

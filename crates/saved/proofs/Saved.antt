@@ -22,7 +22,8 @@ use Rattle.saver.specs.Saver.{Saver, ends, regs_of, in_use, entered, enter_of}
 use Rattle.leaves.specs.Leaving.{returned, thrown, leave_of}
 use Rattle.frames.specs.Frames.{file_of, Sound, CallEvent, Matched}
 use Rattle.frames.specs.Inner.{Play}
-use Rattle.saver.specs.declared.SaverAnswer.TheVariants.{Used, Full}
+use Rattle.std.specs.declared.result.Result.TheVariants.{Ok, Err}
+use Rattle.saver.specs.declared.SaverRefusal.TheVariants.{Full}
 use Rattle.frames.proofs.Listed.{fine_list}
 use Rattle.frames.proofs.Resumes.{alike_return, alike_thrown}
 
@@ -39,7 +40,7 @@ module _ (bits : ℕ) (w : List ℕ) (regs : ℕ) (tries : List ℕ) (wide : Boo
       (kept_each_once bits w regs tries wide rows offsets list new o l total full abandoned out k in_code level)
 
   -- so an entry is refused with 8 where free words are fewer than twice the list plus two ..
-  pub no_room : free_of (in_use s) < 2 * length (part_at o l k) + 2 → enter_of s (part_at o l k) (result_at w k) ≡ ends s (Full (free_of (in_use s)))
+  pub no_room : free_of (in_use s) < 2 * length (part_at o l k) + 2 → enter_of s (part_at o l k) (result_at w k) ≡ ends s (Err (Full (free_of (in_use s))))
   unfolding enter_of
   no_room h = rw (
     le-ltb 64 (regs_of s) ok.few,
@@ -50,7 +51,7 @@ module _ (bits : ℕ) (w : List ℕ) (regs : ℕ) (tries : List ℕ) (wide : Boo
 
   -- .. and goes through everywhere else
   pub room : 2 * length (part_at o l k) + 2 ≤ free_of (in_use s)
-      → enter_of s (part_at o l k) (result_at w k) ≡ ends (entered s (part_at o l k) (result_at w k)) (Used (in_use s + (2 * length (part_at o l k) + 2)))
+      → enter_of s (part_at o l k) (result_at w k) ≡ ends (entered s (part_at o l k) (result_at w k)) (Ok (in_use s + (2 * length (part_at o l k) + 2)))
   unfolding enter_of
   room h = rw (
     le-ltb 64 (regs_of s) ok.few,
@@ -60,7 +61,7 @@ module _ (bits : ℕ) (w : List ℕ) (regs : ℕ) (tries : List ℕ) (wide : Boo
   )
 
   -- the level is entered, anything well bracketed happens, with registers overwritten at will, and the call is left
-  module _ (u : ℕ) (entry : (enter_of s (part_at o l k) (result_at w k)).answer ≡ Used u) (es : List CallEvent) (bracketed : Matched es)
+  module _ (u : ℕ) (entry : (enter_of s (part_at o l k) (result_at w k)).answer ≡ Ok u) (es : List CallEvent) (bracketed : Matched es)
       (t : Saver) (play : Play (enter_of s (part_at o l k) (result_at w k)).left es t) where
     -- by a return: the run resumed there visits the same positions and reads the same values as one whose registers nobody touched, save for the result
     pub saved_return : (x : ℕ) → Alike (flow regs w) (resume_of w k) (file_of (leave_of t (returned x)).left) (put_in (regs_of s) (result_at w k) x (file_of s))

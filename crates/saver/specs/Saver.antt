@@ -3,8 +3,14 @@ use Rattle.std.specs.Prelude.{ℕ, ◌+◌, ◌≡◌, cond, List, ltb, length, 
 use Rattle.std.proofs.lemmas.List.Edits.{sets}
 use Rattle.taken.specs.Lists.{first_strange}
 use Rattle.area.specs.Area.{free_of, need_of, entry_of}
-use Rattle.saver.specs.declared.SaverAnswer.{SaverAnswer}
-use Rattle.saver.specs.declared.SaverAnswer.TheVariants.{Used, Registers, Listed, Full}
+use Rattle.std.specs.declared.result.Result.{Result}
+use Rattle.std.specs.declared.result.Result.TheVariants.{Ok, Err}
+use Rattle.saver.specs.declared.SaverRefusal.{SaverRefusal}
+use Rattle.saver.specs.declared.SaverRefusal.TheVariants.{Registers, Listed, Full}
+
+-- what a call answers: the words of the area in use after it, or why it is refused
+abbrev pub SaverAnswer : Type 0
+SaverAnswer = Result ℕ SaverRefusal
 
 -- A saver's words: its head (the number of registers, the words of the area in use), the save area, and the register file.
 pub record Saver : Type 0 where
@@ -40,7 +46,7 @@ made_head head regs = cond (ltb 64 regs) head (set (set head 0 regs) 1 0)
 -- what making a saver for so many registers leaves in its head, and what it answers
 pub record Made (regs : ℕ) (head new : List ℕ) (r : SaverAnswer) : Type 0 where
   pub words : new ≡ made_head head regs
-  pub answer : r ≡ cond (ltb 64 regs) (Registers regs) (Used 0)
+  pub answer : r ≡ cond (ltb 64 regs) (Err (Registers regs)) (Ok 0)
 
 -- the saver once the list is put aside
 abbrev pub entered : Saver → List ℕ → ℕ → Saver
@@ -49,7 +55,7 @@ entered s l q = saver (set s.head 1 (in_use s + need_of l)) (sets s.area (in_use
 -- entered: 3, then 14 with the first such place, then 8 with the free words, which are fewer than twice the list plus two
 unfoldable pub enter_of : Saver → List ℕ → ℕ → Ends
 enter_of s l q =
-    cond (ltb 64 (regs_of s)) (ends s (Registers (regs_of s)))
-    (cond (ltb (first_strange (regs_of s) l) (length l)) (ends s (Listed (first_strange (regs_of s) l)))
-    (cond (ltb (free_of (in_use s)) (need_of l)) (ends s (Full (free_of (in_use s))))
-    (ends (entered s l q) (Used (in_use s + need_of l)))))
+    cond (ltb 64 (regs_of s)) (ends s (Err (Registers (regs_of s))))
+    (cond (ltb (first_strange (regs_of s) l) (length l)) (ends s (Err (Listed (first_strange (regs_of s) l))))
+    (cond (ltb (free_of (in_use s)) (need_of l)) (ends s (Err (Full (free_of (in_use s)))))
+    (ends (entered s l q) (Ok (in_use s + need_of l)))))

@@ -2,85 +2,82 @@
 #![tactic(auto)]
 
 ghost use Rattle.std.specs.Prelude.{◌≡◌};
-ghost use Rattle.refusals.specs.Answers.{refusal_of};
-ghost use Rattle.saver.specs.Answers.{saver_told};
+ghost use Rattle.saver.specs.Answers.{saver_refused, saver_told};
 ghost use Rattle.saver.specs.Saver.{saver, ends, Made, enter_of};
 
 use refusals::Answer;
 
-// What a call answers: the words of the area in use after it, or why it is refused.
+// Why a call is refused, with what it also returns.
 #[derive(Clone, Copy)]
-pub enum SaverAnswer {
-    Used(usize),
+pub enum SaverRefusal {
     Registers(usize),
     Listed(usize),
     Full(usize),
     Nothing,
 }
 
-// A refusal and what it also returns.
-fn refuse(refusal: u8, first: usize) -> Answer
-    ensures { result ≡ refusal_of refusal first 0 }
-{
-    Answer {
-        refusal,
-        first: first as u64,
-        second: 0,
-        third: 0,
-        fourth: 0,
+// A refusal by its number and value.
+impl From<SaverRefusal> for Answer {
+    ghost from_gives = { λ r a. a ≡ saver_refused r };
+
+    fn from(r: SaverRefusal) -> Answer {
+        match r {
+            SaverRefusal::Registers(n) => refusals::refuse(3, n as u64, 0),
+            SaverRefusal::Listed(i) => refusals::refuse(14, i as u64, 0),
+            SaverRefusal::Full(n) => refusals::refuse(8, n as u64, 0),
+            SaverRefusal::Nothing => refusals::refuse(9, 0, 0),
+        }
     }
 }
 
-// What an exported call answers.
-pub fn told(a: SaverAnswer) -> Answer
+// What an exported call answers: the words of the area in use after it, or why it is refused.
+pub fn told(a: Result<usize, SaverRefusal>) -> Answer
     ensures { result ≡ saver_told a }
 {
     match a {
-        SaverAnswer::Used(n) => refusals::tell(n as u64, 0, 0, 0),
-        SaverAnswer::Registers(n) => refuse(3, n),
-        SaverAnswer::Listed(i) => refuse(14, i),
-        SaverAnswer::Full(n) => refuse(8, n),
-        SaverAnswer::Nothing => refuse(9, 0),
+        Ok(n) => refusals::tell(n as u64, 0, 0, 0),
+        Err(r) => Answer::from(r),
     }
 }
 
 // The file's length is fixed; the area is empty.
-pub fn make(head: &mut [u64; 2], regs: usize) -> SaverAnswer
+pub fn make(head: &mut [u64; 2], regs: usize) -> Result<usize, SaverRefusal>
     ensures { Made regs head.old head.new result }
 {
     if 64 < regs {
-        return SaverAnswer::Registers(regs);
+        return Err(SaverRefusal::Registers(regs));
     }
     head[0] = regs as u64;
     head[1] = 0;
-    SaverAnswer::Used(0)
+    Ok(0)
 }
 
 // A call is entered: the listed registers are put aside.
+#[tactic(auto, unfolding(crate::specs::Saver::enter_of))]
 pub fn enter(
     head: &mut [u64; 2],
     area: &mut [u64; 4096],
     file: &[u64; 64],
     list: &[u16],
     res: u64,
-) -> SaverAnswer
+) -> Result<usize, SaverRefusal>
     ensures { enter_of (saver head.old area.old file.now) list.now res
         ≡ ends (saver head.new area.new file.now) result }
 {
     let regs = head[0] as usize;
     let used = head[1] as usize;
     if 64 < regs {
-        return SaverAnswer::Registers(regs);
+        return Err(SaverRefusal::Registers(regs));
     }
     let odd = taken::first_strange(list, regs);
     if odd < list.len() {
-        return SaverAnswer::Listed(odd);
+        return Err(SaverRefusal::Listed(odd));
     }
     let free = area::free_of(used);
     if free / 2 <= list.len() {
-        return SaverAnswer::Full(free);
+        return Err(SaverRefusal::Full(free));
     }
     let next = area::store(area, used, file, list, res);
     head[1] = next as u64;
-    SaverAnswer::Used(next)
+    Ok(next)
 }

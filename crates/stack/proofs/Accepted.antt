@@ -1,5 +1,5 @@
 -- What a call knows once its tests are passed: the position is in the code, and each x is at most 255. Assumes nothing.
-use mathlib.Core.Path.{◌≡◌, sym, ◌∙◌}
+use mathlib.Core.Path.{◌≡◌}
 use mathlib.Core.List.{List}
 use Prim.Native.Nat.{ℕ, ◌+◌, ◌*◌, ◌%◌, ◌≤◌, ◌<◌}
 use native.Mathlib.Decide.{dec_lt}
@@ -10,11 +10,11 @@ use Rattle.code.specs.Check.{check_of}
 use Rattle.refusals.specs.Stages.{inside_of}
 use Rattle.code.specs.Inner.{Valid}
 use Rattle.code.specs.declared.Ins.{Ins}
-use Rattle.refusals.specs.declared.Checked.{Checked}
-use Rattle.refusals.specs.declared.Checked.TheVariants.{Count}
+use Rattle.refusals.specs.Stages.{Checked}
+use Rattle.std.specs.declared.result.Result.TheVariants.{Ok}
 use Rattle.stack.specs.Inner.{Narrow}
 use Rattle.code.proofs.Rules.{x_small}
-use Rattle.code.proofs.Checks.{count_of}
+use Rattle.code.proofs.Checks.{count_of, valid_of}
 use Rattle.refusals.proofs.Stages.{at_before, at_inside}
 
 narrow_in : (w : List ℕ) (k : ℕ) → Valid w → Dec (k < count w) → (ins_at w k).x ≤ 255
@@ -26,7 +26,6 @@ narrow_in w k v (no h) =
 pub narrow_at : (w : List ℕ) (k : ℕ) (i : Ins) → Valid w → i ≡ ins_at w k → Narrow i
 narrow_at w k i v e = rw e (record { narrow = narrow_in w k v (dec_lt k (count w)) })
 
-pub at_in : (w : List ℕ) (v u : Checked) (n k : ℕ) → v ≡ check_of w → u ≡ inside_of v k → u ≡ Count n → k < count w
-at_in w v u n k e f t =
-    let s : Count n ≡ inside_of v k = sym t ∙ f in
-    omega (arith, at_inside n v k s, count_of w n v e (at_before n v k s))
+-- where a position of lent code passed its tests, the code is valid and has the position
+pub accepted : (w : List ℕ) (v : Checked) (n k : ℕ) → v ≡ check_of w → ◌≡◌ {A = Checked} (Ok n) (inside_of v k) → Valid w × (k < count w)
+accepted w v n k e s = (valid_of w n v e (at_before n v k s), omega (arith, at_inside n v k s, count_of w n v e (at_before n v k s)))

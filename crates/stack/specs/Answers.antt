@@ -4,14 +4,13 @@ use Rattle.code.specs.Check.{check_of}
 use Rattle.refusals.specs.Stages.{inside_of}
 use Rattle.refusals.specs.Answers.{asked, answer_of, refused_of}
 use Rattle.refusals.specs.declared.Answer.{Answer}
-use Rattle.stack.specs.Stack.{stack_callee}
-use Rattle.stack.specs.declared.Source.{Source}
-use Rattle.stack.specs.declared.Source.TheVariants.{From, Lost}
+use Rattle.stack.specs.Stack.{Source, stack_callee}
+use Rattle.std.specs.declared.option.Option.TheVariants.{Some, None}
 
 -- 1, position, register; or 0
 abbrev pub stack_told : Source → Answer
-stack_told (From p r) = answer_of 1 p r 0
-stack_told Lost = answer_of 0 0 0 0
+stack_told (Some x) = answer_of 1 x.0 x.1 0
+stack_told None = answer_of 0 0 0 0
 
 -- 1, 2, 6
 unfoldable pub stack_answer : List ℕ → ℕ → ℕ → Answer

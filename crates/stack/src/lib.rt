@@ -4,21 +4,14 @@
 ghost use Rattle.std.specs.Prelude.{◌≡◌, ◌<◌, ◌≤◌};
 ghost use Rattle.code.specs.Ins.{count};
 ghost use Rattle.code.specs.Inner.{Valid};
-ghost use Rattle.roles.specs.Roles.{role_table};
 ghost use Rattle.stack.specs.Stack.{work_of, effect_of, source_of, turn_of, stack_callee};
 ghost use Rattle.stack.specs.Inner.{Narrow, Grows};
 ghost use Rattle.stack.specs.Answers.{stack_answer};
 
 use code::Ins;
 use ops::*;
-use refusals::{Answer, Checked};
-
-// A push and one of its registers, if there is one.
-#[derive(Clone, Copy)]
-pub enum Source {
-    From(usize, u16),
-    Lost,
-}
+use refusals::Answer;
+use roles::Roles;
 
 // An opcode's work on the stack.
 #[derive(Clone, Copy)]
@@ -37,17 +30,17 @@ pub enum Work {
     Role,
 }
 
-// How many values an instruction pops and how many it then pushes, if that is known.
+// How many values an instruction pops and how many it then pushes.
 #[derive(Clone, Copy)]
-pub enum Effect {
-    Moves(u16, u8),
-    Stops,
+pub struct Effect {
+    pub pops: u16,
+    pub pushes: u8,
 }
 
-// Where the walk over the stack's work ends, or how deep the value lies before the instruction.
+// Where the walk over the stack's work ends, at a push and one of its registers or nowhere, or how deep the value lies before the instruction.
 #[derive(Clone, Copy)]
 pub enum Turn {
-    Ends(Source),
+    Ends(Option<(usize, u16)>),
     Needs(usize),
 }
 
@@ -90,89 +83,77 @@ fn work_of(o: u16) -> Work
     }
 }
 
-// What i does to the stack.
-fn effect_of(roles: &[u8; 1280], i: Ins) -> Effect
-    requires { (roles.now ≡ role_table) × Narrow i }
+// What i does to the stack, if that is known.
+#[tactic(auto, unfolding(crate::specs::Stack::effect_of))]
+fn effect_of(roles: &Roles, i: Ins) -> Option<Effect>
+    requires { Narrow i }
     ensures { result ≡ effect_of i }
 {
-    let a = i.a;
-    let x = i.x;
-    match work_of(i.op) {
-        Work::Push => Effect::Moves(0, x as u8),
-        Work::Store => if x == 0 {
-            Effect::Moves(1, 0)
-        } else {
-            Effect::Stops
-        },
-        Work::Plain(pops, pushes) => Effect::Moves(pops as u16, pushes),
-        Work::Build => Effect::Moves(a, 1),
-        Work::Calls => if a < 256 {
-            Effect::Moves(a + 1, 1)
-        } else {
-            Effect::Stops
-        },
-        Work::Role => if roles::has_role_in(roles, i) {
-            Effect::Moves(0, 0)
-        } else {
-            Effect::Stops
-        },
-    }
+    let (pops, pushes) = match work_of(i.op) {
+        Work::Push => (0, i.x as u8),
+        Work::Store if i.x == 0 => (1, 0),
+        Work::Plain(pops, pushes) => (u16::from(pops), pushes),
+        Work::Build => (i.a, 1),
+        Work::Calls if i.a < 256 => (i.a + 1, 1),
+        Work::Role if roles::has_role_in(roles, i) => (0, 0),
+        _ => return None,
+    };
+    Some(Effect { pops, pushes })
 }
 
 // Register f of i at k, if i is a push.
-fn source_of(i: Ins, k: usize, f: u8) -> Source
+#[tactic(auto, unfolding(crate::specs::Stack::source_of))]
+fn source_of(i: Ins, k: usize, f: u8) -> Option<(usize, u16)>
     ensures { result ≡ source_of i k f }
 {
     if i.op == PushRegs {
-        return Source::From(k, roles::field_of(i, f));
+        return Some((k, roles::field_of(i, f)));
     }
-    Source::Lost
+    None
 }
 
 // The walk's step over i at k, for the value that lies `need` deep after it.
-fn turn_of(roles: &[u8; 1280], i: Ins, k: usize, need: usize) -> Turn
-    requires { (roles.now ≡ role_table) × Narrow i × (need ≤ 4294967296) }
+#[tactic(auto, unfolding(crate::specs::Stack::turn_of))]
+fn turn_of(roles: &Roles, i: Ins, k: usize, need: usize) -> Turn
+    requires { Narrow i × (need ≤ 4294967296) }
     ensures { (result ≡ turn_of i k need) × Grows need result }
 {
-    match effect_of(roles, i) {
-        Effect::Stops => Turn::Ends(Source::Lost),
-        Effect::Moves(pops, pushes) => {
-            let pushed = pushes as usize;
-            if need <= pushed {
-                return Turn::Ends(source_of(i, k, (pushed - need) as u8));
-            }
-            Turn::Needs(need - pushed + pops as usize)
-        }
+    let Some(e) = effect_of(roles, i) else {
+        return Turn::Ends(None);
+    };
+    let pushed = usize::from(e.pushes);
+    if need <= pushed {
+        return Turn::Ends(source_of(i, k, (pushed - need) as u8));
     }
+    Turn::Needs(need - pushed + usize::from(e.pops))
 }
 
 // The push of the value that lies under n values before j, and its register.
-pub fn stack_callee_of(code: &[u16], j: usize, n: u16) -> Source
+pub fn stack_callee_of(code: &[u16], j: usize, n: u16) -> Option<(usize, u16)>
     requires { Valid code.now × (j < count code.now) }
     ensures { result ≡ stack_callee code.now j n }
 {
     let roles = roles::table();
-    let mut need = n as usize + 1;
-    let mut k = j;
-    while 0 < k {
-        k -= 1;
+    let mut need = usize::from(n) + 1;
+    for k in (0..j).rev() {
         match turn_of(&roles, code::ins_at(code, k), k, need) {
             Turn::Ends(s) => return s,
             Turn::Needs(m) => need = m,
         }
     }
-    Source::Lost
+    None
 }
 
 // For the stack call of `count` positionals at a position, the push of its function: refusals 1, 2, 6.
+#[tactic(auto, using(crate::proofs::Accepted::accepted), unfolding(crate::specs::Answers::stack_answer))]
 pub fn stack_callee(code: &[u16], at: usize, count: u16) -> Answer
     ensures { result ≡ stack_answer code.now at count }
 {
     match refusals::inside(code::check(code), at) {
-        Checked::No(q) => refusals::refused(q),
-        Checked::Count(_) => match stack_callee_of(code, at, count) {
-            Source::From(p, r) => refusals::tell(1, p as u64, r as u64, 0),
-            Source::Lost => refusals::tell(0, 0, 0, 0),
+        Err(q) => Answer::from(q),
+        Ok(_) => match stack_callee_of(code, at, count) {
+            Some((p, r)) => refusals::tell(1, p as u64, u64::from(r), 0),
+            None => refusals::tell(0, 0, 0, 0),
         },
     }
 }

@@ -8,9 +8,10 @@ use native.Mathlib.Omega.{arith}
 use borrow.Author.Tests.{lt-ltb, le-ltb}
 use lib.ListN.{length}
 use Rattle.blocks.specs.Blocks.{bad_check, bad_fill, blocks_of}
-use Rattle.trace.specs.declared.Verdict.TheVariants.{Fine, Check, Filler, Move}
+use Rattle.std.specs.declared.result.Result.TheVariants.{Err}
+use Rattle.trace.specs.declared.Wrong.TheVariants.{Check, Filler, Move}
 use Rattle.moves.specs.Moves.{first_step}
-use Rattle.trace.specs.Trace.{wrong_in, verdict_from, verdict_of}
+use Rattle.trace.specs.Trace.{Verdict, Fine, wrong_in, verdict_from, verdict_of}
 
 -- ---- blocks
 
@@ -35,17 +36,17 @@ module _ (w tries t : List ℕ) where
         more = omega arith
 
     module _ (h : b < length t / 512) (c : Bool) (x : c ≡ bad_check t b) where
-      pub judging_check : c ≡ true → Check b ≡ verdict_of w tries t
+      pub judging_check : c ≡ true → ◌≡◌ {A = Verdict} (Err (Check b)) (verdict_of w tries t)
       unfolding wrong_in
       judging_check y = sym (rw (sym x ∙ y)) ∙ opened (omega arith)
 
       module _ (y : c ≡ false) (f : Bool) (z : f ≡ bad_fill t b) where
-        pub judging_fill : f ≡ true → Filler b ≡ verdict_of w tries t
+        pub judging_fill : f ≡ true → ◌≡◌ {A = Verdict} (Err (Filler b)) (verdict_of w tries t)
         unfolding wrong_in
         judging_fill k = sym (rw (sym x ∙ y, sym z ∙ k)) ∙ opened (omega arith)
 
         module _ (k : f ≡ false) (s : ℕ) (e : s ≡ first_step w tries t b) where
-          pub judging_move : s < 127 * b + 127 → Move s ≡ verdict_of w tries t
+          pub judging_move : s < 127 * b + 127 → ◌≡◌ {A = Verdict} (Err (Move s)) (verdict_of w tries t)
           unfolding wrong_in
           judging_move l = sym (rw (sym x ∙ y, sym z ∙ k, ← e, lt-ltb s (127 * b + 127) l)) ∙ opened (omega arith)
 
@@ -55,7 +56,7 @@ module _ (w tries t : List ℕ) where
 
     module _ (end : length t / 512 ≤ b) where
       -- the last block is cut short
-      pub judging_cut : (length t % 512 ≡ 0 → ⊥) → Check b ≡ verdict_of w tries t
+      pub judging_cut : (length t % 512 ≡ 0 → ⊥) → ◌≡◌ {A = Verdict} (Err (Check b)) (verdict_of w tries t)
       unfolding wrong_in bad_check
       judging_cut n = sym (rw (lt-ltb (length t - 512 * b) 512 (omega (arith, j.le)))) ∙ opened (omega (arith, j.le))
 

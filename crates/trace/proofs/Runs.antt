@@ -13,11 +13,11 @@ use Rattle.laws.specs.Some.{some}
 use Rattle.laws.proofs.Some.{passes_at}
 use Rattle.laws.proofs.Walk.{none_passed, reaches}
 use Rattle.code.specs.Ins.{count}
-use Rattle.trace.specs.declared.Verdict.{Verdict}
-use Rattle.trace.specs.declared.Verdict.TheVariants.{Fine, Check, Filler, Move}
+use Rattle.std.specs.declared.result.Result.TheVariants.{Err}
+use Rattle.trace.specs.declared.Wrong.TheVariants.{Check, Filler, Move}
 use Rattle.blocks.specs.Blocks.{word_at, slot_at, filler_at, weighed, bad_check, follows, bad_fill, blocks_of}
 use Rattle.moves.specs.Moves.{may_go, bad_step, first_step}
-use Rattle.trace.specs.Trace.{wrong_in, verdict_from, verdict_of, Recorded}
+use Rattle.trace.specs.Trace.{Verdict, Fine, wrong_in, verdict_from, verdict_of, Recorded}
 
 module _ (w tries t : List ℕ) where
   -- a block with nothing wrong
@@ -31,7 +31,7 @@ module _ (w tries t : List ℕ) where
   clean b v e = go (bad_check t b) refl (bad_fill t b) refl (ltb (first_step w tries t b) (127 * b + 127)) refl e
     where
       go : (x : Bool) → bad_check t b ≡ x → (y : Bool) → bad_fill t b ≡ y → (z : Bool) → ltb (first_step w tries t b) (127 * b + 127) ≡ z
-          → cond x (Check b) (cond y (Filler b) (cond z (Move (first_step w tries t b)) v)) ≡ Fine → Clean b × (v ≡ Fine)
+          → cond x (Err (Check b)) (cond y (Err (Filler b)) (cond z (Err (Move (first_step w tries t b))) v)) ≡ Fine → Clean b × (v ≡ Fine)
       go true p y q z r h = let n : ◌≡◌ {A = ℕ} 0 1 = cc in absurd (omega arith)
       go false p true q z r h = let n : ◌≡◌ {A = ℕ} 0 1 = cc in absurd (omega arith)
       go false p false q true r h = let n : ◌≡◌ {A = ℕ} 0 1 = cc in absurd (omega arith)

@@ -3,15 +3,25 @@ use Rattle.std.specs.Prelude.{ℕ, zero, suc, ◌+◌, ◌*◌, ◌/◌, ◌%◌
 use Rattle.blocks.specs.Blocks.{word_at, slot_at, filler_at, weighed, bad_check, bad_fill, blocks_of}
 use Rattle.code.specs.Ins.{count}
 use Rattle.moves.specs.Moves.{may_go, first_step}
-use Rattle.trace.specs.declared.Verdict.{Verdict}
-use Rattle.trace.specs.declared.Verdict.TheVariants.{Fine, Check, Filler, Move}
+use Rattle.std.specs.declared.result.Result.{Result}
+use Rattle.std.specs.declared.result.Result.TheVariants.{Ok, Err}
+use Rattle.trace.specs.declared.Wrong.{Wrong}
+use Rattle.trace.specs.declared.Wrong.TheVariants.{Check, Filler, Move}
+
+-- what a trace is found to be: a run, or the first thing wrong
+abbrev pub Verdict : Type 0
+Verdict = Result (Unit {0}) Wrong
+
+-- it is a run
+abbrev pub Fine : Verdict
+Fine = Ok tt
 
 -- a block and what is wrong with it: 10, 11, 12 in this order
 unfoldable pub wrong_in : List ℕ → List ℕ → List ℕ → ℕ → Verdict → Verdict
 wrong_in w tries t b fine =
-    cond (bad_check t b) (Check b)
-    (cond (bad_fill t b) (Filler b)
-    (cond (ltb (first_step w tries t b) (127 * b + 127)) (Move (first_step w tries t b)) fine))
+    cond (bad_check t b) (Err (Check b))
+    (cond (bad_fill t b) (Err (Filler b))
+    (cond (ltb (first_step w tries t b) (127 * b + 127)) (Err (Move (first_step w tries t b))) fine))
 
 -- block by block, m of them from b on
 unfoldable pub verdict_from : List ℕ → List ℕ → List ℕ → ℕ → ℕ → Verdict

@@ -7,16 +7,3 @@ use Rattle.blocks.proofs.bad_fill.Goals as goal
 pub returns-then-follows_at : goal.returns-then-follows_at
 unfolding bad_fill
 returns-then-follows_at c = search (rules, somewhere)
-
-pub returns : goal.returns
-unfolding bad_fill
-returns c = search (rules, somewhere)
-
-pub loop-j-init : goal.loop-j-init
-loop-j-init c = search (rules, somewhere)
-
-pub follows_at-requires : goal.follows_at-requires
-follows_at-requires c = search (rules, somewhere)
-
-pub loop-j-preserved : goal.loop-j-preserved
-loop-j-preserved c = search (rules, somewhere)

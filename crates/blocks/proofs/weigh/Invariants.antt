@@ -1,10 +1,6 @@
 -- `blocks::weigh` meets its contract. Assumes nothing.
-use Prim.Native.Nat.{◌-◌}
 use Rattle.blocks.proofs.Bytes.{Weighing}
 use Rattle.blocks.proofs.weigh.Given as goal
 
 abbrev pub invariant-loop-m : goal.invariant-loop-m
 invariant-loop-m l = Weighing l.t l.at l.sum l.m
-
-abbrev pub decreases-loop-m : goal.decreases-loop-m
-decreases-loop-m l = 508 - l.m

@@ -1,22 +1,13 @@
 -- `day::tally` meets its contract. Assumes nothing.
 use borrow.Author.Rules.{rules}
-use Rattle.day.proofs.Counts.{countings, counting_slot, counting_low, counting_in, counting_fits}
+use Rattle.day.proofs.Counts.{countings, counting_low, counting_in, counting_fits}
 use Rattle.day.proofs.tally.Goals as goal
 
 pub loop-s-init : goal.loop-s-init
 loop-s-init c = search (rules, countings)
 
-pub slot_at-k-requires : goal.slot_at-k-requires
-slot_at-k-requires c = search (rules, counting_slot)
-
 pub count_step-requires : goal.count_step-requires
 count_step-requires c = search (rules, counting_low, counting_in)
-
-pub level_at-level-requires : goal.level_at-level-requires
-level_at-level-requires c = search (rules, countings)
-
-pub one-levels-requires : goal.one-levels-requires
-one-levels-requires c = search (rules, countings)
 
 pub overflow_add-levels : goal.overflow_add-levels
 overflow_add-levels c = search (rules, counting_fits)

@@ -1,10 +1,6 @@
 -- `day::tally` meets its contract. Assumes nothing.
-use Prim.Native.Nat.{◌-◌}
 use Rattle.day.proofs.Counts.{Counting}
 use Rattle.day.proofs.tally.Given as goal
 
 abbrev pub invariant-loop-s : goal.invariant-loop-s
 invariant-loop-s l = Counting l.code l.t l.regs l.initial.reads l.reads l.levels l.steps l.s
-
-abbrev pub decreases-loop-s : goal.decreases-loop-s
-decreases-loop-s l = l.steps - l.s

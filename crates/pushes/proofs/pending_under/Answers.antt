@@ -1,10 +1,11 @@
 -- `pushes::pending_under` meets its contract: its code is the rule. Assumes nothing.
 use mathlib.Core.Path.{◌≡◌, refl, sym}
+use mathlib.Core.Logic.{◌⊎◌, inl, inr}
 use mathlib.Core.Bool.{Bool, true, false, ◌&&◌, ◌||◌}
 use mathlib.Core.List.{[], ◌∷◌}
 use Prim.Native.Nat.{ℕ, zero, suc, ◌≤◌}
 use native.Mathlib.Omega.{arith}
-use borrow.Author.Tests.{le-leb}
+use borrow.Author.Tests.{le-leb, ne_eqb}
 use lib.Dec.{eqb, leb}
 use lib.ListN.{take}
 use lib.Seq.{take_all}
@@ -13,6 +14,7 @@ use Rattle.ops.specs.Op.{CallR, CallGlobalR, CallMethodR, PushRegs}
 use Rattle.code.specs.declared.Ins.{Ins}
 use Rattle.pushes.specs.Pushes.{pending}
 use Rattle.pushes.proofs.pending_under.Goals as goal
+use Rattle.pushes.proofs.pending_under.Goals.{in-159, in_default}
 
 or_no : (b : Bool) → b || false ≡ b
 or_no true = refl
@@ -35,12 +37,22 @@ among_first (suc zero) r a b c = or_no (eqb r a || false)
 among_first (suc (suc zero)) r a b c = in_turn (eqb r a) (eqb r b) false
 among_first (suc (suc (suc x))) r a b c = all_three (suc (suc (suc x))) r a b c (omega arith)
 
-is : (c p : Ins) (n r : ℕ)
-    → (eqb c.op CallR || eqb c.op CallGlobalR || eqb c.op CallMethodR) && (eqb p.op PushRegs && eqb p.x n)
+module _ (o : ℕ) (b : Bool) where
+  any_is : b ≡ true → (o ≡ CallR) ⊎ ((o ≡ CallMethodR) ⊎ (o ≡ CallGlobalR)) → b ≡ eqb o CallR || eqb o CallGlobalR || eqb o CallMethodR
+  any_is e h = grind (arith, h, e)
+
+  none_is : b ≡ false → ((o ≡ CallR) ⊎ ((o ≡ CallMethodR) ⊎ (o ≡ CallGlobalR)) → ⊥) → b ≡ eqb o CallR || eqb o CallGlobalR || eqb o CallMethodR
+  none_is e h = rw (ne_eqb o CallR (λ x. h (inl x)), ne_eqb o CallGlobalR (λ x. h (inr (inr x))), ne_eqb o CallMethodR (λ x. h (inr (inl x)))) e
+
+is : (c p : Ins) (n r : ℕ) (b : Bool) → b ≡ eqb c.op CallR || eqb c.op CallGlobalR || eqb c.op CallMethodR
+    → b && (eqb p.op PushRegs && eqb p.x n)
     && (leb 1 p.x && eqb r p.a || leb 2 p.x && eqb r p.b || leb 3 p.x && eqb r p.c)
     ≡ pending c p n r
 unfolding pending
-is c p n r = rw (among_first p.x r p.a p.b p.c)
+is c p n r b e = rw (e, among_first p.x r p.a p.b p.c)
 
 pub returns : goal.returns
-returns c = search is
+returns c = elim c.match-matches.branch [
+  | in-159 w ↦ is _ _ _ _ _ (any_is _ _ w.matches-is w.in-159.is)
+  | in_default w ↦ is _ _ _ _ _ (none_is _ _ w.matches-is w.in_default.in_default-own.rest.1)
+]

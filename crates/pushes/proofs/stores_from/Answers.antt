@@ -3,7 +3,7 @@ use borrow.Author.Rules.{rules}
 use mathlib.Core.Path.{◌≡◌, ◌∙◌}
 use mathlib.Core.Bool.{true, false}
 use mathlib.Core.List.{List}
-use Prim.Native.Nat.{ℕ, suc, ◌-◌, ◌<◌, ◌≤◌}
+use Prim.Native.Nat.{ℕ, suc, ◌+◌, ◌-◌, ◌<◌, ◌≤◌}
 use native.Mathlib.Omega.{arith}
 use lib.Dec.{eqb}
 use borrow.Author.Tests.{eq-eqb, ne_eqb}
@@ -21,39 +21,27 @@ module _ (w : List ℕ) (s r : ℕ) (i : Ins) where
       let q : eqb (ins_at w (s - 1)).op StoreTopR ≡ true = eq-eqb _ _ (rw e at o) in
       rw q at (rw z at x)
 
-  stops : 0 < s → i ≡ ins_at w (s - 1) → (i.op ≡ StoreTopR → ⊥) → stores_from w s ≡ r → s ≡ r
+  stops : 0 < s → i ≡ ins_at w (s - 1) → (i.op ≡ StoreTopR → ⊥) → stores_from w s ≡ r → s - 1 + 1 ≡ r
   unfolding stores_from
   stops h e o x =
       let z : s ≡ suc (s - 1) = omega arith in
       let q : eqb (ins_at w (s - 1)).op StoreTopR ≡ false = ne_eqb _ _ (rw e at o) in
-      z ∙ rw q at (rw z at x)
+      back ∙ z ∙ rw q at (rw z at x)
+    where
+      back : s - 1 + 1 ≡ s
+      back = omega arith
 
-ends : (w : List ℕ) (s r : ℕ) → s ≤ 0 → stores_from w s ≡ r → s ≡ r
+ends : (w : List ℕ) (s r : ℕ) → s ≤ 0 → stores_from w s ≡ r → 0 ≡ r
 unfolding stores_from
-ends w s r h x = let z : s ≡ 0 = omega arith in z ∙ rw z at x
+ends w s r h x = let z : s ≡ 0 = omega arith in rw z at x
 
 ruleset walk = (goes_on, stops, ends)
 
-pub loop-s-init : goal.loop-s-init
-loop-s-init c = search (rules, walk)
+pub returns-then-ins_at-ne-StoreTopR : goal.returns-then-ins_at-ne-StoreTopR
+returns-then-ins_at-ne-StoreTopR c = search (rules, walk)
 
-pub overflow_sub-s : goal.overflow_sub-s
-overflow_sub-s c = search (rules, walk)
-
-pub ins_at-i-requires : goal.ins_at-i-requires
-ins_at-i-requires c = search (rules, walk)
-
-pub returns-then-i-ne-StoreTopR : goal.returns-then-i-ne-StoreTopR
-returns-then-i-ne-StoreTopR c = search (rules, walk)
-
-pub overflow_sub-s-in-loop-s : goal.overflow_sub-s-in-loop-s
-overflow_sub-s-in-loop-s c = search (rules, walk)
-
-pub loop-s-smaller : goal.loop-s-smaller
-loop-s-smaller c = search (rules, walk)
-
-pub loop-s-preserved : goal.loop-s-preserved
-loop-s-preserved c = search (rules, walk)
+pub loop-k-preserved : goal.loop-k-preserved
+loop-k-preserved c = search (rules, walk)
 
 pub returns : goal.returns
 returns c = search (rules, walk)

@@ -7,13 +7,3 @@ use Rattle.pushes.proofs.takes_back.Goals as goal
 pub returns-then-not-taken_at : goal.returns-then-not-taken_at
 unfolding takes_back
 returns-then-not-taken_at c = search (rules, all)
-
-pub returns : goal.returns
-unfolding takes_back
-returns c = search (rules, all)
-
-pub loop-i-init : goal.loop-i-init
-loop-i-init c = search (rules, all)
-
-pub loop-i-preserved : goal.loop-i-preserved
-loop-i-preserved c = search (rules, all)

@@ -7,11 +7,10 @@ use native.Mathlib.Omega.{arith}
 use Rattle.code.specs.Ins.{ins_at, count}
 use Rattle.code.specs.Inner.{Valid}
 use Rattle.code.specs.declared.Ins.{Ins}
-use Rattle.stack.specs.declared.Source.{Source}
-use Rattle.stack.specs.declared.Source.TheVariants.{Lost}
+use Rattle.std.specs.declared.option.Option.TheVariants.{None}
 use Rattle.stack.specs.declared.Turn.{Turn}
 use Rattle.stack.specs.declared.Turn.TheVariants.{Ends, Needs}
-use Rattle.stack.specs.Stack.{turn_of, walked, pushed_at, stack_callee}
+use Rattle.stack.specs.Stack.{Source, turn_of, walked, pushed_at, stack_callee}
 use Rattle.stack.specs.Inner.{Grows}
 use Rattle.stack.proofs.Accepted.{narrow_at}
 use Rattle.stack.proofs.stack_callee_of.Goals as goal
@@ -29,7 +28,7 @@ module _ (w : List ℕ) (k need : ℕ) (v : Source) (h : 0 < k) (whole : pushed_
   goes_on : (m : ℕ) → t ≡ Needs m → pushed_at w (k - 1) m ≡ v
   goes_on m q = rw (by_turn w k need h, ← e, ← f, q) at whole
 
-nothing : (w : List ℕ) (k need : ℕ) (v : Source) → k ≤ 0 → pushed_at w k need ≡ v → Lost ≡ v
+nothing : (w : List ℕ) (k need : ℕ) (v : Source) → k ≤ 0 → pushed_at w k need ≡ v → None ≡ v
 unfolding pushed_at
 nothing w k need v h e = let z : k ≡ 0 = omega arith in rw z at e
 
@@ -48,32 +47,14 @@ begins w j n = refl
 
 ruleset walk = (ends, goes_on, nothing, fits, begins, narrow_at, deep)
 
-pub overflow_add-need : goal.overflow_add-need
-overflow_add-need c = search (rules, walk)
-
 pub loop-k-init : goal.loop-k-init
 loop-k-init c = search (rules, walk)
-
-pub overflow_sub-k : goal.overflow_sub-k
-overflow_sub-k c = search (rules, walk)
-
-pub ins_at-requires : goal.ins_at-requires
-ins_at-requires c = search (rules, walk)
 
 pub turn_of-requires : goal.turn_of-requires
 turn_of-requires c = search (rules, walk)
 
-pub enum_known-s : goal.enum_known-s
-enum_known-s c = search (rules, walk)
-
 pub returns-in-Ends : goal.returns-in-Ends
 returns-in-Ends c = search (rules, walk)
-
-pub enum_known-m : goal.enum_known-m
-enum_known-m c = search (rules, walk)
-
-pub loop-k-smaller : goal.loop-k-smaller
-loop-k-smaller c = search (rules, walk)
 
 pub loop-k-preserved : goal.loop-k-preserved
 loop-k-preserved c = search (rules, walk)

@@ -5,7 +5,4 @@ use Rattle.stack.specs.Stack.{pushed_at, stack_callee}
 use Rattle.stack.proofs.stack_callee_of.Given as goal
 
 abbrev pub invariant-loop-k : goal.invariant-loop-k
-invariant-loop-k l = (l.k ≤ l.j) × (l.need ≤ 65536 * (1 + (l.j - l.k))) × (pushed_at l.code l.k l.need ≡ stack_callee l.code l.j l.n)
-
-abbrev pub decreases-loop-k : goal.decreases-loop-k
-decreases-loop-k l = l.k
+invariant-loop-k l = (l.need ≤ 65536 * (1 + (l.j - l.k))) × (pushed_at l.code l.k l.need ≡ stack_callee l.code l.j l.n)

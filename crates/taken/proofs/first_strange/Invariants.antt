@@ -8,6 +8,3 @@ use Rattle.taken.proofs.first_strange.Given as goal
 
 abbrev pub invariant-loop-i : goal.invariant-loop-i
 invariant-loop-i l = (l.i ≤ length l.list) × (first (strange l.regs l.list) l.i (length l.list - l.i) ≡ first_strange l.regs l.list)
-
-abbrev pub decreases-loop-i : goal.decreases-loop-i
-decreases-loop-i l = length l.list - l.i

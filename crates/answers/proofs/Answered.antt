@@ -4,10 +4,11 @@ use mathlib.Core.Logic.{◌≢◌}
 use mathlib.Core.Bool.{Bool}
 use mathlib.Core.List.{List}
 use Prim.Native.Nat.{ℕ}
+use native.Mathlib.Omega.{arith}
 use Rattle.refusals.specs.Answers.{refused_of}
 use Rattle.refusals.specs.declared.Answer.{Answer}
 use Rattle.refusals.specs.declared.Refusal.{Refusal}
-use Rattle.folding.proofs.Call as folding
+use Rattle.refusals.specs.declared.Refusal.TheVariants as refusal
 use Rattle.kept.specs.Answers.{Outcome}
 use Rattle.kept.specs.declared.KeptAnswer.{KeptAnswer}
 use Rattle.kept.specs.declared.KeptAnswer.TheVariants.{Is, No}
@@ -15,7 +16,13 @@ use Rattle.answers.specs.Answers.{kept_told, KeptTold}
 
 -- a refusal's number is not 0
 pub never_0 : (q : Refusal) → (refused_of q).refusal ≢ 0
-never_0 q = folding.never_0 q
+never_0 (refusal.Length n) h = omega arith
+never_0 (refusal.Record k) h = omega arith
+never_0 (refusal.Registers n) h = omega arith
+never_0 (refusal.Try i) h = omega arith
+never_0 (refusal.Short b n) h = omega arith
+never_0 (refusal.Position k) h = omega arith
+never_0 (refusal.Table t) h = omega arith
 
 -- an exported kept call with refusal 0 is an answer of the call inside
 pub kept_answered : (bits : ℕ) (w : List ℕ) (regs : ℕ) (tries : List ℕ) (wide : Bool) (rows offsets list new o l : List ℕ) (r : Answer)

@@ -14,8 +14,8 @@ use Rattle.leaves.specs.Leaving.{Back, leave_of}
 use Rattle.saver.specs.Answers.{saver_told}
 use Rattle.day.specs.Day.{Day}
 use Rattle.day.specs.Answers.{day_told}
-use Rattle.refusals.specs.declared.Checked.{Checked}
-use Rattle.refusals.specs.declared.Checked.TheVariants as stage
+use Rattle.refusals.specs.Stages.{Checked}
+use Rattle.std.specs.declared.result.Result.TheVariants.{Ok, Err}
 use Rattle.nested.specs.Raising.{raising, mays, begins_at}
 use Rattle.exposes.specs.Answers.{ExposedLeft}
 
@@ -62,8 +62,8 @@ ReplayTold w regs tries t reads reads' r = By day_told (λ v. Day w regs tries t
 
 -- a count, or the refusal
 abbrev pub count_told : Checked → Answer
-count_told (stage.Count n) = answer_of n 0 0 0
-count_told (stage.No r) = refused_of r
+count_told (Ok n) = answer_of n 0 0 0
+count_told (Err r) = refused_of r
 
 -- lists for frames whose calls raise: as kept answers
 abbrev pub RaisingTold : List ℕ → ℕ → List ℕ → Bool → (rows offsets list rows' offsets' list' : List ℕ) → Answer → Type 0

@@ -8,8 +8,8 @@ use Rattle.laws.specs.Table.{Held}
 use Rattle.laws.specs.Each.{each}
 use Rattle.laws.proofs.Each.{each_word}
 use Rattle.refusals.specs.declared.Answer.{Answer}
-use Rattle.refusals.specs.declared.Checked.{Checked}
-use Rattle.refusals.specs.declared.Checked.TheVariants.{Count, No as Refused}
+use Rattle.refusals.specs.Stages.{Checked}
+use Rattle.std.specs.declared.result.Result.TheVariants.{Ok, Err}
 use Rattle.named.specs.Unused.{constant_named, before, pooled, numbered}
 use Rattle.clear.specs.Clear.{ClearAnswer, Is, No, PoolBuffers, ClearOutcome, clear_outcome, clear_ready_of, clear_call, clear_told}
 use Rattle.clear.proofs.Answers.{refused_call, answered, refusal_keeps}
@@ -38,12 +38,12 @@ module _ (m : ℕ) (b : PoolBuffers) where
   cleared_beyond r a e = go (clear_ready_of b m) refl
     where
       go : (v : Checked) → clear_ready_of b m ≡ v → ClearBeyond m b a
-      go (Refused q) f =
+      go (Err q) f =
           let y : No q ≡ Is r = ap (λ (x : ClearOutcome). x.answer) (sym (refused_call b m q f) ∙ e) in
           absurd (let z : ◌≡◌ {A = ℕ} 0 1 = cc in omega arith)
-      go (Count n) f =
+      go (Ok n) f =
           let y = answered b m r a e in
-          let k = held_of b m (Count n) (sym f) n refl in
+          let k = held_of b m (Ok n) (sym f) n refl in
           rw (y.code, y.kinds, y.words, y.scratch)
           (record {
             code = recoded_length (before b.code) m b.code ∙ sym k.whole;

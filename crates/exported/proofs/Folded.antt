@@ -3,10 +3,10 @@ use mathlib.Core.Path.{◌≡◌, refl, sym, ap, ◌∙◌}
 use mathlib.Core.Bool.{Bool}
 use Prim.Native.Nat.{ℕ, ◌<◌}
 use Rattle.refusals.specs.declared.Answer.{Answer}
-use Rattle.refusals.specs.declared.Checked.TheVariants.{Count}
+use Rattle.std.specs.declared.result.Result.TheVariants.{Ok, Err}
 use Rattle.chunk.specs.Check.{chunk_check_of}
 use Rattle.chunk.specs.declared.Counts.{Counts}
-use Rattle.optimizer.specs.Fold.{Called, FoldAnswer, Is, No}
+use Rattle.optimizer.specs.Fold.{Called, FoldAnswer}
 use Rattle.optimizer.specs.declared.Folded.{Folded}
 use Rattle.named.specs.Unused.{AllNear}
 use Rattle.clear.specs.Clear as clearing
@@ -38,29 +38,29 @@ module _ (strict : Bool) (c : Counts) (b : Lending) (r : Answer) (a : Lending) (
   answered_fold z = go x.told x.is x.allowed
     where
       go : (v : FoldAnswer) → r ≡ fold_told v → fold_leaving v a ≡ fold_of strict b c → Folds strict b c (folded_of r) a
-      go (Is f) e h = rw e (sym h)
-      go (No q) e h = absurd (refused_not q (sym (ap (λ (s : Answer). s.refusal) e) ∙ z))
+      go (Ok f) e h = rw e (sym h)
+      go (Err q) e h = absurd (refused_not q (sym (ap (λ (s : Answer). s.refusal) e) ∙ z))
 
   -- and where it was answered, so it says
   pub fold_answers : (f : Folded) (y : Lending) → Folds strict b c f y → (r.refusal ≡ 0) × (folded_of r ≡ f) × (a ≡ y)
   fold_answers f y e =
       let h = x.allowed ∙ e in
-      let i : r ≡ fold_told (Is f) = x.is ∙ ap (λ (o : Called). fold_told o.result.answer) h in
+      let i : r ≡ fold_told (Ok f) = x.is ∙ ap (λ (o : Called). fold_told o.result.answer) h in
       (ap (λ (s : Answer). s.refusal) i, ap folded_of i, ap (λ (o : Called). lending o.result.after o.tries o.landings) h)
 
   fold_refusal : settles.Refusal r → a ≡ b
   fold_refusal h = go x.told x.is x.allowed
     where
       go : (v : FoldAnswer) → r ≡ fold_told v → fold_leaving v a ≡ fold_of strict b c → a ≡ b
-      go (Is f) e y = absurd (h (ap (λ (s : Answer). s.refusal) e))
-      go (No q) e y = refusal_leaves strict b c q a (sym y)
+      go (Ok f) e y = absurd (h (ap (λ (s : Answer). s.refusal) e))
+      go (Err q) e y = refusal_leaves strict b c q a (sym y)
 
   fold_beyond : FoldBeyond c b a
   fold_beyond = go x.told x.allowed
     where
       go : (v : FoldAnswer) → fold_leaving v a ≡ fold_of strict b c → FoldBeyond c b a
-      go (Is f) y = stays_beyond strict b c f a (sym y)
-      go (No q) y =
+      go (Ok f) y = stays_beyond strict b c f a (sym y)
+      go (Err q) y =
           let d = b.buffers in
           rw (refusal_leaves strict b c q a (sym y))
           (record {
@@ -129,7 +129,7 @@ module _ (strict : Bool) (c : Counts) (b : Lending) (r : Answer) (a : Lending) (
   pub pool_kept : PoolLeft b.buffers c f a.buffers
   pool_kept = pool_stays strict b c f a answer
 
-  pub none_died : NoneDied b.buffers a.buffers → fold_leaving (Is f) a ≡ as_lent b c
+  pub none_died : NoneDied b.buffers a.buffers → fold_leaving (Ok f) a ≡ as_lent b c
   none_died h = sym answer ∙ idle_call strict b c f a answer h
 
   pub folds_next : FoldsNext c r a
@@ -175,5 +175,5 @@ module _ (strict : Bool) (c : Counts) (b : Lending) (r : Answer) (a : Lending) (
       (fold_answers strict' d (cleared_buffers b x') t y v g k i).0
 
   -- the whole code passes tests 1 and 2 again
-  pub code_again : (n : ℕ) → chunk_check_of b.buffers.code ≡ Count n → chunk_check_of a.buffers.code ≡ Count n
+  pub code_again : (n : ℕ) → chunk_check_of b.buffers.code ≡ Ok n → chunk_check_of a.buffers.code ≡ Ok n
   code_again n e = ap (λ (o : Called). chunk_check_of o.result.after.code) (sym answer) ∙ again strict b.buffers b.tries b.landings c n e

@@ -8,8 +8,8 @@ use Rattle.code.specs.Check.{check_of}
 use Rattle.refusals.specs.Stages.{inside_of}
 use Rattle.refusals.specs.Answers.{asked, refused_of}
 use Rattle.refusals.specs.declared.Answer.{Answer}
-use Rattle.refusals.specs.declared.Checked.{Checked}
-use Rattle.refusals.specs.declared.Checked.TheVariants.{Count, No}
+use Rattle.refusals.specs.Stages.{Checked}
+use Rattle.std.specs.declared.result.Result.TheVariants.{Ok, Err}
 use Rattle.code.specs.declared.Ins.{Ins}
 use Rattle.roles.specs.Sets.{from}
 use Rattle.touch.specs.Touch.{named, touch_of}
@@ -49,5 +49,5 @@ touched_holds w at r e z = go (inside_of (check_of w) at) refl
     told v = asked v refused_of (touch_told (touch_of (ins_at w at)))
 
     go : (v : Checked) → inside_of (check_of w) at ≡ v → TouchedHolds (ins_at w at) r
-    go (No q) h = absurd (refused_not q (sym (ap (λ (s : Answer). s.refusal) (e ∙ ap told h)) ∙ z))
-    go (Count n) h = rw (e ∙ ap told h) (holds (ins_at w at) (touch_of (ins_at w at)) (touches (ins_at w at)))
+    go (Err q) h = absurd (refused_not q (sym (ap (λ (s : Answer). s.refusal) (e ∙ ap told h)) ∙ z))
+    go (Ok n) h = rw (e ∙ ap told h) (holds (ins_at w at) (touch_of (ins_at w at)) (touches (ins_at w at)))

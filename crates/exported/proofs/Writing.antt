@@ -15,8 +15,8 @@ use Rattle.code.specs.Check.{check_of}
 use Rattle.refusals.specs.Stages.{inside_of, tried_of, room_of}
 use Rattle.refusals.specs.Answers.{asked, answer_of, refused_of}
 use Rattle.refusals.specs.declared.Answer.{Answer}
-use Rattle.refusals.specs.declared.Checked.{Checked}
-use Rattle.refusals.specs.declared.Checked.TheVariants.{Count, No}
+use Rattle.refusals.specs.Stages.{Checked}
+use Rattle.std.specs.declared.result.Result.TheVariants.{Ok, Err}
 use Rattle.refusals.proofs.Stages.{room_before, room_there}
 use Rattle.surveys.specs.Answers.{Fills, target_mark}
 use Rattle.loops.specs.Loops.{depth}
@@ -41,22 +41,22 @@ held_front m front b e h = record { same = length-append front (drop m b) ∙ om
 
 -- ---- one buffer is filled
 
-module _ (v : Checked) (m : ℕ) (f : ℕ → ℕ) (b : List ℕ) (room : (n : ℕ) → v ≡ Count n → m ≤ length b) (r : Answer) (a : List ℕ)
+module _ (v : Checked) (m : ℕ) (f : ℕ → ℕ) (b : List ℕ) (room : (n : ℕ) → v ≡ Ok n → m ≤ length b) (r : Answer) (a : List ℕ)
     (x : Fills v m f b r a) where
   filled_refusal : settles.Refusal r → a ≡ b
   filled_refusal h = go v refl
     where
       go : (u : Checked) → v ≡ u → a ≡ b
-      go (No q) e = x.words ∙ ap (λ (s : Checked). asked s (λ _. b) (filled_to f m b)) e
-      go (Count n) e =
+      go (Err q) e = x.words ∙ ap (λ (s : Checked). asked s (λ _. b) (filled_to f m b)) e
+      go (Ok n) e =
           absurd (h (ap (λ (s : Answer). s.refusal) (x.answer ∙ ap (λ (s : Checked). asked s refused_of (answer_of 0 0 0 0)) e)))
 
   filled_beyond : Held m b a
   filled_beyond = go v refl
     where
       go : (u : Checked) → v ≡ u → Held m b a
-      go (No q) e = held_same m b a (x.words ∙ ap (λ (s : Checked). asked s (λ _. b) (filled_to f m b)) e)
-      go (Count n) e =
+      go (Err q) e = held_same m b a (x.words ∙ ap (λ (s : Checked). asked s (λ _. b) (filled_to f m b)) e)
+      go (Ok n) e =
           rw (x.words ∙ ap (λ (s : Checked). asked s (λ _. b) (filled_to f m b)) e) (held_front m (table f m) b (table_length f m) (room n e))
 
 pub targets_settles : (w tries : List ℕ) → Settles (TargetsCall w tries) (EntriesBeyond w)
@@ -68,7 +68,7 @@ targets_settles w tries =
       beyond = λ b r a x. filled_beyond (room_of (tried_of (check_of w) tries) 1 (length b) (count w + 1)) (count w + 1) (target_mark w tries) b (room b) r a x;
     }
   where
-    room : (b : List ℕ) (n : ℕ) → room_of (tried_of (check_of w) tries) 1 (length b) (count w + 1) ≡ Count n → count w + 1 ≤ length b
+    room : (b : List ℕ) (n : ℕ) → room_of (tried_of (check_of w) tries) 1 (length b) (count w + 1) ≡ Ok n → count w + 1 ≤ length b
     room b n e = room_there n (tried_of (check_of w) tries) 1 (length b) (count w + 1) (sym e)
 
 pub loops_settles : (w : List ℕ) → Settles (LoopsCall w) (EntriesBeyond w)
@@ -79,7 +79,7 @@ loops_settles w =
       beyond = λ b r a x. filled_beyond (room_of (check_of w) 1 (length b) (count w + 1)) (count w + 1) (depth w) b (room b) r a x;
     }
   where
-    room : (b : List ℕ) (n : ℕ) → room_of (check_of w) 1 (length b) (count w + 1) ≡ Count n → count w + 1 ≤ length b
+    room : (b : List ℕ) (n : ℕ) → room_of (check_of w) 1 (length b) (count w + 1) ≡ Ok n → count w + 1 ≤ length b
     room b n e = room_there n (check_of w) 1 (length b) (count w + 1) (sym e)
 
 -- ---- two buffers serve a search, and are 0 after it
@@ -99,8 +99,8 @@ module _ (w : List ℕ) (v : Checked) (P : Type 0) (b : Marks) (r : Answer) (a :
   told_refusal h = go tests refl x
     where
       go : (u : Checked) → tests ≡ u → Says u → a ≡ b
-      go (No q) e y = both y.1 y.2
-      go (Count n) e y = absurd (h (ap (λ (s : Answer). s.refusal) y.1))
+      go (Err q) e y = both y.1 y.2
+      go (Ok n) e y = absurd (h (ap (λ (s : Answer). s.refusal) y.1))
 
   pub told_beyond : MarksBeyond w b a
   told_beyond = go tests refl x
@@ -109,8 +109,8 @@ module _ (w : List ℕ) (v : Checked) (P : Type 0) (b : Marks) (r : Answer) (a :
       m = count w + 1
 
       go : (u : Checked) → tests ≡ u → Says u → MarksBeyond w b a
-      go (No q) e y = record { seen = held_same m b.seen a.seen y.1; todo = held_same m b.todo a.todo y.2 }
-      go (Count n) e y =
+      go (Err q) e y = record { seen = held_same m b.seen a.seen y.1; todo = held_same m b.todo a.todo y.2 }
+      go (Ok n) e y =
           let p = room_before n (room_of v 1 (length b.seen) m) 2 (length b.todo) m (sym e) in
           record {
             seen = cleared b.seen a.seen (room_there n v 1 (length b.seen) m (sym p)) y.2.marks;
@@ -129,8 +129,8 @@ module _ (w : List ℕ) (v : Checked) (P : Type 0) (b : Marks) (r : Answer) (a :
       say false e p = inr (ap (λ (s : Answer). s.first) e, p)
 
       go : (u : Checked) → Says u → Truth P r
-      go (No q) y = absurd (refused_not q (sym (ap (λ (s : Answer). s.refusal) y.0) ∙ z))
-      go (Count n) y = say y.0 y.1 y.2.says
+      go (Err q) y = absurd (refused_not q (sym (ap (λ (s : Answer). s.refusal) y.0) ∙ z))
+      go (Ok n) y = say y.0 y.1 y.2.says
 
 pub dead_truth : (w : List ℕ) (k q : ℕ) (b : Marks) (r : Answer) (a : Marks) → DeadCall w k q b r a → r.refusal ≡ 0 → Truth (Dead w k q) r
 dead_truth w k q b r a x z = told_truth w (inside_of (check_of w) k) (Dead w k q) b r a x z

@@ -9,7 +9,7 @@ use Rattle.kept.specs.declared.KeptAnswer.TheVariants as kept
 use Rattle.callee.specs.Answers.{global_answer}
 use Rattle.chunk.specs.Chunk as chunk
 use Rattle.optimizer.specs.Fold.{buffers, FoldOutcome, fold_outcome, fold_call, FoldAnswer}
-use Rattle.optimizer.specs.Fold as fold
+use Rattle.std.specs.declared.result.Result.TheVariants.{Ok}
 
 -- an instruction without marks: opcode, a, b, c, x
 abbrev pub plain_ins : ℕ → ℕ → ℕ → ℕ → ℕ → List ℕ
@@ -73,7 +73,7 @@ folded_call strict code kinds words constants =
 -- it leaves so many instructions and constants, and the buffers so
 abbrev pub leaves_so : ℕ → ℕ → (code kinds words map dead remap : List ℕ) → FoldOutcome FoldAnswer
 leaves_so instructions constants code kinds words map dead remap =
-    fold_outcome (fold.Is (record { instructions = instructions; constants = constants; map = 0; sources = 0 }))
+    fold_outcome (Ok (record { instructions = instructions; constants = constants; map = 0; sources = 0 }))
     (buffers code kinds words map [] [] [] dead remap)
 
 -- a constant: its kind and its word

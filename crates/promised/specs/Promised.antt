@@ -11,7 +11,7 @@ use Rattle.ops.specs.Op.{Raise}
 use Rattle.refusals.specs.declared.Answer.{Answer}
 use Rattle.code.specs.declared.Ins.{Ins as Instruction}
 use Rattle.refusals.specs.declared.Refusal.TheVariants.{Table}
-use Rattle.refusals.specs.declared.Checked.TheVariants as stage
+use Rattle.std.specs.declared.result.Result.TheVariants.{Ok, Err}
 use Rattle.fields.specs.Answers.{kinds_answer, role_answer, field_answer, writes_answer, touch_answer}
 use Rattle.roles.specs.Kinds.{none, kinds_of}
 use Rattle.roles.specs.Roles.{role_table}
@@ -35,7 +35,7 @@ use Rattle.flow.specs.Flow.{Flow, Least}
 use Rattle.values.specs.Python.{Divides, floor_div, floor_mod, Digitwise, both, any_of, one, and_z, or_z, xor_z, eq_z, signed, sign}
 use Rattle.values.specs.Folds.{SmallInt}
 use Rattle.values.specs.declared.Val.TheVariants.{Float as Real}
-use Rattle.values.specs.declared.Maybe.TheVariants.{Is}
+use Rattle.std.specs.declared.option.Option.TheVariants.{Some}
 use Rattle.pool.specs.Pool.{to_val, find_or_push, find_or_push_const}
 use Rattle.chunk.specs.Chunk as chunk
 use Rattle.chunk.specs.Chunk.{operand_at, origin_at, names, folds}
@@ -44,7 +44,6 @@ use Rattle.chunk.specs.declared.Counts.{Counts}
 use Rattle.fold.specs.Plan.{Chunk, kind_of}
 use Rattle.landings.specs.Landings.{landings_of, Unmarked}
 use Rattle.fold.specs.Pass.{Bars, by_scan, by_table, folded, fold_all}
-use Rattle.optimizer.specs.Fold as fold
 use Rattle.named.specs.Unused.{AllNear, constant_named}
 use Rattle.clear.specs.Clear as clearing
 use Rattle.refold.specs.Lending.{Lending, fold_leaving}
@@ -239,7 +238,7 @@ pub record Promised : Type 0 where
   -- the single NaN has the bits 0x7FF8_0000_0000_0000
   pub the_nan : to_bits binary64 nan ≡ 0x7ff8_0000_0000_0000
   -- any lent float whose word is above infinity's, its sign apart, is read as the single NaN
-  pub nan_read : (w : ℕ) → 0x7ff0_0000_0000_0000 < w % 2 ^ 63 → to_val 2 w ≡ Is (Real nan)
+  pub nan_read : (w : ℕ) → 0x7ff0_0000_0000_0000 < w % 2 ^ 63 → to_val 2 w ≡ Some (Real nan)
   -- a result that is NaN is kept as a float of those bits: found where a float has them, else pushed with them
   pub nan_kept : (kinds words : List ℕ) (n : ℕ) → find_or_push_const kinds words n (Real nan) ≡ find_or_push kinds words n 2 0x7ff8_0000_0000_0000
   -- ---- folding, from refusal 0
@@ -258,10 +257,10 @@ pub record Promised : Type 0 where
   pub fold_tables : (strict : Bool) (c : Counts) (b : Lending) (r : Answer) (a : Lending) → FoldCall strict c b r a → r.refusal ≡ 0 → Lendable (folded_of r) c a
   -- with the words past it, which are 0, it keeps them too
   pub fold_code : (strict : Bool) (c : Counts) (b : Lending) (r : Answer) (a : Lending) → FoldCall strict c b r a → r.refusal ≡ 0
-      → (n : ℕ) → chunk_check_of b.buffers.code ≡ stage.Count n → chunk_check_of a.buffers.code ≡ stage.Count n
+      → (n : ℕ) → chunk_check_of b.buffers.code ≡ Ok n → chunk_check_of a.buffers.code ≡ Ok n
   -- if nothing died, code, constants, tries and every table stay as lent, the dead marks are 0, and the landings are those of what was lent
   pub fold_idle : (strict : Bool) (c : Counts) (b : Lending) (r : Answer) (a : Lending) → FoldCall strict c b r a → r.refusal ≡ 0
-      → NoneDied b.buffers a.buffers → fold_leaving (fold.Is (folded_of r)) a ≡ as_lent b c
+      → NoneDied b.buffers a.buffers → fold_leaving (Ok (folded_of r)) a ≡ as_lent b c
   -- ---- fold, clear, fold
 
   -- a folded chunk, its code cut at the answered count and the counts as answered, is folded again and not refused
@@ -269,7 +268,7 @@ pub record Promised : Type 0 where
   -- it is cleared, with a scratch as long as it has constants, and then folded, and neither is refused
   pub clears_next : (strict : Bool) (c : Counts) (b : Lending) (r : Answer) (a : Lending) → FoldCall strict c b r a → r.refusal ≡ 0 → ClearsNext c r a
   -- uncut it may be refused: so is what is left of three Phis, with 7 for table 2
-  pub uncut : ready_of crossed [] [] [] crossed_counts crossed_lens 4 ≡ stage.No (Table 2)
+  pub uncut : ready_of crossed [] [] [] crossed_counts crossed_lens 4 ≡ Err (Table 2)
   -- what the folding call accepts it accepts after clearing too, with the same buffers
   pub folds_cleared : (strict : Bool) (c : Counts) (b : Lending) (r : Answer) (a : Lending) → FoldCall strict c b r a → r.refusal ≡ 0 → FoldsCleared b c
   -- and folds to the same counts, tables, marks and remap, and instruction by instruction the same opcode, marks and load, if the fold ends below
@@ -397,7 +396,7 @@ pub record Promised : Type 0 where
       → Recorded w tries t
   -- a recorded run is answered, where code, registers, tries and reads are not refused
   pub replay_answered : (w : List ℕ) (regs : ℕ) (tries t old new : List ℕ) (r : Answer) → ReplayTold w regs tries t old new r
-      → replay_stages w regs tries (length old) ≡ stage.Count (count w) → Recorded w tries t → r.refusal ≡ 0
+      → replay_stages w regs tries (length old) ≡ Ok (count w) → Recorded w tries t → r.refusal ≡ 0
   -- where "after" names every move of a stretch, demand 3's machine has choices by which it visits exactly these positions, whatever is written
   pub replay_run : (w : List ℕ) (regs : ℕ) (tries t old new : List ℕ) (r : Answer) → ReplayTold w regs tries t old new r → r.refusal ≡ 0
       → (s m : ℕ) → s + m ≤ steps_of t → ((j : ℕ) → s ≤ j → suc j < s + m → among (slot_at t (suc j)) (after_at w (slot_at t j)) ≡ true)

@@ -10,7 +10,7 @@ use lib.ListN.{length, take, drop}
 use lib.Seq.{take-append_seam}
 use Rattle.code.specs.Ins.{ins_at, count}
 use Rattle.refusals.specs.declared.Answer.{Answer}
-use Rattle.refusals.specs.declared.Checked.TheVariants as stage
+use Rattle.std.specs.declared.result.Result.TheVariants.{Ok, Err}
 use Rattle.refusals.specs.declared.Refusal.TheVariants.{Short}
 use Rattle.flow.specs.Sweep.{Found}
 use Rattle.flow.proofs.Answer.{found_least}
@@ -102,11 +102,11 @@ told_exposed : (plain list out out' : List ℕ) (s : Answer) → ExposedTold pla
     → (s.first ≡ length (exposed plain list)) × (out' ≡ over (exposed plain list) out)
 told_exposed plain list out out' s x z = go (ltb (length out) (length list)) (s_is x) x.allowed.left
   where
-    s_is : ExposedTold plain list out out' s → s ≡ count_told (cond (ltb (length out) (length list)) (stage.No (Short 1 (length list)))
-        (stage.Count (length (exposed plain list))))
+    s_is : ExposedTold plain list out out' s → s ≡ count_told (cond (ltb (length out) (length list)) (Err (Short 1 (length list)))
+        (Ok (length (exposed plain list))))
     s_is y = y.is ∙ ap count_told y.allowed.answer
 
-    go : (t : Bool) → s ≡ count_told (cond t (stage.No (Short 1 (length list))) (stage.Count (length (exposed plain list))))
+    go : (t : Bool) → s ≡ count_told (cond t (Err (Short 1 (length list))) (Ok (length (exposed plain list))))
         → out' ≡ cond t out (over (exposed plain list) out)
         → (s.first ≡ length (exposed plain list)) × (out' ≡ over (exposed plain list) out)
     go true e l = let q : s.refusal ≡ 5 = ap (λ (v : Answer). v.refusal) e in absurd (omega arith)

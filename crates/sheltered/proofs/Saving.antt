@@ -27,7 +27,7 @@ use Rattle.leaves.specs.Leaving as saver
 use Rattle.frames.specs.Frames as frames
 use Rattle.frames.specs.Frames.{file_of, Sound, Matched}
 use Rattle.frames.specs.Inner.{SameRoom, Play}
-use Rattle.saver.specs.declared.SaverAnswer.TheVariants.{Used}
+use Rattle.std.specs.declared.result.Result.TheVariants.{Ok}
 use Rattle.frames.proofs.Resumes.{frame_same, held_return, held_result, held_thrown}
 use Rattle.saved.specs.Calls.{Entered}
 use Rattle.saved.proofs.Exported.{by_call, left_is, played}
@@ -99,7 +99,7 @@ result_at_lem zero x = refl
 result_at_lem (suc q) x = result_at_lem q x
 
 module _ (s : Saver) (ok : Sound s) (l : List ℕ) (q u : ℕ) (entry : (enter_of s l q).answer
-    ≡ Used u) (es : List frames.CallEvent) (bracketed : Matched es) (t : Saver)
+    ≡ Ok u) (es : List frames.CallEvent) (bracketed : Matched es) (t : Saver)
     (play : Play (enter_of s l q).left es t) where
   abbrev n : ℕ
   n = regs_of s
@@ -158,7 +158,7 @@ module _ (s : Saver) (ok : Sound s) (l : List ℕ) (q u : ℕ) (entry : (enter_o
 -- ---- a frame that was entered by the exported calls
 
 module _ (s : Saver) (ok : Sound s) (l : List ℕ) (q : ℕ) (t : Saver) (x : Entered l q s t) where
-  opened : (u : ℕ) × ((enter_of s l q).answer ≡ Used u)
+  opened : (u : ℕ) × ((enter_of s l q).answer ≡ Ok u)
   opened = by_call (enter_of s l q) x.after x.answer x.entry x.went
 
   inner : Play (enter_of s l q).left x.events t

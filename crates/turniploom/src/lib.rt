@@ -27,7 +27,7 @@ ghost use Rattle.answers.specs.Answers.{count_told, RaisingTold, ExposedTold};
 ghost use Rattle.refusals.specs.Answers.{answer_of};
 
 use kept::KeptAnswer;
-use refusals::{Answer, Checked};
+use refusals::{Answer, Refusal};
 
 // The list's length and the two sweep counts.
 fn kept_told(k: KeptAnswer) -> Answer
@@ -40,7 +40,7 @@ fn kept_told(k: KeptAnswer) -> Answer
             abandoned as u64,
             0,
         ),
-        KeptAnswer::No(r) => refusals::refused(r),
+        KeptAnswer::No(r) => Answer::from(r),
     }
 }
 
@@ -49,7 +49,7 @@ fn kept_told(k: KeptAnswer) -> Answer
 pub extern "C" fn turniploom_kinds(code: &[u16], at: usize) -> Answer
     ensures { result ≡ kinds_answer code.now at }
 {
-    fields::kinds(code, at)
+    Answer::from(fields::kinds(code, at))
 }
 
 // The same told apart: whether it has a role, whether a is written, which fields are read, whether it jumps.
@@ -57,7 +57,7 @@ pub extern "C" fn turniploom_kinds(code: &[u16], at: usize) -> Answer
 pub extern "C" fn turniploom_role(code: &[u16], at: usize) -> Answer
     ensures { result ≡ role_answer code.now at }
 {
-    fields::role(code, at)
+    Answer::from(fields::role(code, at))
 }
 
 // A field of an instruction: a for 0, b for 1, c for every higher number.
@@ -65,7 +65,7 @@ pub extern "C" fn turniploom_role(code: &[u16], at: usize) -> Answer
 pub extern "C" fn turniploom_field(code: &[u16], at: usize, f: u8) -> Answer
     ensures { result ≡ field_answer code.now at f }
 {
-    fields::field(code, at, f)
+    Answer::from(fields::field(code, at, f))
 }
 
 // Whether an instruction writes a register.
@@ -73,7 +73,7 @@ pub extern "C" fn turniploom_field(code: &[u16], at: usize, f: u8) -> Answer
 pub extern "C" fn turniploom_writes(code: &[u16], at: usize, r: u16) -> Answer
     ensures { result ≡ writes_answer code.now at r }
 {
-    fields::writes(code, at, r)
+    Answer::from(fields::writes(code, at, r))
 }
 
 // The fields that an instruction uses, gives up and writes, and how many registers from b on besides.
@@ -81,7 +81,7 @@ pub extern "C" fn turniploom_writes(code: &[u16], at: usize, r: u16) -> Answer
 pub extern "C" fn turniploom_touched(code: &[u16], at: usize) -> Answer
     ensures { result ≡ touch_answer code.now at }
 {
-    fields::touched(code, at)
+    Answer::from(fields::touched(code, at))
 }
 
 // Whether a body may be laid as a section.
@@ -89,7 +89,7 @@ pub extern "C" fn turniploom_touched(code: &[u16], at: usize) -> Answer
 pub extern "C" fn turniploom_pure(code: &[u16]) -> Answer
     ensures { result ≡ pure_answer code.now }
 {
-    laid::pure(code)
+    Answer::from(laid::pure(code))
 }
 
 // Whether laid code leaves nothing of its own on the stack.
@@ -97,7 +97,7 @@ pub extern "C" fn turniploom_pure(code: &[u16]) -> Answer
 pub extern "C" fn turniploom_flat(code: &[u16]) -> Answer
     ensures { result ≡ flat_answer code.now }
 {
-    shapes::flat(code)
+    Answer::from(shapes::flat(code))
 }
 
 // Whether code has a try or a with.
@@ -105,7 +105,7 @@ pub extern "C" fn turniploom_flat(code: &[u16]) -> Answer
 pub extern "C" fn turniploom_guarded(code: &[u16]) -> Answer
     ensures { result ≡ guarded_answer code.now }
 {
-    shapes::guarded(code)
+    Answer::from(shapes::guarded(code))
 }
 
 // Whether a PushRegs pushes the value that a ReturnValue returns.
@@ -113,7 +113,7 @@ pub extern "C" fn turniploom_guarded(code: &[u16]) -> Answer
 pub extern "C" fn turniploom_returns(code: &[u16], at: usize) -> Answer
     ensures { result ≡ returns_answer code.now at }
 {
-    sections::returns(code, at)
+    Answer::from(sections::returns(code, at))
 }
 
 // The parameters that some instruction writes, as bits.
@@ -121,7 +121,7 @@ pub extern "C" fn turniploom_returns(code: &[u16], at: usize) -> Answer
 pub extern "C" fn turniploom_params_written(code: &[u16], arity: usize) -> Answer
     ensures { result ≡ written_answer code.now arity }
 {
-    params::params_written(code, arity)
+    Answer::from(params::params_written(code, arity))
 }
 
 // The parameters that a call passes on as they are, as bits.
@@ -129,7 +129,7 @@ pub extern "C" fn turniploom_params_written(code: &[u16], arity: usize) -> Answe
 pub extern "C" fn turniploom_passed(code: &[u16], at: usize, arity: usize) -> Answer
     ensures { result ≡ passed_answer code.now at arity }
 {
-    passed::passed(code, at, arity)
+    Answer::from(passed::passed(code, at, arity))
 }
 
 // Whether a generator may be laid as a section.
@@ -137,7 +137,7 @@ pub extern "C" fn turniploom_passed(code: &[u16], at: usize, arity: usize) -> An
 pub extern "C" fn turniploom_gen_pure(code: &[u16], seen: &mut [u8], todo: &mut [u32]) -> Answer
     ensures { GenTold code.now seen.old todo.old result seen.new todo.new }
 {
-    generators::gen_pure(code, seen, todo)
+    Answer::from(generators::gen_pure(code, seen, todo))
 }
 
 // Whether what a Phi writes to a register is read on no path.
@@ -151,7 +151,7 @@ pub extern "C" fn turniploom_dead_phi(
 ) -> Answer
     ensures { DeadPhi code.now at r seen.old todo.old result seen.new todo.new }
 {
-    unread::dead_phi(code, at, r, seen, todo)
+    Answer::from(unread::dead_phi(code, at, r, seen, todo))
 }
 
 // For each position and the end, how many for loops it lies inside.
@@ -159,7 +159,7 @@ pub extern "C" fn turniploom_dead_phi(
 pub extern "C" fn turniploom_loops_around(code: &[u16], out: &mut [u32]) -> Answer
     ensures { LoopsAround code.now out.old result out.new }
 {
-    loops::loops_around(code, out)
+    Answer::from(loops::loops_around(code, out))
 }
 
 // For each position and the end, whether a jump or a handler lands there.
@@ -167,7 +167,7 @@ pub extern "C" fn turniploom_loops_around(code: &[u16], out: &mut [u32]) -> Answ
 pub extern "C" fn turniploom_targets(code: &[u16], tries: &[u32], out: &mut [u8]) -> Answer
     ensures { Targets code.now tries.now out.old result out.new }
 {
-    surveys::targets(code, tries, out)
+    Answer::from(surveys::targets(code, tries, out))
 }
 
 // The module binding that a call calls, or none.
@@ -206,7 +206,7 @@ pub extern "C" fn turniploom_needed(
 ) -> Answer
     ensures { NeededTold code.now regs at r seen.old todo.old result seen.new todo.new }
 {
-    needed::needed(code, regs, at, r, seen, todo)
+    Answer::from(needed::needed(code, regs, at, r, seen, todo))
 }
 
 // The registers that each level keeps, by rows of 64 bits.
@@ -240,7 +240,7 @@ pub extern "C" fn turniploom_kept32(
     ensures { KeptTold 32 code.now regs tries.now wide rows.old offsets.old list.old
         rows.new offsets.new list.new result }
 {
-    kept_told(kept32::kept32(code, regs, tries, wide, rows, offsets, list))
+    kept_told(kept::kept(code, regs, tries, wide, rows, offsets, list))
 }
 
 // The chunk with its constants folded, every table anew.
@@ -406,12 +406,12 @@ pub extern "C" fn turniploom_replay(
 }
 
 // A count, as it is.
-fn counted(c: Checked) -> Answer
+fn counted(c: Result<usize, Refusal>) -> Answer
     ensures { result ≡ count_told c }
 {
     match c {
-        Checked::Count(n) => refusals::tell(n as u64, 0, 0, 0),
-        Checked::No(r) => refusals::refused(r),
+        Ok(n) => refusals::tell(n as u64, 0, 0, 0),
+        Err(r) => Answer::from(r),
     }
 }
 

@@ -1,5 +1,5 @@
 -- `turniploom::counted` meets its contract: each arm knows the case. Assumes nothing.
 use Rattle.turniploom.proofs.counted.Goals as goal
 
-pub returns-in-Count : goal.returns-in-Count
-returns-in-Count c = cc
+pub returns-in-Ok : goal.returns-in-Ok
+returns-in-Ok c = cc

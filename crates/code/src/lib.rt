@@ -80,7 +80,18 @@ fn keeps_rules(i: Ins, k: usize, next: u16) -> bool
 fn has_rule(o: u16) -> bool
     ensures { result ≡ has_rule o }
 {
-    is_call(o) | matches!(o, PushRegs | UnpackR | ArgsR | WithEnter | WithExit)
+    matches!(
+        o,
+        CallGlobalR
+            | CallR
+            | CallMethodR
+            | CallSpreadR
+            | PushRegs
+            | UnpackR
+            | ArgsR
+            | WithEnter
+            | WithExit
+    )
 }
 
 // Whether the instruction at k breaks a record rule. Most opcodes have no rule of their own: of these the instruction alone is read.

@@ -17,26 +17,6 @@ use code::Ins;
 use sets::Word;
 use steps::Step;
 
-// The rows after a step at k, together.
-fn after_wide(s: Step, rows: &[u64], n: usize, words: usize, k: usize) -> [u64; 16]
-    requires { (words ≤ 16) × (k < n) × (s.target ≤ n) × (suc n * words ≤ length rows.now) × Small 64 rows.now }
-    ensures { Holds 64 result (joined (row (rows_of 64 words (suc n) rows.now)) (after_of s k)) }
-{
-    let next = sets::join_if(s.on, [0u64; 16], rows, k + 1, words);
-    sets::join_if(s.to, next, rows, s.target, words)
-}
-
-// Row k, found from the rows as they are.
-fn row_wide(s: Step, regs: usize, rows: &[u64], n: usize, words: usize, k: usize) -> [u64; 16]
-    requires { (regs ≤ 1024) × (words ≤ 16) × (k < n) × (s.target ≤ n) × (suc n * words ≤ length rows.now) × Small 64 rows.now }
-    ensures { Holds 64 result (row_at (step_flow regs s) (row (rows_of 64 words (suc n) rows.now)) k) }
-{
-    let after = after_wide(s, rows, n, words, k);
-    let rest = sets::without_named::<u64>(after, regs, s.given, s.a, s.b, s.c);
-    let left = sets::without_run::<u64>(rest, regs, s.b as usize, s.run);
-    sets::with_named::<u64>(left, regs, s.used, s.a, s.b, s.c)
-}
-
 // A row as it is by itself, and where it is stranded with the next row, and where it may raise with those of the handlers around it.
 fn row_raising(
     plain: [u64; 16],
@@ -90,7 +70,7 @@ fn put_raising(
     ensures { Put (raising_step (all || is_level i) (stranded i) n regs tries.now s) (rows_of 64 words (suc n) rows.old) k
         (rows_of 64 words (suc n) rows.new) result }
 {
-    let plain = row_wide(s, regs, rows, n, words, k);
+    let plain = rows::row_wide(s, regs, rows, n, words, k);
     if quiet(i, all, tries) {
         return sets::store_row(rows, k * words, words, plain);
     }

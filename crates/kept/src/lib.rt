@@ -43,7 +43,6 @@ pub fn kept<W: Word>(
 }
 
 // The resume row of the level at k, less its result register.
-#[inline(always)]
 pub fn main_row<W: Word>(code: &[u16], regs: usize, rows: &[W], words: usize, k: usize) -> W::Set
     requires { LevelsRoom W.BITS W.WORDS regs code.now words (W.nums rows.now) × (k < count code.now) }
     ensures { Holds W.BITS (W.words_of result) (minus (row (rows_by W.BITS words code.now (W.nums rows.now)) (resume_of code.now k))
@@ -94,7 +93,6 @@ fn keep_level<W: Word>(
 }
 
 // How many registers are kept at k.
-#[inline(always)]
 fn count_at<W: Word>(
     code: &[u16],
     regs: usize,
@@ -114,7 +112,6 @@ fn count_at<W: Word>(
 }
 
 // The registers kept at k, from m on: the place past the last.
-#[inline(always)]
 fn keep_at<W: Word>(
     code: &[u16],
     regs: usize,
@@ -137,7 +134,6 @@ fn keep_at<W: Word>(
 }
 
 // The sum of the list lengths.
-#[inline(always)]
 pub fn count_all<W: Word>(
     code: &[u16],
     regs: usize,
@@ -158,7 +154,6 @@ pub fn count_all<W: Word>(
 }
 
 // `each_call`: the list of each position, and where it begins.
-#[inline(always)]
 pub fn each_call<W: Word>(
     code: &[u16],
     regs: usize,

@@ -43,7 +43,10 @@ pub fn level_at(i: Ins) -> bool
     ensures { result ≡ is_level i }
 {
     let dunder = i.marks / 2 % 2 == 1;
-    code::is_call(i.op) | matches!(i.op, JumpIfFalseR | GetAttrR | Call) | dunder
+    matches!(
+        i.op,
+        CallGlobalR | CallR | CallMethodR | CallSpreadR | JumpIfFalseR | GetAttrR | Call
+    ) | dunder
 }
 
 // The first level, else how many instructions there are.

@@ -184,7 +184,8 @@ fn checked_sub(a: i64, b: i64) -> Option<Val>
     in_range(a - b)
 }
 
-// A product out of range is found before it is made.
+// A product out of range is found before it is made. Called, not put in place: the folds of sums are quicker without it among them.
+#[inline(never)]
 fn checked_mul(a: i64, b: i64) -> Option<Val>
     ensures { result ≡ ints Op.Mul a b }
 {

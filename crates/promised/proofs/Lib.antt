@@ -1,3 +1,4 @@
 pub mod Late
 pub mod Breaks
 pub mod Promised
+pub mod Written

@@ -21,8 +21,9 @@ def count():
             if n.count('\n') >= 1: bodies.setdefault(n, []).append(f'{c}::{name}')
             if len([x for x in ps.split(',') if x.strip()]) >= 7: r['5 seven parameters or more'].append(f'{c}::{name}')
             if 'requires' in clauses:
-                for f in ('Whole code.now', 'Valid code.now', 'roles.now ≡ role_table', 'LevelsRoom', 'length rows.now', 'Small 64 rows', 'Small 32 rows', 'length kinds', 'chunk_count code'):
-                    if f in clauses.split('ensures')[0]: facts.setdefault(f, []).append(f'{c}::{name}')
+                for f in ('Whole code.now', 'Valid code.now', 'roles.now ≡ role_table', 'LevelsRoom', 'length rows.now', 'Small WORD rows', 'length kinds', 'chunk_count code'):
+                    asked = re.sub(r'Small (64|32|W\.BITS) \(?(W\.nums )?rows', 'Small WORD rows', clauses.split('ensures')[0])
+                    if f in asked: facts.setdefault(f, []).append(f'{c}::{name}')
             for p in ps.split(','):
                 if re.match(r'\s*(minus|wide|strict)\s*: bool', p): r['7 steps chosen by a flag'].append(f'{c}::{name}')
     for v in bodies.values():

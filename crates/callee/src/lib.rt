@@ -25,7 +25,7 @@ pub enum Step {
 fn sets_it(roles: &Roles, i: Ins, a: u16) -> bool
     ensures { result ≡ sets_it i a }
 {
-    touch::writes_in(roles, i, a) & (i.op != ForIterR)
+    touch::writes_in(&roles.bytes, i, a) & (i.op != ForIterR)
 }
 
 // Whether the trace passes by i.
@@ -33,7 +33,7 @@ fn sets_it(roles: &Roles, i: Ins, a: u16) -> bool
 fn passes_by(roles: &Roles, i: Ins) -> bool
     ensures { result ≡ passes_by i }
 {
-    roles::has_role_in(roles, i)
+    roles::has_role_in(&roles.bytes, i)
         || matches!(
             i.op,
             CallSectionR | SectionR | MakeFunction | CallIsInstance
@@ -102,7 +102,7 @@ pub fn global_at(code: &[u16], j: usize) -> Option<u16>
         return Some(i.a);
     }
     if i.op == CallR {
-        let roles = roles::table();
+        let roles = Roles::new();
         return trace(&roles, code, j, i.a);
     }
     None

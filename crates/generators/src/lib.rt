@@ -2,7 +2,7 @@
 #![tactic(auto)]
 
 ghost use Rattle.std.specs.Prelude.{◌≡◌, ◌+◌, ◌/◌, length};
-ghost use Rattle.refusals.specs.Answers.{answered};
+ghost use Rattle.refusals.specs.Answers.{answered, Straight};
 ghost use Rattle.paths.specs.Search.{SearchSettles};
 ghost use Rattle.phi_paths.specs.Inner.{PhiRoom};
 ghost use Rattle.generators.specs.Generator.{PhisDead, GenPure};
@@ -14,7 +14,8 @@ use refusals::{Answer, Refusal};
 
 // `gen_pure`: refusals 1, 2, 5.
 pub fn gen_pure(code: &[u16], seen: &mut [u8], todo: &mut [u32]) -> Result<Answer, Refusal>
-    ensures { GenTold code.now seen.old todo.old (answered result) seen.new todo.new }
+    ensures answer { GenTold code.now seen.old todo.old (answered result) seen.new todo.new }
+    ensures straight { Straight result }
 {
     let m = code.len() / 6 + 1;
     let v = refusals::room(code::check(code), 1, seen.len(), m);

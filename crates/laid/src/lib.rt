@@ -2,7 +2,7 @@
 #![tactic(auto)]
 
 ghost use Rattle.std.specs.Prelude.{◌≡◌, ◌<◌, length};
-ghost use Rattle.refusals.specs.Answers.{answered};
+ghost use Rattle.refusals.specs.Answers.{answered, Straight};
 ghost use Rattle.code.specs.Inner.{Whole};
 ghost use Rattle.laid.specs.Section.{stack_work, jump_fits, plain_fits, yield_fits, fits, laid_at, laid};
 ghost use Rattle.laid.specs.Answers.{pure_answer};
@@ -15,7 +15,8 @@ use roles::Roles;
 // `pure`: refusals 1, 2.
 #[tactic(auto, using(refusals::proofs::Answers::telling), unfolding(crate::specs::Answers::pure_answer))]
 pub fn pure(code: &[u16]) -> Result<Answer, Refusal>
-    ensures { answered result ≡ pure_answer code.now }
+    ensures answer { answered result ≡ pure_answer code.now }
+    ensures straight { Straight result }
 {
     code::check(code)?;
     Ok(refusals::tell(all_laid(code, false).into(), 0, 0, 0))
@@ -195,10 +196,10 @@ fn fits(
 ) -> bool
     ensures { result ≡ fits i prev next s t k n yields }
 {
-    if roles::is_jump_in(roles, i) {
+    if roles::is_jump_in(&roles.bytes, i) {
         return jump_fits(i, t, k, n);
     }
-    if roles::has_role_in(roles, i) {
+    if roles::has_role_in(&roles.bytes, i) {
         return plain_fits(i, prev, s);
     }
     let work = stack_work(i.op);
@@ -227,7 +228,7 @@ pub fn all_laid(code: &[u16], yields: bool) -> bool
     requires { Whole code.now }
     ensures { result ≡ laid code.now yields }
 {
-    let roles = roles::table();
+    let roles = Roles::new();
     let n = code.len() / 6;
     for k in 0..n {
         if !laid_at(&roles, code, yields, k) {

@@ -3,7 +3,7 @@
 
 ghost use Rattle.std.specs.Prelude.{◌≡◌, ◌+◌, ◌/◌, ◌<◌, ◌≤◌, length};
 ghost use Rattle.laws.specs.Table.{filled_to};
-ghost use Rattle.refusals.specs.Answers.{answered};
+ghost use Rattle.refusals.specs.Answers.{answered, Straight};
 ghost use Rattle.code.specs.Inner.{Whole};
 ghost use Rattle.loops.specs.Answers.{LoopsAround};
 ghost use Rattle.loops.specs.Loops.{next_step, leaves_at, end_of, depth};
@@ -14,7 +14,8 @@ use refusals::{Answer, Refusal};
 
 // `loops_around`: refusals 1, 2, 5.
 pub fn loops_around(code: &[u16], out: &mut [u32]) -> Result<Answer, Refusal>
-    ensures { LoopsAround code.now out.old (answered result) out.new }
+    ensures answer { LoopsAround code.now out.old (answered result) out.new }
+    ensures straight { Straight result }
 {
     refusals::room(code::check(code), 1, out.len(), code.len() / 6 + 1)?;
     fill_loops(code, out);

@@ -5,7 +5,7 @@ ghost use Rattle.std.specs.Prelude.{◌≡◌, ◌+◌, ◌/◌, ◌≤◌, leng
 ghost use Rattle.steps.specs.Code.{flow};
 ghost use Rattle.needed.specs.Path.{Needs};
 ghost use Rattle.needed.specs.Answers.{upto_of, NeededTold};
-ghost use Rattle.refusals.specs.Answers.{answered};
+ghost use Rattle.refusals.specs.Answers.{answered, Straight};
 ghost use Rattle.paths.specs.Search.{SearchSettles};
 ghost use Rattle.seek.specs.Inner.{AskedRoom};
 
@@ -20,7 +20,8 @@ pub fn needed(
     seen: &mut [u8],
     todo: &mut [u32],
 ) -> Result<Answer, Refusal>
-    ensures { NeededTold code.now regs at r seen.old todo.old (answered result) seen.new todo.new }
+    ensures answer { NeededTold code.now regs at r seen.old todo.old (answered result) seen.new todo.new }
+    ensures straight { Straight result }
 {
     let m = code.len() / 6 + 1;
     let v = up_to(refusals::registers(code::check(code), regs), at);

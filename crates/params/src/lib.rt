@@ -3,7 +3,7 @@
 
 ghost use Rattle.std.specs.Prelude.{◌≡◌};
 ghost use Rattle.code.specs.Inner.{Whole};
-ghost use Rattle.refusals.specs.Answers.{answered};
+ghost use Rattle.refusals.specs.Answers.{answered, Straight};
 ghost use Rattle.params.specs.Answers.{written_answer};
 ghost use Rattle.params.specs.Masks.{written_in, params_written};
 
@@ -13,7 +13,8 @@ use roles::Roles;
 // `params_written`: refusals 1, 2.
 #[tactic(auto, using(refusals::proofs::Answers::telling), unfolding(crate::specs::Answers::written_answer))]
 pub fn params_written(code: &[u16], arity: usize) -> Result<Answer, Refusal>
-    ensures { answered result ≡ written_answer code.now arity }
+    ensures answer { answered result ≡ written_answer code.now arity }
+    ensures straight { Straight result }
 {
     code::check(code)?;
     Ok(refusals::tell(params_in(code, arity), 0, 0, 0))
@@ -27,7 +28,7 @@ fn any_writes(roles: &Roles, code: &[u16], r: u16) -> bool
 {
     let n = code.len() / 6;
     for k in 0..n {
-        if touch::writes_in(roles, code::ins_at(code, k), r) {
+        if touch::writes_in(&roles.bytes, code::ins_at(code, k), r) {
             return true;
         }
     }
@@ -40,7 +41,7 @@ fn params_in(code: &[u16], arity: usize) -> u64
     requires { Whole code.now }
     ensures { result ≡ params_written code.now arity }
 {
-    let roles = roles::table();
+    let roles = Roles::new();
     let n = arity.min(64);
     let mut m = 0;
     for r in 0..n {

@@ -2,7 +2,7 @@
 #![tactic(auto)]
 
 ghost use Rattle.std.specs.Prelude.{◌≡◌, ◌<◌, length};
-ghost use Rattle.refusals.specs.Answers.{answered};
+ghost use Rattle.refusals.specs.Answers.{answered, Straight};
 ghost use Rattle.code.specs.Inner.{Whole};
 ghost use Rattle.passed.specs.Answers.{passed_answer};
 ghost use Rattle.passed.specs.Passed.{arguments, keeps, passed_in, passed_at};
@@ -14,7 +14,8 @@ use refusals::{Answer, Refusal};
 // `passed`: refusals 1, 2, 6.
 #[tactic(auto, using(refusals::proofs::Answers::asking), unfolding(crate::specs::Answers::passed_answer))]
 pub fn passed(code: &[u16], at: usize, arity: usize) -> Result<Answer, Refusal>
-    ensures { answered result ≡ passed_answer code.now at arity }
+    ensures answer { answered result ≡ passed_answer code.now at arity }
+    ensures straight { Straight result }
 {
     let c = code::instruction(code, at)?;
     if code::is_call(c.op) {

@@ -17,7 +17,7 @@ use roles::Roles;
 fn reads(roles: &Roles, i: Ins, r: u16) -> bool
     ensures { result ≡ phi_reads i r }
 {
-    let k = roles::kinds_in(roles, i);
+    let k = roles::kinds_in(&roles.bytes, i);
     let o = i.op;
     let a = i.a == r;
     let named = (k / roles::A % 2 == 1) & a
@@ -32,7 +32,7 @@ fn reads(roles: &Roles, i: Ins, r: u16) -> bool
 fn stops(roles: &Roles, i: Ins, r: u16) -> bool
     ensures { result ≡ stops i r }
 {
-    let k = roles::kinds_in(roles, i);
+    let k = roles::kinds_in(&roles.bytes, i);
     let o = i.op;
     let a = i.a == r;
     let none = k / roles::NONE % 2 == 1;
@@ -48,7 +48,7 @@ fn follow(roles: &Roles, todo: &mut [u32], top: usize, j: usize, i: Ins) -> usiz
     ensures { (result ≡ top + bool_byte (goes_on i) + bool_byte (is_jump i))
         × (todo.new ≡ pushed (pushed todo.old top (j + 1) (goes_on i)) (top + bool_byte (goes_on i)) i.a (is_jump i)) }
 {
-    let to = roles::is_jump_in(roles, i);
+    let to = roles::is_jump_in(&roles.bytes, i);
     paths::follow(todo, top, (j + 1) as u32, i.op != Jump, u32::from(i.a), to)
 }
 

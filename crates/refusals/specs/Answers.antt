@@ -1,5 +1,5 @@
 -- What a public call answers, and refusals by the numbers of document 01. Assumes nothing.
-use Rattle.std.specs.Prelude.{ℕ}
+use Rattle.std.specs.Prelude.{ℕ, IfOk, ◌≡◌}
 use Rattle.refusals.specs.declared.Answer.{Answer}
 use Rattle.refusals.specs.Stages.{Checked}
 use Rattle.std.specs.declared.result.Result.{Result}
@@ -36,3 +36,7 @@ refused_of (Table t) = refusal_of 7 t 0
 abbrev pub answered : Result Answer Refusal → Answer
 answered (Ok a) = a
 answered (Err r) = refused_of r
+
+-- a refusal comes as one: what is told as an answer has the number 0
+abbrev pub Straight : Result Answer Refusal → Type 0
+Straight v = IfOk v (λ a. a.refusal ≡ 0)

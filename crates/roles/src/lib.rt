@@ -1,7 +1,7 @@
 // What an instruction does with its fields a, b and c: `kinds`, by the table of all roles (block.rs: `kinds`, `role`).
 #![tactic(auto)]
 
-ghost use Rattle.std.specs.Prelude.{◌≡◌, ◌<◌};
+ghost use Rattle.std.specs.Prelude.{◌≡◌, ◌<◌, min};
 ghost use Rattle.roles.specs.Kinds.{kinds_of, has_role, is_jump, field_of};
 ghost use Rattle.roles.specs.Roles.{role_table};
 ghost use Rattle.roles.specs.Inner.{EntrySays};
@@ -30,38 +30,56 @@ pub const JUMPS: u8 = 16;
 // The bit that says 'no role'.
 pub const NONE: u8 = 32;
 
-// The table of all roles.
+// The table of all roles, which is what it says.
 #[derive(Drop)]
 pub struct Roles {
     pub bytes: [u8; 1280],
     ghost is: { bytes ≡ role_table },
 }
 
+impl Roles {
+    // The table, as a value that says so.
+    #[tactic(auto, unfolding(crate::specs::Roles::role_table))]
+    pub fn new() -> Roles
+        ensures { result.bytes ≡ role_table }
+    {
+        Roles { bytes: ROLES }
+    }
+}
+
 // The table, for a loop to make once and lend: this toolchain builds a constant anew wherever it is used.
 #[tactic(auto, unfolding(crate::specs::Roles::role_table))]
-pub fn table() -> Roles
-    ensures { result.bytes ≡ role_table }
+pub fn table() -> [u8; 1280]
+    ensures { result ≡ role_table }
 {
-    Roles { bytes: ROLES }
+    ROLES
+}
+
+// The column of an x: 4 and more have one.
+fn column(x: u16) -> usize
+    ensures { result ≡ min x 4 }
+{
+    if x < 4 { x as usize } else { 4 }
 }
 
 // The byte of an opcode and a column.
-fn entry(roles: &Roles, o: u16, x: usize) -> u8
-    requires { (o < 256) × (x < 5) }
+fn entry(roles: &[u8; 1280], o: u16, x: usize) -> u8
+    requires { (roles.now ≡ role_table) × (o < 256) × (x < 5) }
     ensures { EntrySays o x result }
 {
-    roles.bytes[usize::from(o) * 5 + x]
+    roles[usize::from(o) * 5 + x]
 }
 
 // `kinds` of an instruction, by the table that is lent; 4 and more have one column. Beside it Raise, which has no role where its a is not 0.
 #[tactic(auto, using(crate::proofs::ByTable::past, crate::proofs::ByTable::raised, crate::proofs::ByTable::other))]
-pub fn kinds_in(roles: &Roles, i: Ins) -> u8
+pub fn kinds_in(roles: &[u8; 1280], i: Ins) -> u8
+    requires { roles.now ≡ role_table }
     ensures { result ≡ kinds_of i }
 {
     if 256 <= i.op {
         return NONE;
     }
-    let k = entry(roles, i.op, usize::from(i.x.min(4)));
+    let k = entry(roles, i.op, column(i.x));
     if (i.op == Raise) & (i.a != 0) {
         return NONE;
     }
@@ -69,15 +87,17 @@ pub fn kinds_in(roles: &Roles, i: Ins) -> u8
 }
 
 // The same for one who asks once.
+#[tactic(auto, unfolding(crate::specs::Roles::role_table))]
 pub fn kinds_of(i: Ins) -> u8
     ensures { result ≡ kinds_of i }
 {
-    kinds_in(&table(), i)
+    kinds_in(&ROLES, i)
 }
 
 // Whether an instruction has a role.
 #[tactic(auto, unfolding(crate::specs::Kinds::has_role))]
-pub fn has_role_in(roles: &Roles, i: Ins) -> bool
+pub fn has_role_in(roles: &[u8; 1280], i: Ins) -> bool
+    requires { roles.now ≡ role_table }
     ensures { result ≡ has_role i }
 {
     let none = kinds_in(roles, i) / NONE % 2 == 1;
@@ -86,7 +106,8 @@ pub fn has_role_in(roles: &Roles, i: Ins) -> bool
 
 // Whether it has one, and a is a jump's target.
 #[tactic(auto, unfolding(crate::specs::Kinds::is_jump))]
-pub fn is_jump_in(roles: &Roles, i: Ins) -> bool
+pub fn is_jump_in(roles: &[u8; 1280], i: Ins) -> bool
+    requires { roles.now ≡ role_table }
     ensures { result ≡ is_jump i }
 {
     kinds_in(roles, i) / JUMPS % 4 == 1

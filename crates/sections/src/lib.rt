@@ -3,7 +3,7 @@
 
 ghost use Rattle.std.specs.Prelude.{◌≡◌, ◌<◌, ◌≤◌, length};
 ghost use Rattle.laws.specs.Table.{cleared_to};
-ghost use Rattle.refusals.specs.Answers.{answered};
+ghost use Rattle.refusals.specs.Answers.{answered, Straight};
 ghost use Rattle.code.specs.Inner.{Whole};
 ghost use Rattle.sections.specs.Returns.{returns_here, returns_at};
 ghost use Rattle.sections.specs.Answers.{returns_answer};
@@ -15,7 +15,8 @@ use refusals::{Answer, Refusal};
 // `returns`: refusals 1, 2, 6.
 #[tactic(auto, using(refusals::proofs::Answers::telling, refusals::proofs::Stages::onward), unfolding(crate::specs::Answers::returns_answer))]
 pub fn returns(code: &[u16], at: usize) -> Result<Answer, Refusal>
-    ensures { answered result ≡ returns_answer code.now at }
+    ensures answer { answered result ≡ returns_answer code.now at }
+    ensures straight { Straight result }
 {
     refusals::inside(code::check(code), at)?;
     Ok(refusals::tell(returns_at(code, at).into(), 0, 0, 0))

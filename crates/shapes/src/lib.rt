@@ -2,7 +2,7 @@
 #![tactic(auto)]
 
 ghost use Rattle.std.specs.Prelude.{◌≡◌, ◌<◌, length};
-ghost use Rattle.refusals.specs.Answers.{answered};
+ghost use Rattle.refusals.specs.Answers.{answered, Straight};
 ghost use Rattle.code.specs.Inner.{Whole};
 ghost use Rattle.shapes.specs.Shape.{flat_here, flat_at, flat as flat_all, guards, guarded as guarded_any};
 ghost use Rattle.shapes.specs.Answers.{flat_answer, guarded_answer};
@@ -14,7 +14,8 @@ use refusals::{Answer, Refusal};
 // `flat`: refusals 1, 2.
 #[tactic(auto, using(refusals::proofs::Answers::telling), unfolding(crate::specs::Answers::flat_answer))]
 pub fn flat(code: &[u16]) -> Result<Answer, Refusal>
-    ensures { answered result ≡ flat_answer code.now }
+    ensures answer { answered result ≡ flat_answer code.now }
+    ensures straight { Straight result }
 {
     code::check(code)?;
     Ok(refusals::tell(all_flat(code).into(), 0, 0, 0))
@@ -23,7 +24,8 @@ pub fn flat(code: &[u16]) -> Result<Answer, Refusal>
 // `guarded`: refusals 1, 2.
 #[tactic(auto, using(refusals::proofs::Answers::telling), unfolding(crate::specs::Answers::guarded_answer))]
 pub fn guarded(code: &[u16]) -> Result<Answer, Refusal>
-    ensures { answered result ≡ guarded_answer code.now }
+    ensures answer { answered result ≡ guarded_answer code.now }
+    ensures straight { Straight result }
 {
     code::check(code)?;
     Ok(refusals::tell(any_guards(code).into(), 0, 0, 0))

@@ -95,7 +95,7 @@ fn effect_of(roles: &Roles, i: Ins) -> Option<Effect>
         Work::Plain(pops, pushes) => (u16::from(pops), pushes),
         Work::Build => (i.a, 1),
         Work::Calls if i.a < 256 => (i.a + 1, 1),
-        Work::Role if roles::has_role_in(roles, i) => (0, 0),
+        Work::Role if roles::has_role_in(&roles.bytes, i) => (0, 0),
         _ => return None,
     };
     Some(Effect { pops, pushes })
@@ -133,7 +133,7 @@ pub fn stack_callee_of(code: &[u16], j: usize, n: u16) -> Option<(usize, u16)>
     requires { Valid code.now × (j < count code.now) }
     ensures { result ≡ stack_callee code.now j n }
 {
-    let roles = roles::table();
+    let roles = Roles::new();
     let mut need = usize::from(n) + 1;
     for k in (0..j).rev() {
         match turn_of(&roles, code::ins_at(code, k), k, need) {

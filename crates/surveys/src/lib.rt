@@ -3,17 +3,19 @@
 
 ghost use Rattle.std.specs.Prelude.{◌≡◌, ◌+◌, ◌*◌, ◌/◌, ◌<◌, ◌≤◌, length};
 ghost use Rattle.laws.specs.Table.{filled_to};
-ghost use Rattle.refusals.specs.Answers.{answered};
+ghost use Rattle.refusals.specs.Answers.{answered, Straight};
 ghost use Rattle.code.specs.Inner.{Whole};
 ghost use Rattle.surveys.specs.Answers.{target_mark, Targets};
 ghost use Rattle.surveys.specs.Targets.{hits, handler_of, jumped, handled};
 ghost use Rattle.surveys.specs.Inner.{Lands};
 
 use refusals::{Answer, Refusal};
+use roles::Roles;
 
 // `targets`: refusals 1, 2, 4, 5.
 pub fn targets(code: &[u16], tries: &[u32], out: &mut [u8]) -> Result<Answer, Refusal>
-    ensures { Targets code.now tries.now out.old (answered result) out.new }
+    ensures answer { Targets code.now tries.now out.old (answered result) out.new }
+    ensures straight { Straight result }
 {
     let v = refusals::tried(code::check(code), tries);
     refusals::room(v, 1, out.len(), code.len() / 6 + 1)?;
@@ -37,11 +39,11 @@ fn land_jumps(code: &[u16], out: &mut [u8])
     ensures { Lands (length code.now / 6) (jumped code.now (length code.now / 6))
         out.old out.new }
 {
-    let roles = roles::table();
+    let roles = Roles::new();
     let n = code.len() / 6;
     for k in 0..n {
         let i = code::ins_at(code, k);
-        land(out, n, roles::is_jump_in(&roles, i), usize::from(i.a));
+        land(out, n, roles::is_jump_in(&roles.bytes, i), usize::from(i.a));
     }
 }
 

@@ -4,12 +4,13 @@
 ghost use Rattle.std.specs.Prelude.{◌≡◌, cond};
 ghost use Rattle.roles.specs.Kinds.{first_of, abc, kinds_of};
 ghost use Rattle.laws.specs.Page.{among};
+ghost use Rattle.roles.specs.Roles.{role_table};
 ghost use Rattle.roles.specs.Sets.{case_of, from, writes};
 ghost use Rattle.touch.specs.Touch.{named, plain_of, touch_of};
 
 use code::Ins;
 use ops::*;
-use roles::{A, B, C, Case, NONE, Roles};
+use roles::{A, B, C, Case, NONE};
 
 // The fields a and b, as a mask.
 const AB: u8 = A + B;
@@ -159,7 +160,8 @@ pub fn writes_by(i: Ins, kind: u8, r: u16) -> bool
 }
 
 // `writes` of an instruction.
-pub fn writes_in(roles: &Roles, i: Ins, r: u16) -> bool
+pub fn writes_in(roles: &[u8; 1280], i: Ins, r: u16) -> bool
+    requires { roles.now ≡ role_table }
     ensures { result ≡ writes i r }
 {
     writes_by(i, roles::kinds_in(roles, i), r)

@@ -2,13 +2,14 @@
 #![tactic(auto)]
 
 ghost use Rattle.std.specs.Prelude.{◌≡◌, ◌+◌, ◌/◌, ◌<◌, length};
-ghost use Rattle.refusals.specs.Answers.{answered};
+ghost use Rattle.refusals.specs.Answers.{answered, Straight};
 ghost use Rattle.paths.specs.Search.{SearchSettles};
 ghost use Rattle.phi_paths.specs.Inner.{PhiRoom};
 ghost use Rattle.unread.specs.Phi.{Dead};
 ghost use Rattle.unread.specs.Answers.{DeadPhi};
 
 use refusals::{Answer, Refusal};
+use roles::Roles;
 
 // `dead_phi`: refusals 1, 2, 6, 5.
 pub fn dead_phi(
@@ -18,7 +19,8 @@ pub fn dead_phi(
     seen: &mut [u8],
     todo: &mut [u32],
 ) -> Result<Answer, Refusal>
-    ensures { DeadPhi code.now at r seen.old todo.old (answered result) seen.new todo.new }
+    ensures answer { DeadPhi code.now at r seen.old todo.old (answered result) seen.new todo.new }
+    ensures straight { Straight result }
 {
     let m = code.len() / 6 + 1;
     let v = refusals::room(refusals::inside(code::check(code), at), 1, seen.len(), m);
@@ -32,7 +34,7 @@ pub fn dead(code: &[u16], k: usize, r: u16, seen: &mut [u8], todo: &mut [u32]) -
     ensures { SearchSettles (Dead code.now k r) (length code.now / 6 + 1) seen.old todo.old result
         seen.new todo.new }
 {
-    let roles = roles::table();
+    let roles = Roles::new();
     let words = code.len() / 6 + 1;
     sections::clear_marks(seen, words);
     let found = phi_paths::search(&roles, code, r, (k + 1) as u32, seen, todo);

@@ -1,4 +1,4 @@
--- The loop of `expose`. Assumes nothing.
+-- The two loops of `expose`. Assumes nothing.
 use mathlib.Core.Path.{◌≡◌, refl, sym, ap, ap₂, ◌∙◌}
 use mathlib.Core.Bool.{Bool, true, false, cond, ◌||◌}
 use mathlib.Core.List.{List, [], ◌∷◌, ◌++◌, append_assoc}
@@ -37,9 +37,35 @@ turned a b = go (ℕ_discrete a b)
     go (no n) = ne_eqb a b n ∙ sym (ne_eqb b a (λ e. n (sym e)))
 
 -- the library asks each register for r, and the law r for each register
-has_is : (r : ℕ) (l : List ℕ) → list_any (λ y. eqb y r) l ≡ among r l
+pub has_is : (r : ℕ) (l : List ℕ) → list_any (λ y. eqb y r) l ≡ among r l
 has_is r [] = refl
 has_is r (x ∷ l) = ap₂ ◌||◌ (turned x r) (has_is r l)
+
+-- what is left has r where the whole has
+pub record Seeking (l : List ℕ) (r i : ℕ) : Type 0 where
+  pub inside : i ≤ length l
+  pub same : among r (drop i l) ≡ among r l
+
+module _ (l : List ℕ) (r : ℕ) where
+  pub seek_start : Seeking l r 0
+  seek_start = record { inside = omega arith; same = refl }
+
+  module _ (i : ℕ) (p : Seeking l r i) where
+    seek_next_lem : i < length l → among r (drop i l) ≡ (eqb r (get_or l i 0) || among r (drop (i + 1) l))
+    seek_next_lem h = ap (among r) (drop-cons l i 0 h ∙ ap (λ (x : ℕ). get_or l i 0 ∷ drop x l) (sym (add-one i)))
+
+    pub seek_found : i < length l → get_or l i 0 ≡ r → true ≡ among r l
+    seek_found h e = sym (sym p.same ∙ seek_next_lem h ∙ ap (λ (t : Bool). t || among r (drop (i + 1) l)) (eq-eqb r (get_or l i 0) (sym e)))
+
+    pub seek_more : i < length l → (get_or l i 0 ≡ r → ⊥) → Seeking l r (i + 1)
+    seek_more h n = record {
+      inside = omega arith;
+      same = sym (seek_next_lem h
+          ∙ ap (λ (t : Bool). t || among r (drop (i + 1) l)) (ne_eqb r (get_or l i 0) (λ e. n (sym e)))) ∙ p.same;
+    }
+
+    pub seek_end : length l ≤ i → false ≡ among r l
+    seek_end h = sym (sym p.same ∙ ap (among r) (past_end l i p.inside h))
 
 -- the first m words are what is exposed of the first i
 pub record Exposing (plain list old : List ℕ) (m i : ℕ) (out : List ℕ) : Type 0 where
@@ -60,22 +86,22 @@ module _ (plain list old : List ℕ) where
     expose_next t h e = ap (exposed plain) (drop-cons list i 0 h ∙ ap (λ (x : ℕ). get_or list i 0 ∷ drop x list) (sym (add-one i)))
         ∙ ap (λ (b : Bool). cond b (exposed plain (drop (i + 1) list)) (get_or list i 0 ∷ exposed plain (drop (i + 1) list))) (sym e)
 
-    pub expose_skip : (t : Bool) → i < length list → t ≡ list_any (λ y. eqb y (get_or list i 0)) plain → t ≡ true → Exposing plain list old m (i + 1) out
+    pub expose_skip : (t : Bool) → i < length list → t ≡ among (get_or list i 0) plain → t ≡ true → Exposing plain list old m (i + 1) out
     expose_skip t h e q = record {
       le = omega (arith, p.le);
       inside = omega arith;
       long = p.long;
-      whole = p.whole ∙ ap (λ (x : List ℕ). take m out ++ x) (expose_next true h (sym q ∙ e ∙ has_is (get_or list i 0) plain));
+      whole = p.whole ∙ ap (λ (x : List ℕ). take m out ++ x) (expose_next true h (sym q ∙ e));
       past = p.past;
     }
 
-    pub expose_put : (t : Bool) → i < length list → length list ≤ length old → t ≡ list_any (λ y. eqb y (get_or list i 0)) plain → t ≡ false
+    pub expose_put : (t : Bool) → i < length list → length list ≤ length old → t ≡ among (get_or list i 0) plain → t ≡ false
         → Exposing plain list old (m + 1) (i + 1) (set out m (get_or list i 0))
     expose_put t h fits e q = record {
       le = omega (arith, p.le);
       inside = omega arith;
       long = length-set out m (get_or list i 0) ∙ p.long;
-      whole = p.whole ∙ ap (λ (x : List ℕ). take m out ++ x) (expose_next false h (sym q ∙ e ∙ has_is (get_or list i 0) plain))
+      whole = p.whole ∙ ap (λ (x : List ℕ). take m out ++ x) (expose_next false h (sym q ∙ e))
           ∙ sym (append_assoc (take m out) (get_or list i 0 ∷ []) (exposed plain (drop (i + 1) list)))
           ∙ ap (λ (x : List ℕ). x ++ exposed plain (drop (i + 1) list)) (sym front);
       past = rw (add-one m) (drop-set-lt (suc m) out m (get_or list i 0) (omega arith) ∙ later m out old p.past);

@@ -2,6 +2,7 @@
 #![tactic(auto)]
 
 ghost use Rattle.std.specs.Prelude.{◌≡◌, ◌≤◌, length};
+ghost use Rattle.laws.specs.Page.{among};
 ghost use Rattle.exposes.specs.Answers.{ExposedLeft};
 ghost use Rattle.exposes.specs.Inner.{Exposes};
 
@@ -20,6 +21,21 @@ pub fn exposed(plain: &[u16], list: &[u16], out: &mut [u16]) -> Result<usize, Re
     Ok(expose(plain, list, out))
 }
 
+// Whether a list has r. A short one is walked: the library's search costs more before it begins.
+fn has_reg(l: &[u16], r: u16) -> bool
+    ensures { result ≡ among r l.now }
+{
+    if 16 < l.len() {
+        return l.contains(&r);
+    }
+    for i in 0..l.len() {
+        if l[i] == r {
+            return true;
+        }
+    }
+    false
+}
+
 // The same, where `out` is long enough.
 fn expose(plain: &[u16], list: &[u16], out: &mut [u16]) -> usize
     requires { length list.now ≤ length out.old }
@@ -28,7 +44,7 @@ fn expose(plain: &[u16], list: &[u16], out: &mut [u16]) -> usize
     let mut m = 0;
     for i in 0..list.len() {
         let r = list[i];
-        if !plain.contains(&r) {
+        if !has_reg(plain, r) {
             out[m] = r;
             m += 1;
         }

@@ -133,7 +133,8 @@ fn keep_at<W: Word>(
     m
 }
 
-// The sum of the list lengths.
+// The sum of the list lengths. It is called: put in place, its sum had no register of its own and lay on the stack.
+#[inline(never)]
 pub fn count_all<W: Word>(
     code: &[u16],
     regs: usize,

@@ -1,7 +1,8 @@
 // Which lists of registers the frame saver takes (document 02, wish 4: refusal 14).
 #![tactic(auto)]
 
-ghost use Rattle.std.specs.Prelude.{◌≡◌, ◌<◌, length};
+ghost use Rattle.std.specs.Prelude.{◌≡◌, ◌<◌, length, eqb, get_or};
+ghost use Rattle.laws.specs.Some.{some};
 ghost use Rattle.taken.specs.Lists.{strange, first_strange};
 
 // The first place of the list with a register that is not in the file, or listed before; else the list's length.
@@ -23,6 +24,22 @@ fn is_strange(list: &[u16], regs: usize, i: usize) -> bool
     requires { i < length list.now }
     ensures { result ≡ strange regs list.now i }
 {
-    let twice = list[..i].contains(&list[i]);
+    let twice = before(list, i);
     (regs <= usize::from(list[i])) | twice
+}
+
+// Whether the register at place i of the list stands there before i. A few are walked: the library's search costs more before it begins.
+fn before(list: &[u16], i: usize) -> bool
+    requires { i < length list.now }
+    ensures { result ≡ some (λ j. eqb (get_or list.now j 0) (get_or list.now i 0)) i }
+{
+    if 16 < i {
+        return list[..i].contains(&list[i]);
+    }
+    for j in 0..i {
+        if list[j] == list[i] {
+            return true;
+        }
+    }
+    false
 }

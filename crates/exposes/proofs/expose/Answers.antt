@@ -1,12 +1,12 @@
 -- `exposes::expose` meets its contract. Assumes nothing.
-use Rattle.exposes.proofs.Exposing.{expose_start, expose_skip, expose_put, expose_end}
-use Rattle.exposes.proofs.expose.Goals.{then-not-contains, else-not-contains}
+use Rattle.exposes.proofs.Exposing.{expose_skip, expose_put, expose_end}
+use Rattle.exposes.proofs.expose.Goals.{then-not-has_reg, else-not-has_reg}
 use Rattle.exposes.proofs.expose.Goals as goal
 
 pub loop-i-preserved : goal.loop-i-preserved
-loop-i-preserved c = elim c.if-not-contains.branch [
-  | then-not-contains w ↦ rw (w.out-is, w.m-is) (search expose_put)
-  | else-not-contains w ↦ rw (w.out-is, w.m-is) (search expose_skip)
+loop-i-preserved c = elim c.if-not-has_reg.branch [
+  | then-not-has_reg w ↦ rw (w.out-is, w.m-is) (search expose_put)
+  | else-not-has_reg w ↦ rw (w.out-is, w.m-is) (search expose_skip)
 ]
 
 pub returns : goal.returns

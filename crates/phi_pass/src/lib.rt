@@ -1,7 +1,7 @@
 // The Phi pass: which Phis die, the source pairs that survive, and phi_map indexed anew.
 #![tactic(auto)]
 
-ghost use Rattle.std.specs.Prelude.{MatchOption, true, false, ◌≡◌, ◌++◌, ◌+◌, ◌-◌, ◌*◌, ◌/◌, ◌%◌, ◌≤◌, ◌<◌, length, take, replicate};
+ghost use Rattle.std.specs.Prelude.{MatchOption, true, false, ◌≡◌, ◌++◌, ◌+◌, ◌-◌, ◌*◌, ◌/◌, ◌%◌, ◌≤◌, ◌<◌, length, get_or, take, replicate};
 ghost use Rattle.laws.specs.All.{every, many};
 ghost use Rattle.chunk.specs.Chunk.{chunk_count, is_phi};
 ghost use Rattle.positions.specs.Remap.{alive};
@@ -9,6 +9,16 @@ ghost use Rattle.phi_pass.specs.Phi.{paired, left_source, right_source, noop, ph
 ghost use Rattle.phi_pass.specs.Inner.{spread};
 
 use ops::Phi;
+
+// Whether instruction i is a Phi that has a pair.
+#[inline]
+#[tactic(auto, unfolding(crate::specs::Phi::paired))]
+fn has_pair(code: &[u16], map: &[u32], sources: &[u16], i: usize) -> bool
+    requires { i < chunk_count code.now }
+    ensures { result ≡ paired code.now map.now sources.now i }
+{
+    chunk::op_at(code, i) == Phi && i < map.len() && (map[i] as usize) < sources.len() / 2
+}
 
 // The two sources of the Phi at i, if instruction i is a Phi that has a pair.
 #[inline]
@@ -18,11 +28,9 @@ fn pair_of(code: &[u16], map: &[u32], sources: &[u16], i: usize) -> Option<(u16,
     ensures { MatchOption result (paired code.now map.now sources.now i ≡ false) (λ p. (paired code.now map.now sources.now i ≡ true)
         × (p.0 ≡ left_source map.now sources.now i) × (p.1 ≡ right_source map.now sources.now i)) }
 {
-    if chunk::op_at(code, i) == Phi && i < map.len() {
-        let pair = map[i] as usize;
-        if pair < sources.len() / 2 {
-            return Some((sources[2 * pair], sources[2 * pair + 1]));
-        }
+    if has_pair(code, map, sources, i) {
+        let at = 2 * map[i] as usize;
+        return Some((sources[at], sources[at + 1]));
     }
     None
 }
@@ -74,8 +82,17 @@ pub fn all_alive(dead: &[u8]) -> bool
     dead.iter().all(|d| *d == 0)
 }
 
+// The pair of the Phi at i, packed.
+fn pack(map: &[u32], sources: &[u16], i: usize) -> u32
+    requires { (i < length map.now) × (get_or map.now i 0 < length sources.now / 2) }
+    ensures { (result / 65536 ≡ left_source map.now sources.now i) × (result % 65536 ≡ right_source map.now sources.now i) }
+{
+    let at = 2 * map[i] as usize;
+    u32::from(sources[at]) * 65536 + u32::from(sources[at + 1])
+}
+
 // Packs the surviving pairs into a queue: phi_sources can't be compacted in place. Answers how many there are.
-#[tactic(auto, using(crate::proofs::Pairs::gathering))]
+#[tactic(auto, using(crate::proofs::Pairs::gathering), unfolding(crate::specs::Phi::paired))]
 pub fn gather(code: &[u16], dead: &[u8], map: &[u32], sources: &[u16], queue: &mut [u32]) -> usize
     requires { (length dead.now ≡ chunk_count code.now) × (length dead.now ≤ length queue.old) }
     ensures { (spread (take result queue.new) ≡ pairs_left code.now map.now sources.now dead.now)
@@ -87,8 +104,8 @@ pub fn gather(code: &[u16], dead: &[u8], map: &[u32], sources: &[u16], queue: &m
     let mut to: usize = 0;
     for k in 0..dead.len() {
         if dead[k] == 0 {
-            if let Some((left, right)) = pair_of(code, map, sources, k) {
-                queue[to] = u32::from(left) * 65536 + u32::from(right);
+            if has_pair(code, map, sources, k) {
+                queue[to] = pack(map, sources, k);
                 to += 1;
             }
         }

@@ -80,11 +80,8 @@ joining_put into rows at words hand j out new v x a b p l f e ex eb en =
 
 -- a register of a set
 module _ (bits hand : ℕ) (wide : Width bits hand) (s new : List ℕ) (small : Small bits s) (long : length s ≡ hand) (regs r : ℕ) (t : Bool) where
-  module _ (v w x a b : ℕ) (there_is : t && ltb r regs ≡ true) (room : regs ≤ 1024) (ev : v ≡ bits) (ew : w ≡ bits) (eb : b ≡ 2 ^ (r % w))
-      (ea : a ≡ get_or s (r / v) 0) (en : new ≡ set s (r / v) x) where
-    place : r / v ≡ r / bits
-    place = ap (λ (y : ℕ). r / y) ev
-
+  module _ (q w x a b : ℕ) (there_is : t && ltb r regs ≡ true) (room : regs ≤ 1024) (ew : w ≡ bits) (eb : b ≡ 2 ^ (r % w))
+      (ea : a ≡ get_or s q 0) (en : new ≡ set s q x) (place : q ≡ r / bits) where
     shift : b ≡ (1 * 2 ^ (r % bits)) % 2 ^ bits
     shift = eb ∙ ap (λ (y : ℕ). 2 ^ (r % y)) ew ∙ one_bit bits (r % bits) (mod-lt r wide.some)
 

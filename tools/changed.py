@@ -28,11 +28,11 @@ def declared(path, t):
     for part in re.split(r'\n\s*\n', t):
         lines = [l for l in part.split('\n') if not re.match(r'\s*(--|use |pub use |module )', l)]
         body = '\n'.join(lines)
-        for m in re.finditer(r'(?m)^(?:  )?((?:(?:unfoldable|abbrev|pub|record|data)\s+)+)(\S+) (?=[^=\n]*:)', body):
-            start = m.start(); nxt = re.search(r'(?m)^(?:  )?(?:(?:unfoldable|abbrev|pub|record|data)\s+)+\S+ (?=[^=\n]*:)', body[m.end():])
+        for m in re.finditer(r'(?m)^ *((?:(?:unfoldable|abbrev|pub|record|data)\s+)+)(?:ruleset )?(\S+) (?=[^=\n]*:|=)', body):
+            start = m.start(); nxt = re.search(r'(?m)^ *(?:(?:unfoldable|abbrev|pub|record|data)\s+)+(?:ruleset )?\S+ (?=[^=\n]*:|=)', body[m.end():])
             text = body[start: m.end() + nxt.start() if nxt else len(body)]
             if '/proofs/' in path:  # the statement alone
-                n = re.search(r'\n(?:  )?(?:unfolding|%s)\b' % re.escape(m.group(2)), text)
+                n = re.search(r'\n *(?:unfolding|%s)\b' % re.escape(m.group(2)), text)
                 text = text[:n.start()] if n else text.split('\n')[0]
             r[m.group(2)] = flat(text)
     return r

@@ -120,13 +120,17 @@ pub fn is_folding(o: u16) -> bool
     )
 }
 
-// Whether an instruction breaks a record rule: LoadConst has the mark 2, a Phi or a folding operator none, any other no two marks.
+// Whether an instruction breaks a record rule: LoadConst has the mark 2, a Phi or a folding operator none, any other no two marks. Most have none: of
+// these the number alone is asked.
 #[tactic(auto, unfolding(crate::specs::Chunk::chunk_rules, crate::specs::Chunk::folds))]
 fn breaks(o: u16, marks: u16) -> bool
     ensures { result ≡ not (chunk_rules o marks) }
 {
     if o == LoadConst {
         return marks != 2;
+    }
+    if marks == 0 {
+        return LAST < o;
     }
     let most = if (o == Phi) | is_folding(o) { 0 } else { 2 };
     (LAST < o) | (most < marks)

@@ -84,7 +84,8 @@ fn is_at(kinds: &[u8], words: &[u64], kind: u8, word: u64, i: usize) -> bool
     (words[i] == word) & (kinds[i] == kind)
 }
 
-// The first equal constant, if there is one.
+// The first equal constant, if there is one. It is called: among the folds its loop has a register too few.
+#[inline(never)]
 fn find(kinds: &[u8], words: &[u64], count: usize, kind: u8, word: u64) -> Option<usize>
     requires { (count ≤ length kinds.now) × (count ≤ length words.now) }
     ensures { result ≡ place (position kinds.now words.now count kind word) count }

@@ -84,7 +84,7 @@ fn is_at(kinds: &[u8], words: &[u64], kind: u8, word: u64, i: usize) -> bool
     (words[i] == word) & (kinds[i] == kind)
 }
 
-// The first equal constant, if there is one. It is called: among the folds its loop has a register too few.
+// The first equal constant, if there is one. It is called: put in place, its loop took a fifth more instructions.
 #[inline(never)]
 fn find(kinds: &[u8], words: &[u64], count: usize, kind: u8, word: u64) -> Option<usize>
     requires { (count ≤ length kinds.now) × (count ≤ length words.now) }
